@@ -1,0 +1,1 @@
+// Definitions and laws alone: what the specs of the other crates share.
