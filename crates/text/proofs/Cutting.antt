@@ -1,0 +1,241 @@
+-- How a line is cut into cells, or fields, step by step, and that they make up the line. Assumes nothing.
+use mathlib.Core.Path.{_≡_, refl, ap, sym, subst, _∙_}
+use mathlib.Core.List.{List, [], _∷_, _++_, append-assoc, append-nil}
+use mathlib.Core.Bool.{Bool, true, false, _||_}
+use Prim.Native.Nat.{ℕ, suc, _+_, _≤_, _<_}
+use native.Mathlib.Omega.{arith}
+use borrow.Author.Tests.{lt-ltb, le-ltb, ltb-true, ltb-false, eqb-true}
+use lib.Dec.{eqb, ltb}
+use lib.ListN.{length, drop, getD, drop-of-length-le}
+use Rattle.words.specs.Words.{Bytes, if_then_else_}
+use Rattle.words.proofs.Lists.{drop-step}
+use Rattle.text.specs.Lines.{onto}
+use Rattle.text.specs.Cells.{kind, next, Cut, faulty, cells, grown, after, reached, cutFrom, cut}
+use Rattle.text.specs.Fields.{fields, parted}
+use Rattle.text.specs.declared.Kind.{Kind}
+use Rattle.text.specs.declared.Kind.the-variants.{Quote, Semicolon, Control, Other, End}
+use Rattle.text.specs.declared.State.{State}
+use Rattle.text.specs.declared.State.the-variants.{Fresh, Plain, Inside, Closed, Over, Fault}
+
+-- a cell before the others
+abbrev pub before : Bytes → Cut → Cut
+before c (faulty n) = faulty (suc n)
+before c (cells cs) = cells (c ∷ cs)
+
+abbrev pub ahead : List Bytes → Cut → Cut
+ahead [] u = u
+ahead (c ∷ cs) u = before c (ahead cs u)
+
+pub ahead-more : (cs : List Bytes) (c : Bytes) (u : Cut) → ahead (cs ++ (c ∷ [])) u ≡ ahead cs (before c u)
+ahead-more [] c u = refl
+ahead-more (d ∷ cs) c u = ap (before d) (ahead-more cs c u)
+
+pub ahead-faulty : (cs : List Bytes) → ahead cs (faulty 1) ≡ faulty (length cs + 1)
+ahead-faulty [] = refl
+ahead-faulty (c ∷ cs) = rw (ahead-faulty cs) (ap faulty (omega arith))
+
+pub ahead-none : (cs : List Bytes) → ahead cs (cells []) ≡ cells cs
+ahead-none [] = refl
+ahead-none (c ∷ cs) = ap (before c) (ahead-none cs)
+
+-- bytes at the head of the first cell
+abbrev pub grownBy : Bytes → Cut → Cut
+grownBy p (faulty n) = faulty n
+grownBy p (cells []) = cells []
+grownBy p (cells (c ∷ cs)) = cells ((p ++ c) ∷ cs)
+
+pub grownBy-nil : (u : Cut) → grownBy [] u ≡ u
+grownBy-nil (faulty n) = refl
+grownBy-nil (cells []) = refl
+grownBy-nil (cells (c ∷ cs)) = refl
+
+pub grownBy-more : (p : Bytes) (b : ℕ) (u : Cut) → grownBy (p ++ (b ∷ [])) u ≡ grownBy p (grown b u)
+grownBy-more p b (faulty n) = refl
+grownBy-more p b (cells []) = refl
+grownBy-more p b (cells (c ∷ cs)) = rw append-assoc
+
+pub grownBy-after : (p : Bytes) (u : Cut) → grownBy p (after u) ≡ before p u
+grownBy-after p (faulty n) = refl
+grownBy-after p (cells cs) = rw append-nil
+
+-- cells, step by step -------------------------------------------------------------------------------------------------------
+
+-- the kind of the byte at a place, or of the line's end
+abbrev pub kindAt : Bytes → ℕ → Kind
+kindAt line i = if ltb i (length line) then kind (getD line i 0) else End
+
+-- a cell goes on in this state
+abbrev pub Goes : State → Type 0
+Goes Over = ⊥
+Goes Fault = ⊥
+Goes Fresh = Unit {0}
+Goes Plain = Unit {0}
+Goes Inside = Unit {0}
+Goes Closed = Unit {0}
+
+reached-go : (t : State) (over : Cut) (on : State → Cut) → Goes t → reached t over on ≡ on t
+reached-go Over over on h = absurd h
+reached-go Fault over on h = absurd h
+reached-go Fresh over on h = refl
+reached-go Plain over on h = refl
+reached-go Inside over on h = refl
+reached-go Closed over on h = refl
+
+-- the line's end stops each cell
+stops : (s : State) → Goes (next s End) → ⊥
+stops Fresh h = h
+stops Plain h = h
+stops Inside h = h
+stops Closed h = h
+stops Over h = h
+stops Fault h = h
+
+module _ (line : Bytes) (s : State) (i : ℕ) where
+  cut-byte : i < length line → cutFrom s (drop i line) ≡ reached (next s (kindAt line i)) (after (cutFrom Fresh (drop (i + 1) line))) (λ t. grown (getD line i 0) (cutFrom t (drop (i + 1) line)))
+  unfolding cutFrom
+  cut-byte h = rw (drop-step 0 line i h, lt-ltb i (length line) h)
+
+  cut-end : length line ≤ i → cutFrom s (drop i line) ≡ reached (next s (kindAt line i)) (cells ([] ∷ [])) (λ t. faulty 1)
+  unfolding cutFrom
+  cut-end h = rw (drop-of-length-le line h, le-ltb i (length line) h)
+
+  pub cut-fault : next s (kindAt line i) ≡ Fault → cutFrom s (drop i line) ≡ faulty 1
+  cut-fault e = go (ltb i (length line)) refl
+    where
+      go : (t : Bool) → ltb i (length line) ≡ t → cutFrom s (drop i line) ≡ faulty 1
+      go true q = cut-byte (ltb-true i (length line) q) ∙ rw e
+      go false q = cut-end (ltb-false i (length line) q) ∙ rw e
+
+  pub cut-over : i < length line → next s (kindAt line i) ≡ Over → cutFrom s (drop i line) ≡ after (cutFrom Fresh (drop (i + 1) line))
+  cut-over h e = cut-byte h ∙ rw e
+
+  pub cut-last : length line ≤ i → next s (kindAt line i) ≡ Over → cutFrom s (drop i line) ≡ after (cells [])
+  cut-last h e = cut-end h ∙ rw e
+
+  pub goes-inside : Goes (next s (kindAt line i)) → i < length line
+  goes-inside h = go (ltb i (length line)) refl
+    where
+      go : (t : Bool) → ltb i (length line) ≡ t → i < length line
+      go true q = ltb-true i (length line) q
+      go false q = absurd (stops s (rw q at h))
+
+  pub cut-go : Goes (next s (kindAt line i)) → cutFrom s (drop i line) ≡ grown (getD line i 0) (cutFrom (next s (kindAt line i)) (drop (i + 1) line))
+  cut-go h = cut-byte (goes-inside h) ∙ reached-go (next s (kindAt line i)) _ _ h
+
+-- what is cut makes up the line -------------------------------------------------------------------------------------------
+
+-- what cells, or fields, parted by a byte make up: the whole text; a faulty one is counted from 1
+abbrev Whole : ℕ → Cut → Bytes → Type 0
+Whole sep (faulty n) s = 1 ≤ n
+Whole sep (cells cs) s = (parted sep cs ≡ s) × (1 ≤ length cs)
+
+module _ (sep : ℕ) where
+  whole-grown : (b : ℕ) (u : Cut) (s : Bytes) → Whole sep u s → Whole sep (grown b u) (b ∷ s)
+  unfolding parted
+  whole-grown b (faulty n) s w = w
+  whole-grown b (cells []) s w = absurd (let z : ⊥ = omega arith in z)
+  whole-grown b (cells (c ∷ [])) s w = (ap (λ (l : Bytes). b ∷ l) (w .0), w .1)
+  whole-grown b (cells (c ∷ (d ∷ ds))) s w = (ap (λ (l : Bytes). b ∷ l) (w .0), w .1)
+
+  whole-after : (u : Cut) (s : Bytes) → Whole sep u s → Whole sep (after u) (sep ∷ s)
+  unfolding parted
+  whole-after (faulty n) s w = omega arith
+  whole-after (cells []) s w = absurd (let z : ⊥ = omega arith in z)
+  whole-after (cells (c ∷ cs)) s w = (ap (λ (l : Bytes). sep ∷ l) (w .0), omega arith)
+
+-- only a semicolon ends a cell before the line's end
+never-over : (s : State) (q c : Bool) (m n : ℕ) → next s (if q then Quote else if c then Control else Other) ≡ Over → m ≡ n
+never-over Over q c m n e = cc
+never-over Fault q c m n e = cc
+never-over Fresh true c m n e = cc
+never-over Fresh false true m n e = cc
+never-over Fresh false false m n e = cc
+never-over Plain true c m n e = cc
+never-over Plain false true m n e = cc
+never-over Plain false false m n e = cc
+never-over Inside true c m n e = cc
+never-over Inside false true m n e = cc
+never-over Inside false false m n e = cc
+never-over Closed true c m n e = cc
+never-over Closed false true m n e = cc
+never-over Closed false false m n e = cc
+
+over-by : (s : State) (b : ℕ) → next s (kind b) ≡ Over → b ≡ 59
+over-by s b e = go (eqb b 34) (eqb b 59) (ltb b 32 || eqb b 127) refl e
+  where
+    go : (q m c : Bool) → eqb b 59 ≡ m → next s (if q then Quote else if m then Semicolon else if c then Control else Other) ≡ Over → b ≡ 59
+    go q true c h o = eqb-true b 59 h
+    go q false c h o = never-over s q c b 59 o
+
+whole-reached : (sep : ℕ) (t : State) (over : Cut) (on : State → Cut) (s : Bytes) → (t ≡ Over → Whole sep over s) → ((t : State) → Whole sep (on t) s) → Whole sep (reached t over on) s
+whole-reached sep Over over on s o g = o refl
+whole-reached sep Fault over on s o g = omega arith
+whole-reached sep Fresh over on s o g = g Fresh
+whole-reached sep Plain over on s o g = g Plain
+whole-reached sep Inside over on s o g = g Inside
+whole-reached sep Closed over on s o g = g Closed
+
+whole-from : (s : State) (bs : Bytes) → Whole 59 (cutFrom s bs) bs
+unfolding cutFrom parted
+whole-from s [] = whole-reached 59 (next s End) _ _ [] (λ e. (refl, omega arith)) (λ t. omega arith)
+whole-from s (b ∷ bs) =
+    whole-reached 59 (next s (kind b)) _ _ (b ∷ bs)
+    (λ e. rw (over-by s b e) (whole-after 59 (cutFrom Fresh bs) bs (whole-from Fresh bs)))
+    (λ t. whole-grown 59 b (cutFrom t bs) bs (whole-from t bs))
+
+onto-grown : (b : ℕ) (fs : List Bytes) → 1 ≤ length fs → cells (onto b fs) ≡ grown b (cells fs)
+onto-grown b [] h = absurd (let z : ⊥ = omega arith in z)
+onto-grown b (f ∷ fs) h = refl
+
+whole-fields : (bs : Bytes) → Whole 9 (cells (fields bs)) bs
+unfolding fields parted
+whole-fields [] = (refl, omega arith)
+whole-fields (b ∷ bs) = go (eqb b 9) refl (whole-fields bs)
+  where
+    go : (t : Bool) → eqb b 9 ≡ t → Whole 9 (cells (fields bs)) bs → Whole 9 (cells (if t then [] ∷ fields bs else onto b (fields bs))) (b ∷ bs)
+    go true q w = rw (eqb-true b 9 q) (whole-after 9 (cells (fields bs)) bs w)
+    go false q w = subst (λ (u : Cut). Whole 9 u (b ∷ bs)) (sym (onto-grown b (fields bs) (w .1))) (whole-grown 9 b (cells (fields bs)) bs w)
+
+-- the cells of a line, and the fields of a slip line, make it up
+pub cells-parted : (line : Bytes) (cs : List Bytes) → cut line ≡ cells cs → parted 59 cs ≡ line
+cells-parted line cs e = (rw e at (whole-from Fresh line)) .0
+
+pub cells-some : (line : Bytes) (cs : List Bytes) → cut line ≡ cells cs → 1 ≤ length cs
+cells-some line cs e = (rw e at (whole-from Fresh line)) .1
+
+pub faulty-from-one : (line : Bytes) (n : ℕ) → cut line ≡ faulty n → 1 ≤ n
+faulty-from-one line n e = rw e at (whole-from Fresh line)
+
+pub fields-parted : (line : Bytes) → parted 9 (fields line) ≡ line
+fields-parted line = whole-fields line .0
+
+pub fields-some : (line : Bytes) → 1 ≤ length (fields line)
+fields-some line = whole-fields line .1
+
+-- fields, step by step ------------------------------------------------------------------------------------------------------
+
+-- whether a field ends at a place
+abbrev pub endsAt : Bytes → ℕ → Bool
+endsAt line i = if ltb i (length line) then eqb (getD line i 0) 9 else true
+
+module _ (line : Bytes) (i : ℕ) where
+  fields-byte : i < length line → fields (drop i line) ≡ (if endsAt line i then [] ∷ fields (drop (i + 1) line) else onto (getD line i 0) (fields (drop (i + 1) line)))
+  unfolding fields
+  fields-byte h = rw (drop-step 0 line i h, lt-ltb i (length line) h)
+
+  pub fields-tab : i < length line → endsAt line i ≡ true → cells (fields (drop i line)) ≡ after (cells (fields (drop (i + 1) line)))
+  fields-tab h e = ap cells (fields-byte h) ∙ rw e
+
+  pub fields-last : length line ≤ i → cells (fields (drop i line)) ≡ after (cells [])
+  unfolding fields
+  fields-last h = rw (drop-of-length-le line h)
+
+  pub goes-on-inside : endsAt line i ≡ false → i < length line
+  goes-on-inside e = go (ltb i (length line)) refl
+    where
+      go : (t : Bool) → ltb i (length line) ≡ t → i < length line
+      go true q = ltb-true i (length line) q
+      go false q = let y : endsAt line i ≡ true = rw q in let z : _≡_ {A = ℕ} 0 1 = cc in let w : ⊥ = omega arith in absurd w
+
+  pub fields-go : endsAt line i ≡ false → cells (fields (drop i line)) ≡ grown (getD line i 0) (cells (fields (drop (i + 1) line)))
+  fields-go e = ap cells (fields-byte (goes-on-inside e)) ∙ rw e (onto-grown (getD line i 0) (fields (drop (i + 1) line)) (fields-some (drop (i + 1) line)))

@@ -1,0 +1,6 @@
+pub mod Lining
+pub mod Cutting
+pub mod Marking
+pub mod Contents
+pub mod Decimals
+pub mod Writing
