@@ -1,0 +1,213 @@
+-- The figures of the four tables: what the constant tables hold is what the definition lists, and the bounds that callers need. Assumes nothing.
+use mathlib.Core.Path.{_≡_, refl, ap, sym, _∙_}
+use mathlib.Core.List.{List, [], _∷_, map}
+use mathlib.Core.Bool.{Bool, true, false, _&&_}
+use Prim.Native.Nat.{ℕ, zero, suc, _+_, _≤_, _<_}
+use native.Mathlib.Nat.{zero-add}
+use native.Mathlib.Omega.{arith}
+use lib.Dec.{eqb, leb, lit≤}
+use lib.ListN.{length, take, drop, getD, List·getD-map}
+use lib.Seq.{getD-take, getD-drop}
+use borrow.Author.Tests.{leb-true}
+use Rattle.words.specs.Words.{if_then_else_}
+use Rattle.words.proofs.Lists.{every, every-at, and-left, and-right, listed, getD-listed}
+use Rattle.tables.specs.declared.Table.{Table}
+use Rattle.tables.specs.declared.Table.the-variants.{VehicleType, Depot, Stop, Block}
+use Rattle.tables.specs.declared.Sort.{Sort}
+use Rattle.tables.specs.declared.Sort.the-variants.{Decimal, Text}
+use Rattle.tables.specs.declared.Rules.{Rules}
+use Rattle.tables.specs.declared.Reference.{Reference}
+use Rattle.tables.specs.Listing.{allColumns}
+use Rattle.tables.specs.Columns.{Column, columnsOf, columnAt, noColumn, version, keyWidth, keptWidth, partOf, references, ref}
+
+-- the code's tables -----------------------------------------------------------------------------------------------------------
+
+pub part-below : (t : Table) → partOf t < 4
+part-below VehicleType = lit≤ tt
+part-below Depot = lit≤ tt
+part-below Stop = lit≤ tt
+part-below Block = lit≤ tt
+
+-- a table's figure stands in its part
+pub figured : (f : Table → ℕ) (t : Table) → getD (f VehicleType ∷ f Depot ∷ f Stop ∷ f Block ∷ []) (partOf t) 0 ≡ f t
+figured f VehicleType = refl
+figured f Depot = refl
+figured f Stop = refl
+figured f Block = refl
+
+-- where a table's columns begin in the list of all
+abbrev pub firstColumn : Table → ℕ
+firstColumn VehicleType = 0
+firstColumn Depot = 11
+firstColumn Stop = 13
+firstColumn Block = 16
+
+columns-here : (t : Table) → columnsOf t ≡ take (length (columnsOf t)) (drop (firstColumn t) allColumns)
+unfolding columnsOf allColumns
+columns-here VehicleType = refl
+columns-here Depot = refl
+columns-here Stop = refl
+columns-here Block = refl
+
+columns-end : (t : Table) → firstColumn t + length (columnsOf t) ≤ 27
+unfolding columnsOf
+columns-end VehicleType = lit≤ tt
+columns-end Depot = lit≤ tt
+columns-end Stop = lit≤ tt
+columns-end Block = lit≤ tt
+
+pub place-below : (t : Table) (i : ℕ) → i < length (columnsOf t) → firstColumn t + i < 27
+place-below t i h = omega (arith, columns-end t)
+
+pub column-read : (t : Table) (i : ℕ) → i < length (columnsOf t) → getD allColumns (firstColumn t + i) noColumn ≡ columnAt t i
+column-read t i h =
+    sym (ap (λ (l : List Column). getD l i noColumn) (columns-here t) ∙ (getD-take (length (columnsOf t)) (drop (firstColumn t) allColumns) i noColumn h ∙ getD-drop (firstColumn t) allColumns i noColumn))
+
+-- the constant tables hold a byte or a figure of each column: d or c for its sort, K and r for its marks, - for a mark that it lacks
+abbrev pub kindByte : Sort → ℕ
+kindByte Decimal = 100
+kindByte Text = 99
+
+abbrev pub markByte : ℕ → Bool → ℕ
+markByte m true = m
+markByte m false = 45
+
+-- the rules that are read from them at a place
+abbrev pub rulesAt : ℕ → Rules
+rulesAt k =
+    record {
+      sort = if eqb (getD (map (λ x. kindByte (x .rules .sort)) allColumns) k 0) 100 then Decimal else Text;
+      width = getD (map (λ x. x .rules .width) allColumns) k 0;
+      low = getD (map (λ x. x .rules .low) allColumns) k 0;
+      high = getD (map (λ x. x .rules .high) allColumns) k 0;
+      key = eqb (getD (map (λ x. markByte 75 (x .rules .key)) allColumns) k 0) 75;
+      required = eqb (getD (map (λ x. markByte 114 (x .rules .required)) allColumns) k 0) 114;
+    }
+
+-- put together again, they are the definition's columns: one test over the whole table, computed
+whole : listed rulesAt 0 27 ≡ map (λ x. x .rules) allColumns
+unfolding allColumns columnsOf
+whole = refl
+
+pub rules-read : (k : ℕ) → k < 27 → rulesAt k ≡ getD allColumns k noColumn .rules
+rules-read k h =
+    let d = noColumn .rules in
+    ap rulesAt (sym (zero-add k)) ∙ (sym (getD-listed rulesAt d 27 0 k h) ∙ (ap (λ (l : List Rules). getD l k d) whole ∙ List·getD-map (λ (x : Column). x .rules) allColumns k noColumn))
+
+-- only a block has references
+pub references-few : (t : Table) → length (references t) ≤ 4
+references-few VehicleType = lit≤ tt
+references-few Depot = lit≤ tt
+references-few Stop = lit≤ tt
+references-few Block = lit≤ tt
+
+abbrev pub referenceAt : ℕ → Reference
+referenceAt i = ref (getD (map (λ x. x .column) (references Block)) i 0) (getD (map (λ x. x .to) (references Block)) i VehicleType)
+
+pub reference-read : (t : Table) (i : ℕ) → i < length (references t) → referenceAt i ≡ getD (references t) i (ref 0 VehicleType)
+reference-read VehicleType i h = absurd (omega arith)
+reference-read Depot i h = absurd (omega arith)
+reference-read Stop i h = absurd (omega arith)
+reference-read Block i h =
+    let none = ref 0 VehicleType in
+    ap (λ (k : ℕ). ref k (getD (map (λ (x : Reference). x .to) (references Block)) i VehicleType)) (List·getD-map (λ (x : Reference). x .column) (references Block) i none) ∙
+    ap (λ (t : Table). ref (getD (references Block) i none .column) t) (List·getD-map (λ (x : Reference). x .to) (references Block) i none)
+
+-- bounds ----------------------------------------------------------------------------------------------------------------------
+
+pub columns-few : (t : Table) → length (columnsOf t) ≤ 11
+unfolding columnsOf
+columns-few VehicleType = lit≤ tt
+columns-few Depot = lit≤ tt
+columns-few Stop = lit≤ tt
+columns-few Block = lit≤ tt
+
+pub keys-some : (t : Table) → 1 ≤ keyWidth t
+keys-some VehicleType = lit≤ tt
+keys-some Depot = lit≤ tt
+keys-some Stop = lit≤ tt
+keys-some Block = lit≤ tt
+
+pub keys-kept : (t : Table) → keyWidth t ≤ keptWidth t
+keys-kept VehicleType = lit≤ tt
+keys-kept Depot = lit≤ tt
+keys-kept Stop = lit≤ tt
+keys-kept Block = lit≤ tt
+
+pub kept-columns : (t : Table) → keptWidth t ≤ length (columnsOf t)
+unfolding columnsOf
+kept-columns VehicleType = lit≤ tt
+kept-columns Depot = lit≤ tt
+kept-columns Stop = lit≤ tt
+kept-columns Block = lit≤ tt
+
+pub kept-few : (t : Table) → keptWidth t ≤ 11
+kept-few t = omega (arith, kept-columns t, columns-few t)
+
+pub keys-columns : (t : Table) → keyWidth t ≤ length (columnsOf t)
+keys-columns t = omega (arith, keys-kept t, kept-columns t)
+
+-- the columns' rules ------------------------------------------------------------------------------------------------------------
+
+-- VERSION comes first, from 1 on
+pub first-version : (t : Table) → columnAt t 0 ≡ version
+unfolding columnsOf
+first-version VehicleType = refl
+first-version Depot = refl
+first-version Stop = refl
+first-version Block = refl
+
+pub version-low : (t : Table) → columnAt t 0 .rules .low ≡ 1
+version-low t = ap (λ (x : Column). x .rules .low) (first-version t)
+
+-- a decimal column has at most nine digits
+abbrev narrow : Sort → ℕ → Bool
+narrow Decimal w = leb w 9
+narrow Text w = true
+
+all-narrow : (t : Table) → every (λ x. narrow (x .rules .sort) (x .rules .width)) (columnsOf t) ≡ true
+unfolding columnsOf
+all-narrow VehicleType = refl
+all-narrow Depot = refl
+all-narrow Stop = refl
+all-narrow Block = refl
+
+pub decimal-width : (t : Table) (i : ℕ) → columnAt t i .rules .sort ≡ Decimal → columnAt t i .rules .width ≤ 9
+decimal-width t i e =
+    let h : narrow (columnAt t i .rules .sort) (columnAt t i .rules .width) ≡ true = every-at (λ (x : Column). narrow (x .rules .sort) (x .rules .width)) noColumn (columnsOf t) refl (all-narrow t) i in
+    leb-true (columnAt t i .rules .width) 9 (rw e at h)
+
+-- what the book keeps of a row, its key first, are required numbers
+abbrev decimal : Sort → Bool
+decimal Decimal = true
+decimal Text = false
+
+decimal-true : (s : Sort) → decimal s ≡ true → s ≡ Decimal
+decimal-true Decimal e = refl
+decimal-true Text e = cc
+
+abbrev asked : Column → Bool
+asked x = decimal (x .rules .sort) && x .rules .required
+
+all-asked : (t : Table) → every asked (take (keptWidth t) (columnsOf t)) ≡ true
+unfolding columnsOf
+all-asked VehicleType = refl
+all-asked Depot = refl
+all-asked Stop = refl
+all-asked Block = refl
+
+kept-asked : (t : Table) (i : ℕ) → i < keptWidth t → asked (columnAt t i) ≡ true
+kept-asked t i h =
+    let e : getD (take (keptWidth t) (columnsOf t)) i version ≡ getD (columnsOf t) i version = getD-take (keptWidth t) (columnsOf t) i version h in
+    ap asked (sym (e ∙ past (columnsOf t) i (omega (arith, kept-columns t)))) ∙ every-at asked version (take (keptWidth t) (columnsOf t)) refl (all-asked t) i
+  where
+    past : (xs : List Column) (k : ℕ) → k < length xs → getD xs k version ≡ getD xs k noColumn
+    past [] k l = absurd (omega arith)
+    past (x ∷ xs) zero l = refl
+    past (x ∷ xs) (suc k) l = past xs k (omega arith)
+
+pub kept-decimal : (t : Table) (i : ℕ) → i < keptWidth t → columnAt t i .rules .sort ≡ Decimal
+kept-decimal t i h = decimal-true (columnAt t i .rules .sort) (and-left (decimal (columnAt t i .rules .sort)) (columnAt t i .rules .required) (kept-asked t i h))
+
+pub kept-required : (t : Table) (i : ℕ) → i < keptWidth t → columnAt t i .rules .required ≡ true
+kept-required t i h = and-right (decimal (columnAt t i .rules .sort)) (columnAt t i .rules .required) (kept-asked t i h)

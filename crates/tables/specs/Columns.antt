@@ -1,0 +1,165 @@
+-- The four tables of columns.
+use mathlib.Core.List.{List, [], _∷_, _++_}
+use mathlib.Core.Bool.{Bool, true, false, _&&_, _||_, not}
+use Prim.Native.Nat.{ℕ, zero, suc, _+_, _-_, _^_}
+use Prim.Native.String.{String}
+use lib.Dec.{leb, eqb}
+use lib.ListN.{length, getD}
+use Rattle.words.specs.Words.{Bytes, if_then_else_, bytes, same}
+use Rattle.text.specs.Numbers.{isDecimal, value}
+use Rattle.tables.specs.declared.Table.{Table}
+use Rattle.tables.specs.declared.Table.the-variants.{VehicleType, Depot, Stop, Block}
+use Rattle.tables.specs.declared.Named.{Named}
+use Rattle.tables.specs.declared.Named.the-variants.{Known, Unknown}
+use Rattle.tables.specs.declared.Sort.{Sort}
+use Rattle.tables.specs.declared.Sort.the-variants.{Decimal, Text}
+use Rattle.tables.specs.declared.Rules.{Rules}
+use Rattle.tables.specs.declared.Reference.{Reference}
+
+-- a column's names, and what its cells must keep to
+pub record Column : Type 0 where
+  pub name : Bytes
+  pub other : Bytes
+  pub rules : Rules
+
+-- "dN: decimal of N digits". "A d column with no range named takes every number of its width, zero too."
+abbrev pub d : ℕ → String → Column
+d n name = record { name = bytes name; other = bytes name; rules = record { sort = Decimal; width = n; low = 0; high = 10 ^ n - 1; key = false; required = false } }
+
+-- "cN: text of N bytes"
+abbrev pub c : ℕ → String → Column
+c n name = record { name = bytes name; other = bytes name; rules = record { sort = Text; width = n; low = 0; high = 0; key = false; required = false } }
+
+-- "K: key"; every key column is required
+abbrev pub K : Column → Column
+K x = record { name = x .name; other = x .other; rules = record { sort = x .rules .sort; width = x .rules .width; low = x .rules .low; high = x .rules .high; key = true; required = true } }
+
+-- "r: required"
+abbrev pub r : Column → Column
+r x = record { name = x .name; other = x .other; rules = record { sort = x .rules .sort; width = x .rules .width; low = x .rules .low; high = x .rules .high; key = x .rules .key; required = true } }
+
+abbrev pub range : ℕ → ℕ → Column → Column
+range l h x = record { name = x .name; other = x .other; rules = record { sort = x .rules .sort; width = x .rules .width; low = l; high = h; key = x .rules .key; required = x .rules .required } }
+
+-- "Two other spellings are read as the same column"
+abbrev pub also : String → Column → Column
+also n x = record { name = x .name; other = bytes n; rules = x .rules }
+
+-- "VERSION is 1 to 99 everywhere."
+abbrev pub version : Column
+version = K (range 1 99 (d 2 "VERSION"))
+
+unfoldable pub columnsOf : Table → List Column
+columnsOf VehicleType =
+    version ∷
+    K (d 8 "VEH_TYPE_NR") ∷
+    d 3 "VEH_TYPE_SEATS" ∷
+    d 3 "VEH_TYPE_STRAPS" ∷
+    also "HANDICAP_PLACES" (d 3 "PLACES_FOR_DISABLED_PERSONS") ∷
+    c 40 "VEH_TYPE_TEXT" ∷
+    c 4 "STR_VEH_TYPE" ∷
+    d 4 "VEH_TYPE_DOOR_WIDTH" ∷
+    d 4 "VEH_TYPE_WIDTH" ∷
+    d 4 "VEH_TYPE_HEIGHT" ∷
+    range 0 2 (d 1 "VEH_TYPE_ACCESS_EQUIP") ∷ []
+columnsOf Depot =
+    version ∷
+    K (d 5 "DEPOT_NR") ∷ []
+columnsOf Stop =
+    version ∷
+    K (range 1 99999 (d 5 "STOP_NR")) ∷
+    r (c 50 "STOP_NAME") ∷ []
+columnsOf Block =
+    version ∷
+    K (d 9 "DAY_TYPE_NR") ∷
+    K (d 5 "DEPOT_NR") ∷
+    K (d 8 "BLOCK_NR") ∷
+    also "VEH_TYPE_NR" (r (d 2 "VEH_TYP_NR")) ∷
+    r (d 6 "DEP_STOP_NR") ∷
+    r (d 2 "DEP_STOPPING_POINT_NR") ∷
+    r (d 6 "BEGIN_OF_BLOCK") ∷
+    r (d 6 "ARR_STOP_NR") ∷
+    r (d 2 "ARR_STOPPING_POINT_NR") ∷
+    r (d 6 "END_OF_BLOCK") ∷ []
+
+-- "with these numbers: 1 vehicle_type, 2 depot, 3 stop, 4 vehicle_block"
+abbrev pub number : Table → ℕ
+number VehicleType = 1
+number Depot = 2
+number Stop = 3
+number Block = 4
+
+-- the table of a number
+abbrev pub numbered : ℕ → Named
+numbered n =
+    if eqb n 1 then Known VehicleType
+    else if eqb n 2 then Known Depot
+    else if eqb n 3 then Known Stop
+    else if eqb n 4 then Known Block
+    else Unknown
+
+-- how many columns are keys, which come first
+abbrev pub keyWidth : Table → ℕ
+keyWidth VehicleType = 2
+keyWidth Depot = 2
+keyWidth Stop = 2
+keyWidth Block = 4
+
+-- "The book holds the keys of tables 1 to 3 and the 11 numbers of each block": how many of a row's numbers it keeps
+abbrev pub keptWidth : Table → ℕ
+keptWidth VehicleType = 2
+keptWidth Depot = 2
+keptWidth Stop = 2
+keptWidth Block = 11
+
+-- which part of the book is the table's, counted from 0
+abbrev pub partOf : Table → ℕ
+partOf VehicleType = 0
+partOf Depot = 1
+partOf Stop = 2
+partOf Block = 3
+
+-- a column and the table in which its number stands, "each together with VERSION"
+abbrev pub ref : ℕ → Table → Reference
+ref k t = record { column = k; to = t }
+
+-- "References of a block: column 3 to depot, 5 to vehicle_type, 6 and 9 to stop."
+abbrev pub references : Table → List Reference
+references VehicleType = []
+references Depot = []
+references Stop = []
+references Block = ref 3 Depot ∷ ref 5 VehicleType ∷ ref 6 Stop ∷ ref 9 Stop ∷ []
+
+-- names --------------------------------------------------------------------------------------------------------------------
+
+-- the number of the column of that name, the first of the list being number k; 0 for an unknown one
+unfoldable pub columnFrom : ℕ → List Column → Bytes → ℕ
+columnFrom k [] name = 0
+columnFrom k (x ∷ xs) name = if same name (x .name) || same name (x .other) then k else columnFrom (suc k) xs name
+
+-- "Header names are compared byte for byte, in any column order. Unknown columns, unnamed ones too, are passed over"
+unfoldable pub columnNumber : Table → Bytes → ℕ
+columnNumber t name = columnFrom 1 (columnsOf t) name
+
+-- contents -----------------------------------------------------------------------------------------------------------------
+
+abbrev pub inRange : Rules → ℕ → Bool
+inRange x n = leb (x .low) n && leb n (x .high)
+
+-- content that is not empty, by the column's sort
+abbrev pub fits : Sort → Rules → Bytes → Bool
+fits Decimal x s = isDecimal (x .width) s && inRange x (value s)
+fits Text x s = leb (length s) (x .width)
+
+-- 8: "cell empty where required, not digits, too long, out of range"
+abbrev pub breaks : Rules → Bytes → Bool
+breaks x s = if eqb (length s) 0 then x .required else not (fits (x .sort) x s)
+
+-- asked by number ----------------------------------------------------------------------------------------------------------
+
+-- the column at place i, counted from 0; past the last there is none
+abbrev pub noColumn : Column
+noColumn = c 0 ""
+
+abbrev pub columnAt : Table → ℕ → Column
+columnAt t i = getD (columnsOf t) i noColumn

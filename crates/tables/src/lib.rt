@@ -1,0 +1,550 @@
+// The tables of a delivery and their columns.
+ghost use mathlib.Core.Path.{_≡_};
+ghost use mathlib.Core.Bool.{Bool, true, false};
+ghost use mathlib.Core.List.{List};
+ghost use Prim.Native.Nat.{ℕ, _+_, _≤_, _<_};
+ghost use lib.Dec.{eqb};
+ghost use lib.ListN.{length, getD};
+ghost use Rattle.words.specs.Words.{if_then_else_, same};
+ghost use Rattle.text.specs.Cells.{content};
+ghost use Rattle.text.specs.Numbers.{decimalOf};
+ghost use Rattle.tables.specs.Columns.{columnsOf, columnAt, columnNumber, number, keyWidth, keptWidth, partOf, numbered, references, ref, noColumn, inRange};
+ghost use Rattle.tables.specs.Listing.{allColumns};
+ghost use Rattle.tables.specs.Values.{valueOf, checkOf};
+use refusals::Check;
+use refusals::Place;
+use text::Digits;
+
+pub enum Table {
+    VehicleType,
+    Depot,
+    Stop,
+    Block,
+}
+
+// What a number asks for: a table, or none.
+pub enum Named {
+    Known(Table),
+    Unknown,
+}
+
+// A decimal number or a text.
+pub enum Sort {
+    Decimal,
+    Text,
+}
+
+// What the cells of a column must keep to.
+pub struct Rules {
+    pub sort: Sort,
+    pub width: usize,
+    pub low: u64,
+    pub high: u64,
+    pub key: bool,
+    pub required: bool,
+}
+
+// A column whose number, together with VERSION, is the key of a row in another table.
+pub struct Reference {
+    pub column: usize,
+    pub to: Table,
+}
+
+// What content is to a column: a number, a text, nothing, or against its rules.
+pub enum Value {
+    Number(u64),
+    Text,
+    Empty,
+    Bad,
+}
+
+// The names of the columns, as the header of a text has them.
+pub const VERSION: [u8; 7] = *b"VERSION";
+
+pub const VEH_TYPE_NR: [u8; 11] = *b"VEH_TYPE_NR";
+
+pub const VEH_TYPE_SEATS: [u8; 14] = *b"VEH_TYPE_SEATS";
+
+pub const VEH_TYPE_STRAPS: [u8; 15] = *b"VEH_TYPE_STRAPS";
+
+pub const PLACES_FOR_DISABLED_PERSONS: [u8; 27] = *b"PLACES_FOR_DISABLED_PERSONS";
+
+pub const HANDICAP_PLACES: [u8; 15] = *b"HANDICAP_PLACES";
+
+pub const VEH_TYPE_TEXT: [u8; 13] = *b"VEH_TYPE_TEXT";
+
+pub const STR_VEH_TYPE: [u8; 12] = *b"STR_VEH_TYPE";
+
+pub const VEH_TYPE_DOOR_WIDTH: [u8; 19] = *b"VEH_TYPE_DOOR_WIDTH";
+
+pub const VEH_TYPE_WIDTH: [u8; 14] = *b"VEH_TYPE_WIDTH";
+
+pub const VEH_TYPE_HEIGHT: [u8; 15] = *b"VEH_TYPE_HEIGHT";
+
+pub const VEH_TYPE_ACCESS_EQUIP: [u8; 21] = *b"VEH_TYPE_ACCESS_EQUIP";
+
+pub const DEPOT_NR: [u8; 8] = *b"DEPOT_NR";
+
+pub const STOP_NR: [u8; 7] = *b"STOP_NR";
+
+pub const STOP_NAME: [u8; 9] = *b"STOP_NAME";
+
+pub const DAY_TYPE_NR: [u8; 11] = *b"DAY_TYPE_NR";
+
+pub const BLOCK_NR: [u8; 8] = *b"BLOCK_NR";
+
+pub const VEH_TYP_NR: [u8; 10] = *b"VEH_TYP_NR";
+
+pub const DEP_STOP_NR: [u8; 11] = *b"DEP_STOP_NR";
+
+pub const DEP_STOPPING_POINT_NR: [u8; 21] = *b"DEP_STOPPING_POINT_NR";
+
+pub const BEGIN_OF_BLOCK: [u8; 14] = *b"BEGIN_OF_BLOCK";
+
+pub const ARR_STOP_NR: [u8; 11] = *b"ARR_STOP_NR";
+
+pub const ARR_STOPPING_POINT_NR: [u8; 21] = *b"ARR_STOPPING_POINT_NR";
+
+pub const END_OF_BLOCK: [u8; 12] = *b"END_OF_BLOCK";
+
+// The rules of the 27 columns, one table behind the other.
+const WIDTH: [usize; 27] = [
+    // vehicle_type
+    2,
+    8,
+    3,
+    3,
+    3,
+    40,
+    4,
+    4,
+    4,
+    4,
+    1,
+    // depot
+    2,
+    5,
+    // stop
+    2,
+    5,
+    50,
+    // vehicle_block
+    2,
+    9,
+    5,
+    8,
+    2,
+    6,
+    2,
+    6,
+    6,
+    2,
+    6,
+];
+
+// d: decimal, c: text.
+const KIND: [u8; 27] = *b"dddddccddddddddcddddddddddd";
+
+const LOW: [u64; 27] = [
+    // vehicle_type
+    1,
+    0,
+    0,
+    0,
+    0,
+    0,
+    0,
+    0,
+    0,
+    0,
+    0,
+    // depot
+    1,
+    0,
+    // stop
+    1,
+    1,
+    0,
+    // vehicle_block
+    1,
+    0,
+    0,
+    0,
+    0,
+    0,
+    0,
+    0,
+    0,
+    0,
+    0,
+];
+
+const HIGH: [u64; 27] = [
+    // vehicle_type
+    99,
+    99999999,
+    999,
+    999,
+    999,
+    0,
+    0,
+    9999,
+    9999,
+    9999,
+    2,
+    // depot
+    99,
+    99999,
+    // stop
+    99,
+    99999,
+    0,
+    // vehicle_block
+    99,
+    999999999,
+    99999,
+    99999999,
+    99,
+    999999,
+    99,
+    999999,
+    999999,
+    99,
+    999999,
+];
+
+// K: key.
+const KEY: [u8; 27] = *b"KK---------KKKK-KKKK-------";
+
+// r: required, as every key is.
+const REQUIRED: [u8; 27] = *b"rr---------rrrrrrrrrrrrrrrr";
+
+// The references of a block: the column, counted from 1, and the table in which its number stands.
+const REFERRING_COLUMN: [usize; 4] = [3, 5, 6, 9];
+
+const REFERRED_TABLE: [Table; 4] = [Table::Depot, Table::VehicleType, Table::Stop, Table::Stop];
+
+fn sort_of(kind: u8) -> Sort
+    ensures { λ r. ⌜ r ≡ (if eqb kind 100 then Sort.Decimal else Sort.Text) ⌝ }
+{
+    if kind == b'd' {
+        Sort::Decimal
+    } else {
+        Sort::Text
+    }
+}
+
+// The rules at place k of the constant tables.
+fn rules_at(k: usize) -> Rules
+    requires { ⌜ k < 27 ⌝ }
+    ensures { λ r. ⌜ r ≡ getD allColumns k noColumn .rules ⌝ }
+{
+    let sort = sort_of(KIND[k]);
+    Rules {
+        sort,
+        width: WIDTH[k],
+        low: LOW[k],
+        high: HIGH[k],
+        key: KEY[k] == b'K',
+        required: REQUIRED[k] == b'r',
+    }
+}
+
+fn same_bytes(a: &[u8], b: &[u8]) -> bool
+    ensures { λ r. ⌜ r ≡ same (now (a .entry)) (now (b .entry)) ⌝ }
+{
+    if a.len() != b.len() {
+        return false;
+    }
+    let mut i = 0;
+    'bytes: while i < a.len() {
+        if a[i] != b[i] {
+            return false;
+        }
+        i += 1;
+    }
+    true
+}
+
+// The column's number where the name is its text, else the other number.
+fn or(name: &[u8], text: &[u8], column: usize, other: usize) -> usize
+    ensures { λ r. ⌜ r ≡ (if same (now (name .entry)) (now (text .entry)) then column else other) ⌝ }
+{
+    if same_bytes(name, text) {
+        column
+    } else {
+        other
+    }
+}
+
+fn type_column(name: &[u8]) -> usize
+    ensures { λ r. ⌜ r ≡ columnNumber Table.VehicleType (now (name .entry)) ⌝ }
+{
+    let mut r = 0;
+    r = or(name, &VEH_TYPE_ACCESS_EQUIP, 11, r);
+    r = or(name, &VEH_TYPE_HEIGHT, 10, r);
+    r = or(name, &VEH_TYPE_WIDTH, 9, r);
+    r = or(name, &VEH_TYPE_DOOR_WIDTH, 8, r);
+    r = or(name, &STR_VEH_TYPE, 7, r);
+    r = or(name, &VEH_TYPE_TEXT, 6, r);
+    r = or(name, &HANDICAP_PLACES, 5, r);
+    r = or(name, &PLACES_FOR_DISABLED_PERSONS, 5, r);
+    r = or(name, &VEH_TYPE_STRAPS, 4, r);
+    r = or(name, &VEH_TYPE_SEATS, 3, r);
+    r = or(name, &VEH_TYPE_NR, 2, r);
+    r = or(name, &VERSION, 1, r);
+    r
+}
+
+fn depot_column(name: &[u8]) -> usize
+    ensures { λ r. ⌜ r ≡ columnNumber Table.Depot (now (name .entry)) ⌝ }
+{
+    let mut r = 0;
+    r = or(name, &DEPOT_NR, 2, r);
+    r = or(name, &VERSION, 1, r);
+    r
+}
+
+fn stop_column(name: &[u8]) -> usize
+    ensures { λ r. ⌜ r ≡ columnNumber Table.Stop (now (name .entry)) ⌝ }
+{
+    let mut r = 0;
+    r = or(name, &STOP_NAME, 3, r);
+    r = or(name, &STOP_NR, 2, r);
+    r = or(name, &VERSION, 1, r);
+    r
+}
+
+fn block_column(name: &[u8]) -> usize
+    ensures { λ r. ⌜ r ≡ columnNumber Table.Block (now (name .entry)) ⌝ }
+{
+    let mut r = 0;
+    r = or(name, &END_OF_BLOCK, 11, r);
+    r = or(name, &ARR_STOPPING_POINT_NR, 10, r);
+    r = or(name, &ARR_STOP_NR, 9, r);
+    r = or(name, &BEGIN_OF_BLOCK, 8, r);
+    r = or(name, &DEP_STOPPING_POINT_NR, 7, r);
+    r = or(name, &DEP_STOP_NR, 6, r);
+    r = or(name, &VEH_TYPE_NR, 5, r);
+    r = or(name, &VEH_TYP_NR, 5, r);
+    r = or(name, &BLOCK_NR, 4, r);
+    r = or(name, &DEPOT_NR, 3, r);
+    r = or(name, &DAY_TYPE_NR, 2, r);
+    r = or(name, &VERSION, 1, r);
+    r
+}
+
+impl Table {
+    // The figures of each table, by the table's part in the book.
+    pub const NUMBER: [u64; 4] = [
+        Place::VEHICLE_TYPE,
+        Place::DEPOT,
+        Place::STOP,
+        Place::VEHICLE_BLOCK,
+    ];
+
+    pub const COLUMNS: [usize; 4] = [11, 2, 3, 11];
+
+    pub const KEYS: [usize; 4] = [2, 2, 2, 4];
+
+    pub const KEPT: [usize; 4] = [2, 2, 2, 11];
+
+    pub const REFERENCES: [usize; 4] = [0, 0, 0, 4];
+
+    // Where a table's columns begin in the constant tables.
+    const FIRST: [usize; 4] = [0, 11, 13, 16];
+
+    // The constructor by number.
+    pub fn numbered(n: u64) -> Named
+        ensures { λ r. ⌜ r ≡ numbered n ⌝ }
+    {
+        match n {
+            Place::VEHICLE_TYPE => Named::Known(Table::VehicleType),
+            Place::DEPOT => Named::Known(Table::Depot),
+            Place::STOP => Named::Known(Table::Stop),
+            Place::VEHICLE_BLOCK => Named::Known(Table::Block),
+            _ => Named::Unknown,
+        }
+    }
+
+    pub fn part(self) -> usize
+        ensures { λ r. ⌜ r ≡ partOf self ⌝ }
+    {
+        match self {
+            Table::VehicleType => 0,
+            Table::Depot => 1,
+            Table::Stop => 2,
+            Table::Block => 3,
+        }
+    }
+
+    // Of four figures, one for each part of the book, the table's own.
+    fn figure(self, figures: [usize; 4]) -> usize
+        ensures { λ r. ⌜ r ≡ getD figures (partOf self) 0 ⌝ }
+    {
+        let part = self.part();
+        figures[part]
+    }
+
+    pub fn number(self) -> u64
+        ensures { λ r. ⌜ r ≡ number self ⌝ }
+    {
+        let part = self.part();
+        Table::NUMBER[part]
+    }
+
+    pub fn columns(self) -> usize
+        ensures { λ r. ⌜ r ≡ length (columnsOf self) ⌝ }
+    {
+        self.figure(Table::COLUMNS)
+    }
+
+    pub fn keys(self) -> usize
+        ensures { λ r. ⌜ r ≡ keyWidth self ⌝ }
+    {
+        self.figure(Table::KEYS)
+    }
+
+    pub fn kept(self) -> usize
+        ensures { λ r. ⌜ r ≡ keptWidth self ⌝ }
+    {
+        self.figure(Table::KEPT)
+    }
+
+    // What the cells of the column at place i, counted from 0, must keep to; past the last column nothing is asked of them.
+    pub fn rules(self, i: usize) -> Rules
+        ensures { λ r. ⌜ r ≡ columnAt self i .rules ⌝ }
+    {
+        if self.columns() <= i {
+            return Rules {
+                sort: Sort::Text,
+                width: 0,
+                low: 0,
+                high: 0,
+                key: false,
+                required: false,
+            };
+        }
+        rules_at(self.figure(Table::FIRST) + i)
+    }
+
+    // The number of the column of that name, counted from 1, or 0.
+    pub fn column_of(self, name: &[u8]) -> usize
+        ensures { λ r. ⌜ r ≡ columnNumber self (now (name .entry)) ⌝ }
+    {
+        match self {
+            Table::VehicleType => type_column(name),
+            Table::Depot => depot_column(name),
+            Table::Stop => stop_column(name),
+            Table::Block => block_column(name),
+        }
+    }
+
+    pub fn references(self) -> usize
+        ensures { λ r. ⌜ r ≡ length (references self) ⌝ }
+    {
+        self.figure(Table::REFERENCES)
+    }
+
+    // Only a block has references.
+    pub fn reference(self, i: usize) -> Reference
+        requires { ⌜ i < length (references self) ⌝ }
+        ensures { λ r. ⌜ r ≡ getD (references self) i (ref 0 Table.VehicleType) ⌝ }
+    {
+        Reference {
+            column: REFERRING_COLUMN[i],
+            to: REFERRED_TABLE[i],
+        }
+    }
+}
+
+impl Rules {
+    // Empty content is nothing, unless the column is required.
+    fn of_nothing(self) -> Value
+        ensures { λ r. ⌜ r ≡ (if self .required then Value.Bad else Value.Empty) ⌝ }
+    {
+        if self.required {
+            Value::Bad
+        } else {
+            Value::Empty
+        }
+    }
+
+    fn of_number(self, n: u64) -> Value
+        ensures { λ r. ⌜ r ≡ (if inRange self n then Value.Number n else Value.Bad) ⌝ }
+    {
+        if n < self.low {
+            return Value::Bad;
+        }
+        if self.high < n {
+            return Value::Bad;
+        }
+        Value::Number(n)
+    }
+
+    // What content is to a decimal column, by its length and by what it is read as.
+    fn of_digits(self, count: usize, digits: Digits) -> Value
+        ensures { λ r. ⌜ ((s : List ℕ) → self .sort ≡ Sort.Decimal → count ≡ length s → digits ≡ decimalOf (self .width) s → r ≡ valueOf self s) ⌝ }
+    {
+        if count == 0 {
+            return self.of_nothing();
+        }
+        match digits {
+            Digits::Other => Value::Bad,
+            Digits::Value(n) => self.of_number(n),
+        }
+    }
+
+    // What content is to a text column, by its length.
+    fn of_text(self, count: usize) -> Value
+        ensures { λ r. ⌜ ((s : List ℕ) → self .sort ≡ Sort.Text → count ≡ length s → r ≡ valueOf self s) ⌝ }
+    {
+        if count == 0 {
+            return self.of_nothing();
+        }
+        if self.width < count {
+            return Value::Bad;
+        }
+        Value::Text
+    }
+
+    // What a cell of the column holds, by its content.
+    pub fn of_cell(self, cell: &[u8]) -> Value
+        requires { ⌜ (self .sort ≡ Sort.Decimal → self .width ≤ 19) ⌝ }
+        ensures { λ r. ⌜ r ≡ valueOf self (content (now (cell .entry))) ⌝ }
+    {
+        let count = text::content_length(cell);
+        let sort = self.sort;
+        match sort {
+            Sort::Decimal => self.of_digits(count, text::number_in(cell, self.width)),
+            Sort::Text => self.of_text(count),
+        }
+    }
+
+    // What a field of a slip line holds: bytes that are never quoted.
+    pub fn of_field(self, field: &[u8]) -> Value
+        requires { ⌜ (self .sort ≡ Sort.Decimal → self .width ≤ 19) ⌝ }
+        ensures { λ r. ⌜ r ≡ valueOf self (now (field .entry)) ⌝ }
+    {
+        let count = field.len();
+        let sort = self.sort;
+        match sort {
+            Sort::Decimal => self.of_digits(count, text::number_of(field, self.width)),
+            Sort::Text => self.of_text(count),
+        }
+    }
+}
+
+impl Value {
+    // The check of a value at a column.
+    pub fn check(self, column: u64) -> Check
+        ensures { λ r. ⌜ r ≡ checkOf column self ⌝ }
+    {
+        match self {
+            Value::Number(_) => Check::Passes,
+            Value::Text => Check::Passes,
+            Value::Empty => Check::Passes,
+            Value::Bad => Check::cell_fault(column),
+        }
+    }
+}
