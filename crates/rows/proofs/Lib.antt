@@ -1,0 +1,6 @@
+pub mod Keys
+pub mod Rising
+pub mod Room
+pub mod Places
+pub mod Changes
+pub mod Shifts

@@ -1,0 +1,80 @@
+-- `rows::compare` meets its contract: from place i on the order is still to be told. Assumes nothing.
+use mathlib.Core.Path.{_≡_, sym, _∙_}
+use Prim.Native.Nat.{_-_, _≤_}
+use native.Mathlib.Omega.{arith}
+use Rattle.rows.specs.Rows.{keyOrder, orderFrom}
+use Rattle.rows.proofs.Keys as keys
+use borrow.Author.Needs.{needs}
+use Rattle.rows.proofs.compare.Statement.{statement}
+use Rattle.rows.proofs.compare.Tie as tie
+
+abbrev Inv-keys : tie.InvT-keys
+Inv-keys k a b i₀ i = (i ≤ k) × (i ≤ 11) × (keyOrder k a b ≡ orderFrom (k - i) i a b)
+
+abbrev μ-keys : tie.MeasureT-keys
+μ-keys k a b i₀ i = 11 - i
+
+keys-holds : tie.Need-keys-holds Inv-keys μ-keys
+keys-holds c = (search needs, search needs, (let e : c .args .k - 0 ≡ c .args .k = omega arith in rw e))
+
+returns : tie.Need-returns Inv-keys μ-keys
+returns c =
+    let at = c .before .before in
+    sym (at .keys .inv .2 ∙ keys.order-none _ _ _ _ (omega arith))
+
+mul-x : tie.Need-mul-x Inv-keys μ-keys
+mul-x c = search needs
+
+array-read-x : tie.Need-array-read-x Inv-keys μ-keys
+array-read-x c = search needs
+
+mul-y : tie.Need-mul-y Inv-keys μ-keys
+mul-y c = search needs
+
+array-read-y : tie.Need-array-read-y Inv-keys μ-keys
+array-read-y c = search needs
+
+returns-2 : tie.Need-returns-2 Inv-keys μ-keys
+returns-2 c =
+    let at = c .before .before .before in
+    sym (at .keys .inv .2 ∙ keys.next-lt _ _ _ _ (omega arith) (c .if2 .taken))
+
+returns-3 : tie.Need-returns-3 Inv-keys μ-keys
+returns-3 c =
+    let at = c .before .before .before .before in
+    sym (at .keys .inv .2 ∙ keys.next-gt _ _ _ _ (omega arith) (c .if3 .taken))
+
+add-i : tie.Need-add-i Inv-keys μ-keys
+add-i c = search needs
+
+keys-less : tie.Need-keys-less Inv-keys μ-keys
+keys-less c = search needs
+
+keys-again : tie.Need-keys-again Inv-keys μ-keys
+keys-again c =
+    let at = c .before .before .before .before in
+    (search needs, search needs, at .keys .inv .2 ∙ keys.next-eq _ _ _ _ (omega arith) (omega arith))
+
+returns-4 : tie.Need-returns-4 Inv-keys μ-keys
+returns-4 c =
+    let at = c .before in
+    sym (at .keys .inv .2 ∙ keys.order-end _ _ _ _ (search needs) (search needs))
+
+pub compare-spec : {M : Type 1} → statement M
+compare-spec =
+    tie.close
+    (tie.spec
+    Inv-keys
+    μ-keys
+    keys-holds
+    returns
+    mul-x
+    array-read-x
+    mul-y
+    array-read-y
+    returns-2
+    returns-3
+    add-i
+    keys-less
+    keys-again
+    returns-4)

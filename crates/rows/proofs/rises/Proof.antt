@@ -1,0 +1,84 @@
+-- `rows::rises` meets its contract: the rows before place i rise. Assumes nothing.
+use mathlib.Core.Path.{_≡_, refl, sym, _∙_}
+use Prim.Native.Nat.{_-_, _≤_}
+use borrow.Author.Tests.{not-true, not-false}
+use lib.ListN.{take, drop}
+use Rattle.rows.specs.Rows.{rising}
+use Rattle.rows.proofs.Rising as rise
+use borrow.Author.Needs.{needs}
+use Rattle.rows.proofs.rises.Statement.{statement}
+use Rattle.rows.proofs.rises.Tie as tie
+
+abbrev Inv-rows : tie.InvT-rows
+Inv-rows list n k i₀ i = (1 ≤ i) × (rising k (take n list) ≡ rising k (drop (i - 1) (take n list)))
+
+abbrev μ-rows : tie.MeasureT-rows
+μ-rows list n k i₀ i = n - i
+
+rows-holds : tie.Need-rows-holds Inv-rows μ-rows
+rows-holds c = (search needs, refl)
+
+sub-before : tie.Need-sub-before Inv-rows μ-rows
+sub-before c = search needs
+
+mul-before : tie.Need-mul-before Inv-rows μ-rows
+mul-before c = search needs
+
+shared-slice-copy-out-before : tie.Need-shared-slice-copy-out-before Inv-rows μ-rows
+shared-slice-copy-out-before c = search needs
+
+mul-here : tie.Need-mul-here Inv-rows μ-rows
+mul-here c = search needs
+
+shared-slice-copy-out-here : tie.Need-shared-slice-copy-out-here Inv-rows μ-rows
+shared-slice-copy-out-here c = search needs
+
+below-requires : tie.Need-below-requires Inv-rows μ-rows
+below-requires c κs = search needs
+
+returns : tie.Need-returns Inv-rows μ-rows
+returns c =
+    let at = c .before .before .before .before .before in
+    let st = at .before in
+    sym (at .rows .inv .1 ∙ rise.rises-not (st .args .k) (st .args .list .now) (st .args .n) (at .rows .i) (st .pre) (search needs) (search needs)
+    (sym (c .before .below .ensures) ∙ not-true _ (c .if1 .taken)))
+
+add-i : tie.Need-add-i Inv-rows μ-rows
+add-i c = search needs
+
+rows-less : tie.Need-rows-less Inv-rows μ-rows
+rows-less c = search needs
+
+rows-again : tie.Need-rows-again Inv-rows μ-rows
+rows-again c =
+    let at = c .before .before .before .before .before in
+    let st = at .before in (
+      search needs,
+      at .rows .inv .1 ∙ rise.rises-on (st .args .k) (st .args .list .now) (st .args .n) (at .rows .i) (st .pre) (search needs) (search needs)
+          (sym (c .before .below .ensures) ∙ not-false _ (c .if1 .left)),
+    )
+
+returns-2 : tie.Need-returns-2 Inv-rows μ-rows
+returns-2 c =
+    let at = c .before in
+    let st = at .before in
+    sym (at .rows .inv .1 ∙ rise.rises-end (st .args .k) (st .args .list .now) (st .args .n) (at .rows .i) (st .pre) (search needs))
+
+pub rises-spec : {M : Type 1} → statement M
+rises-spec =
+    tie.close
+    (tie.spec
+    Inv-rows
+    μ-rows
+    rows-holds
+    sub-before
+    mul-before
+    shared-slice-copy-out-before
+    mul-here
+    shared-slice-copy-out-here
+    below-requires
+    returns
+    add-i
+    rows-less
+    rows-again
+    returns-2)

@@ -1,0 +1,288 @@
+// A table's rows in a lent slice, by rising key.
+ghost use mathlib.Core.Path.{_≡_};
+ghost use mathlib.Core.List.{[], _∷_, _++_};
+ghost use mathlib.Core.Bool.{true, false};
+ghost use Prim.Native.Nat.{suc, _-_, _≤_, _<_};
+ghost use lib.ListN.{length, take, drop, replicate};
+ghost use Rattle.words.specs.Words.{same};
+ghost use Rattle.rows.specs.Rows.{byOrder, keyOrder, stands, found, inserted, replaced, removed, rising};
+ghost use Rattle.rows.specs.Room.{zeros, filled, used, Holds, sameRows, holds, spot, rowOf};
+
+// A row's numbers; its key is the first k of them.
+pub type Row = [u64; 11];
+
+// The room of a table: a list of rows is made as `[[0; 11]; ROWS]` and handed on as a slice.
+pub const ROWS: usize = 512;
+
+pub enum Order {
+    Less,
+    Same,
+    More,
+}
+
+// Where a key stands among rows, or where it would stand.
+pub enum Spot {
+    At(usize),
+    Gap(usize),
+}
+
+// The order of two rows by their first k numbers, for every k: past their end both rows read as 0.
+pub fn compare(a: Row, b: Row, k: usize) -> Order
+    ensures { λ r. ⌜ r ≡ keyOrder k a b ⌝ }
+{
+    let mut i = 0;
+    'keys: while i < 11 {
+        if i == k {
+            return Order::Same;
+        }
+        let x = a[i];
+        let y = b[i];
+        if x < y {
+            return Order::Less;
+        }
+        if y < x {
+            return Order::More;
+        }
+        i += 1;
+    }
+    Order::Same
+}
+
+// How many rows are used. (By halving: O(log n).)
+pub fn count(list: &[Row]) -> usize
+    requires { ⌜ now list ≡ filled (length (now list)) (used (now list)) ⌝ }
+    ensures { λ r. ⌜ r ≡ length (used (now (list .entry))) ⌝ }
+{
+    let mut low = 0;
+    let mut high = list.len();
+    'rows: while low < high {
+        let half = low + ((high - low) >> 1);
+        if list[half][0] == 0 {
+            high = half;
+        } else {
+            low = half + 1;
+        }
+    }
+    low
+}
+
+// Where a key stands, or would stand. (By halving.)
+pub fn seek(list: &[Row], k: usize, row: Row) -> Spot
+    requires { ⌜ Holds k (now list) ⌝ }
+    ensures { λ r. ⌜ r ≡ spot k row (used (now (list .entry))) ⌝ }
+{
+    let mut low = 0;
+    let mut high = count(list);
+    'rows: while low < high {
+        let mid = low + ((high - low) >> 1);
+        let there = list[mid];
+        match compare(row, there, k) {
+            Order::Less => {
+                high = mid;
+            }
+            Order::Same => {
+                return Spot::At(mid);
+            }
+            Order::More => {
+                low = mid + 1;
+            }
+        }
+    }
+    Spot::Gap(low)
+}
+
+pub fn standing(list: &[Row], k: usize, row: Row) -> bool
+    requires { ⌜ Holds k (now list) ⌝ }
+    ensures { λ r. ⌜ r ≡ stands k row (used (now (list .entry))) ⌝ }
+{
+    match seek(list, k, row) {
+        Spot::At(_) => true,
+        Spot::Gap(_) => false,
+    }
+}
+
+// The row of a key, or zeros.
+pub fn row_of(list: &[Row], k: usize, row: Row) -> Row
+    requires { ⌜ Holds k (now list) ⌝ }
+    ensures { λ r. ⌜ r ≡ rowOf (found k row (used (now (list .entry)))) ⌝ }
+{
+    match seek(list, k, row) {
+        Spot::At(i) => list[i],
+        Spot::Gap(_) => [0; 11],
+    }
+}
+
+// One more row, where there is room and its key does not stand yet.
+pub fn insert(list: &mut [Row], k: usize, row: Row)
+    requires { ⌜ Holds k (now list) × (length (used (now list)) < length (now list)) ⌝ }
+    ensures { λ _. ⌜ now (list .exit) ≡ filled (length (now (list .entry))) (inserted k row (used (now (list .entry)))) ⌝ }
+{
+    let n = count(&list[..]);
+    match seek(&list[..], k, row) {
+        Spot::At(_) => {}
+        Spot::Gap(i) => {
+            put_in(list, n, i, row);
+        }
+    }
+}
+
+// Another row for the one of the same key.
+pub fn replace(list: &mut [Row], k: usize, row: Row)
+    requires { ⌜ Holds k (now list) ⌝ }
+    ensures { λ _. ⌜ now (list .exit) ≡ filled (length (now (list .entry))) (replaced k row (used (now (list .entry)))) ⌝ }
+{
+    match seek(&list[..], k, row) {
+        Spot::At(i) => {
+            list[i] = row;
+        }
+        Spot::Gap(_) => {}
+    }
+}
+
+// The row of that key goes, and its room is zero.
+pub fn remove(list: &mut [Row], k: usize, row: Row)
+    requires { ⌜ Holds k (now list) ⌝ }
+    ensures { λ _. ⌜ now (list .exit) ≡ filled (length (now (list .entry))) (removed k row (used (now (list .entry)))) ⌝ }
+{
+    let n = count(&list[..]);
+    match seek(&list[..], k, row) {
+        Spot::At(i) => {
+            take_out(list, n, i);
+        }
+        Spot::Gap(_) => {}
+    }
+}
+
+// Whether a slice holds a table, where nobody vouches for it.
+pub fn holding(list: &[Row], k: usize) -> bool
+    ensures { λ r. ⌜ r ≡ holds k (now (list .entry)) ⌝ }
+{
+    let n = first_unused(list);
+    if !rises(list, n, k) {
+        return false;
+    }
+    blank_from(list, n)
+}
+
+// No rows: every row zero.
+pub fn clear(list: &mut [Row])
+    ensures { λ _. ⌜ now (list .exit) ≡ filled (length (now (list .entry))) [] ⌝ }
+{
+    let mut i = 0;
+    'rows: while i < list.len() {
+        list[i] = [0; 11];
+        i += 1;
+    }
+}
+
+// The rows of one slice into another of the same length.
+pub fn copy(from: &[Row], to: &mut [Row])
+    requires { ⌜ length (now from) ≡ length (now to) ⌝ }
+    ensures { λ _. ⌜ now (to .exit) ≡ now (from .entry) ⌝ }
+{
+    let mut i = 0;
+    'rows: while i < from.len() {
+        let row = from[i];
+        to[i] = row;
+        i += 1;
+    }
+}
+
+// A row at place `at` among the first n, whose rows from there on move one further.
+fn put_in(list: &mut [Row], n: usize, at: usize, row: Row)
+    requires { ⌜ (at ≤ n) × (n < length (now list)) ⌝ }
+    ensures { λ _. ⌜ now (list .exit) ≡ take at (now (list .entry)) ++ (row ∷ (take (n - at) (drop at (now (list .entry))) ++ drop (suc n) (now (list .entry)))) ⌝ }
+{
+    let mut i = n;
+    'rows: while at < i {
+        let before = list[i - 1];
+        list[i] = before;
+        i -= 1;
+    }
+    list[at] = row;
+}
+
+// The first n rows without the one at place `at`: the later ones move one back, and the last one's room is zero.
+fn take_out(list: &mut [Row], n: usize, at: usize)
+    requires { ⌜ (at < n) × (n ≤ length (now list)) ⌝ }
+    ensures { λ _. ⌜ now (list .exit) ≡ take at (now (list .entry)) ++ (take (n - suc at) (drop (suc at) (now (list .entry))) ++ (zeros ∷ drop n (now (list .entry)))) ⌝ }
+{
+    let mut i = at + 1;
+    'rows: while i < n {
+        let next = list[i];
+        list[i - 1] = next;
+        i += 1;
+    }
+    list[n - 1] = [0; 11];
+}
+
+// How many rows are used, of any rows: one by one.
+fn first_unused(list: &[Row]) -> usize
+    ensures { λ r. ⌜ r ≡ length (used (now (list .entry))) ⌝ }
+{
+    let mut i = 0;
+    'rows: while i < list.len() {
+        if list[i][0] == 0 {
+            return i;
+        }
+        i += 1;
+    }
+    i
+}
+
+// Whether the key of a is below that of b.
+fn below(a: Row, b: Row, k: usize) -> bool
+    ensures { λ r. ⌜ r ≡ byOrder (keyOrder k a b) true false false ⌝ }
+{
+    match compare(a, b, k) {
+        Order::Less => true,
+        Order::Same => false,
+        Order::More => false,
+    }
+}
+
+// Whether each key of the first n rows is below the next one.
+fn rises(list: &[Row], n: usize, k: usize) -> bool
+    requires { ⌜ n ≤ length (now list) ⌝ }
+    ensures { λ r. ⌜ r ≡ rising k (take n (now (list .entry))) ⌝ }
+{
+    let mut i = 1;
+    'rows: while i < n {
+        let before = list[i - 1];
+        let here = list[i];
+        if !below(before, here, k) {
+            return false;
+        }
+        i += 1;
+    }
+    true
+}
+
+fn blank(row: Row) -> bool
+    ensures { λ r. ⌜ r ≡ same row zeros ⌝ }
+{
+    let mut i = 0;
+    'columns: while i < 11 {
+        if row[i] != 0 {
+            return false;
+        }
+        i += 1;
+    }
+    true
+}
+
+// Whether every row from place n on is zero.
+fn blank_from(list: &[Row], n: usize) -> bool
+    requires { ⌜ n ≤ length (now list) ⌝ }
+    ensures { λ r. ⌜ r ≡ sameRows (drop n (now (list .entry))) (replicate (length (now (list .entry)) - n) zeros) ⌝ }
+{
+    let mut i = n;
+    'rows: while i < list.len() {
+        let row = list[i];
+        if !blank(row) {
+            return false;
+        }
+        i += 1;
+    }
+    true
+}
