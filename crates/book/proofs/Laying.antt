@@ -1,0 +1,304 @@
+-- The four parts of a lent slice and the book that they hold: what is laid out is read again, one part is put in another's place, and what
+-- changes keep a book in order. Assumes nothing.
+use mathlib.Core.Path.{_≡_, refl, sym, ap, _∙_}
+use mathlib.Core.List.{List, [], _++_, append-assoc, append-nil}
+use mathlib.Core.Bool.{true, false}
+use Prim.Native.Nat.{ℕ, _+_, _-_, _*_, _≤_, _<_}
+use native.Mathlib.Omega.{arith}
+use lib.Dec.{lit≤}
+use lib.ListN.{length, take, drop, getD, length-append, length-take, length-drop, take-append-drop, replicate, replicate-append-replicate}
+use lib.Seq.{take-at, drop-at, take-all, drop-drop, getD-take, getD-drop}
+use borrow.Author.Tests.{leb-false}
+use Rattle.words.specs.Words.{Row}
+use Rattle.tables.specs.Columns.{keyWidth, partOf}
+use Rattle.tables.specs.declared.Table.{Table}
+use Rattle.tables.specs.declared.Table.the-variants.{VehicleType, Depot, Stop, Block}
+use Rattle.tables.proofs.Figures.{part-below, keys-some}
+use Rattle.rows.specs.Rows.{column, replaced, removed, rising}
+use Rattle.rows.specs.Room.{zeros, filled, used, Holds, holds}
+use Rattle.rows.proofs.Rising.{rising-inserted, rising-replaced, rising-removed}
+use Rattle.rows.proofs.Room.{Versioned, used-versioned, used-within, used-row, used-filled, length-filled, holds-filled}
+use Rattle.rows.proofs.Changes.{length-inserted-most, length-replaced, length-removed-most, versioned-inserted, versioned-replaced, versioned-removed}
+use Rattle.book.specs.Book.{Book, empty, rows, with-rows, entered, full}
+use Rattle.book.specs.Room.{laid, part, bookOf, Sound}
+
+-- a list between two others -----------------------------------------------------------------------------------------------------
+
+module _ {A : Type 0} (p q r : List A) (i m : ℕ) (lp : length p ≡ i) (lq : length q ≡ m) where
+  between : take m (drop i (p ++ (q ++ r))) ≡ q
+  between = ap (take m) (drop-at p (q ++ r) i lp) ∙ take-at q r m lq
+
+  put-between : (y : List A) → take i (p ++ (q ++ r)) ++ (y ++ drop m (drop i (p ++ (q ++ r)))) ≡ p ++ (y ++ r)
+  put-between y = rw (take-at p (q ++ r) i lp, drop-at p (q ++ r) i lp, drop-at q r m lq)
+
+-- the four parts ------------------------------------------------------------------------------------------------------------------
+
+-- a slice is its four parts
+module _ (xs : List Row) (long : length xs ≡ 2048) where
+  pub length-part : (t : Table) → length (part (partOf t) xs) ≡ 512
+  length-part t = simp (length-take, length-drop) (omega (arith, part-below t))
+
+  rest-of : (i j : ℕ) → j ≡ i + 512 → drop i xs ≡ take 512 (drop i xs) ++ drop j xs
+  rest-of i j e = sym (rw (drop-drop 512 i xs, ← e) at (take-append-drop 512 (drop i xs)))
+
+  parts : xs ≡ part 0 xs ++ (part 1 xs ++ (part 2 xs ++ part 3 xs))
+  parts =
+      rest-of 0 512 refl
+      ∙ ap (λ (l : List Row). part 0 xs ++ l) (rest-of 512 1024 refl
+      ∙ ap (λ (l : List Row). part 1 xs ++ l) (rest-of 1024 1536 refl
+      ∙ ap (λ (l : List Row). part 2 xs ++ l) (sym (take-all 512 (drop 1536 xs) (simp length-drop (omega arith))))))
+
+-- a part of the book as the code lends it
+pub part-lent : (t : Table) (xs : List Row) (from : ℕ) → from ≡ partOf t * 512 → take (from + 512 - from) (drop from xs) ≡ part (partOf t) xs
+part-lent t xs from e = let f : from + 512 - from ≡ 512 = omega arith in rw (f, e)
+
+pub lent-holding : (t : Table) (xs : List Row) (from : ℕ) → from ≡ partOf t * 512 → (k : ℕ) → k ≡ keyWidth t
+    → holds k (take (from + 512 - from) (drop from xs)) ≡ holds (keyWidth t) (part (partOf t) xs)
+lent-holding t xs from e k f = ap (holds k) (part-lent t xs from e) ∙ ap (λ (n : ℕ). holds n (part (partOf t) xs)) f
+
+pub rows-part : (t : Table) (xs : List Row) → rows t (bookOf xs) ≡ used (part (partOf t) xs)
+rows-part VehicleType xs = refl
+rows-part Depot xs = refl
+rows-part Stop xs = refl
+rows-part Block xs = refl
+
+-- a table of a sound slice, by the part that is lent
+module _ (t : Table) (xs : List Row) (sound : Sound xs) (from : ℕ) (here : from ≡ partOf t * 512) where
+  abbrev lent : List Row
+  lent = take (from + 512 - from) (drop from xs)
+
+  pub lent-holds : (k : ℕ) → k ≡ keyWidth t → Holds k lent
+  lent-holds k e = rw (part-lent t xs from here, e) (sound .tables t)
+
+  pub lent-rows : used lent ≡ rows t (bookOf xs)
+  lent-rows = ap used (part-lent t xs from here) ∙ sym (rows-part t xs)
+
+  -- what is asked of the rows of the part is asked of the table's
+  pub lent-asked : {A : Type 0} (question : ℕ → List Row → A) (k : ℕ) → k ≡ keyWidth t → question k (used lent) ≡ question (keyWidth t) (rows t (bookOf xs))
+  lent-asked question k e = ap (λ (n : ℕ). question n (used lent)) e ∙ ap (question (keyWidth t)) lent-rows
+
+  pub lent-length : length lent ≡ 512
+  lent-length = ap length (part-lent t xs from here) ∙ length-part xs (sound .long) t
+
+-- a used row of a table is read at its place in the slice
+pub row-at : (t : Table) (xs : List Row) (from i : ℕ) → from ≡ partOf t * 512 → length xs ≡ 2048 → i < length (rows t (bookOf xs)) → getD (rows t (bookOf xs)) i [] ≡ getD xs (from + i) []
+row-at t xs from i e l h =
+    let us = used (part (partOf t) xs) in
+    let g : i < length us = rw (rows-part t xs) at h in
+    let m : i < 512 = omega (arith, used-within (part (partOf t) xs), length-part xs l t) in
+    ap (λ (r : List Row). getD r i []) (rows-part t xs)
+    ∙ used-row (part (partOf t) xs) i g
+    ∙ getD-take 512 (drop (partOf t * 512) xs) i [] m
+    ∙ getD-drop (partOf t * 512) xs i []
+    ∙ ap (λ (n : ℕ). getD xs (n + i) []) (sym e)
+
+-- a book in order ------------------------------------------------------------------------------------------------------------------
+
+-- each table has at most 512 rows, by rising key, and each row's VERSION is at least 1
+pub record Orderly (b : Book) : Type 0 where
+  pub few : (t : Table) → length (rows t b) ≤ 512
+  pub rises : (t : Table) → rising (keyWidth t) (rows t b) ≡ true
+  pub versioned : (t : Table) → Versioned (rows t b)
+
+-- two books are the same by their tables
+pub same-book : (a b : Book) → ((t : Table) → rows t a ≡ rows t b) → a ≡ b
+same-book a b e = go (a .types) (a .depots) (a .stops) (a .blocks) (e VehicleType) (e Depot) (e Stop) (e Block)
+  where
+    go : (p q r s : List Row) → p ≡ b .types → q ≡ b .depots → r ≡ b .stops → s ≡ b .blocks → _≡_ {A = Book} (record { types = p; depots = q; stops = r; blocks = s }) b
+    go p q r s e0 e1 e2 e3 = rw (e0, e1, e2, e3)
+
+pub rows-with : (t : Table) (ys : List Row) (b : Book) → rows t (with-rows t ys b) ≡ ys
+rows-with VehicleType ys b = refl
+rows-with Depot ys b = refl
+rows-with Stop ys b = refl
+rows-with Block ys b = refl
+
+pub with-same : (t : Table) (b : Book) → with-rows t (rows t b) b ≡ b
+with-same VehicleType b = refl
+with-same Depot b = refl
+with-same Stop b = refl
+with-same Block b = refl
+
+-- what holds of a table's new rows, and of the rows of every table before, holds of the rows of every table
+every-table : (P : Table → List Row → Type 0) (b : Book) (t : Table) (ys : List Row) → P t ys → ((u : Table) → P u (rows u b)) → (u : Table) → P u (rows u (with-rows t ys b))
+every-table P b VehicleType ys h k VehicleType = h
+every-table P b VehicleType ys h k Depot = k Depot
+every-table P b VehicleType ys h k Stop = k Stop
+every-table P b VehicleType ys h k Block = k Block
+every-table P b Depot ys h k VehicleType = k VehicleType
+every-table P b Depot ys h k Depot = h
+every-table P b Depot ys h k Stop = k Stop
+every-table P b Depot ys h k Block = k Block
+every-table P b Stop ys h k VehicleType = k VehicleType
+every-table P b Stop ys h k Depot = k Depot
+every-table P b Stop ys h k Stop = h
+every-table P b Stop ys h k Block = k Block
+every-table P b Block ys h k VehicleType = k VehicleType
+every-table P b Block ys h k Depot = k Depot
+every-table P b Block ys h k Stop = k Stop
+every-table P b Block ys h k Block = h
+
+-- what stands before and behind a table in the slice
+record Around (t : Table) (b : Book) : Type 0 where
+  front : List Row
+  behind : List Row
+  long : length front ≡ partOf t * 512
+  is : (ys : List Row) → laid (with-rows t ys b) ≡ front ++ (filled 512 ys ++ behind)
+
+around : (b : Book) → ((t : Table) → length (rows t b) ≤ 512) → (t : Table) → Around t b
+around b few VehicleType = record { front = []; behind = filled 512 (b .depots) ++ (filled 512 (b .stops) ++ filled 512 (b .blocks)); long = refl; is = λ ys. refl }
+around b few Depot = record { front = filled 512 (b .types); behind = filled 512 (b .stops) ++ filled 512 (b .blocks); long = length-filled 512 (b .types) (few VehicleType); is = λ ys. refl }
+around b few Stop =
+    record {
+      front = filled 512 (b .types) ++ filled 512 (b .depots);
+      behind = filled 512 (b .blocks);
+      long = omega (arith, length-append (filled 512 (b .types)) (filled 512 (b .depots)), length-filled 512 (b .types) (few VehicleType), length-filled 512 (b .depots) (few Depot));
+      is = λ ys. sym (append-assoc (filled 512 (b .types)) (filled 512 (b .depots)) (filled 512 ys ++ filled 512 (b .blocks)));
+    }
+around b few Block =
+    record {
+      front = filled 512 (b .types) ++ (filled 512 (b .depots) ++ filled 512 (b .stops));
+      behind = [];
+      long =
+          omega (
+            arith,
+            length-append (filled 512 (b .types)) (filled 512 (b .depots) ++ filled 512 (b .stops)),
+            length-append (filled 512 (b .depots)) (filled 512 (b .stops)),
+            length-filled 512 (b .types) (few VehicleType),
+            length-filled 512 (b .depots) (few Depot),
+            length-filled 512 (b .stops) (few Stop),
+          );
+      is = λ ys. rw (append-nil (filled 512 ys), append-assoc (filled 512 (b .types)) (filled 512 (b .depots) ++ filled 512 (b .stops)) (filled 512 ys), append-assoc (filled 512 (b .depots)) (filled 512 (b .stops)) (filled 512 ys));
+    }
+
+module _ (b : Book) (few : (t : Table) → length (rows t b) ≤ 512) (t : Table) where
+  laid-around : laid b ≡ around b few t .front ++ (filled 512 (rows t b) ++ around b few t .behind)
+  laid-around = ap laid (sym (with-same t b)) ∙ around b few t .is (rows t b)
+
+  pub part-laid : part (partOf t) (laid b) ≡ filled 512 (rows t b)
+  part-laid =
+      ap (part (partOf t)) laid-around
+      ∙ between (around b few t .front) (filled 512 (rows t b)) (around b few t .behind) (partOf t * 512) 512 (around b few t .long) (length-filled 512 (rows t b) (few t))
+
+  -- one part put in the place of another
+  pub part-put : (ys : List Row) → take (partOf t * 512) (laid b) ++ (filled 512 ys ++ drop 512 (drop (partOf t * 512) (laid b))) ≡ laid (with-rows t ys b)
+  part-put ys =
+      ap (λ (l : List Row). take (partOf t * 512) l ++ (filled 512 ys ++ drop 512 (drop (partOf t * 512) l))) laid-around
+      ∙ put-between (around b few t .front) (filled 512 (rows t b)) (around b few t .behind) (partOf t * 512) 512 (around b few t .long) (length-filled 512 (rows t b) (few t)) (filled 512 ys)
+      ∙ sym (around b few t .is ys)
+
+-- a book in order is laid out in a sound slice, and read again
+module _ (b : Book) (orderly : Orderly b) where
+  pub used-laid : (t : Table) → used (part (partOf t) (laid b)) ≡ rows t b
+  used-laid t = ap used (part-laid b (orderly .few) t) ∙ used-filled 512 (rows t b) (orderly .versioned t)
+
+  pub book-laid : bookOf (laid b) ≡ b
+  book-laid = same-book (bookOf (laid b)) b (λ t. rows-part t (laid b) ∙ used-laid t)
+
+  length-laid : length (laid b) ≡ 2048
+  length-laid =
+      let f : (t : Table) → length (filled 512 (rows t b)) ≡ 512 = λ t. length-filled 512 (rows t b) (orderly .few t) in
+      let l2 = length-append (filled 512 (b .stops)) (filled 512 (b .blocks)) in
+      let l1 = length-append (filled 512 (b .depots)) (filled 512 (b .stops) ++ filled 512 (b .blocks)) in
+      let l0 = length-append (filled 512 (b .types)) (filled 512 (b .depots) ++ (filled 512 (b .stops) ++ filled 512 (b .blocks))) in
+      omega (arith, f VehicleType, f Depot, f Stop, f Block)
+
+  pub sound-laid : Sound (laid b)
+  sound-laid =
+      record { long = length-laid; tables = λ t. rw (part-laid b (orderly .few) t) (holds-filled (keyWidth t) 512 (rows t b) (orderly .rises t) (orderly .versioned t) (orderly .few t)) }
+
+-- the book of a sound slice is in order, and laid out it is the slice
+module _ (xs : List Row) (sound : Sound xs) where
+  pub orderly-book : Orderly (bookOf xs)
+  orderly-book =
+      record {
+        few = λ t. rw (rows-part t xs) (omega (arith, used-within (part (partOf t) xs), length-part xs (sound .long) t));
+        rises = λ t. rw (rows-part t xs) (sound .tables t .rises);
+        versioned = λ t. rw (rows-part t xs) (used-versioned (part (partOf t) xs));
+      }
+
+  part-filled : (t : Table) → part (partOf t) xs ≡ filled 512 (used (part (partOf t) xs))
+  part-filled t = sound .tables t .rest ∙ ap (λ (n : ℕ). filled n (used (part (partOf t) xs))) (length-part xs (sound .long) t)
+
+  pub laid-book : laid (bookOf xs) ≡ xs
+  laid-book = sym (parts xs (sound .long) ∙ four (part 0 xs) (part 1 xs) (part 2 xs) (part 3 xs) _ _ _ _ (part-filled VehicleType) (part-filled Depot) (part-filled Stop) (part-filled Block))
+    where
+      four : (a b c d a′ b′ c′ d′ : List Row) → a ≡ a′ → b ≡ b′ → c ≡ c′ → d ≡ d′ → a ++ (b ++ (c ++ d)) ≡ a′ ++ (b′ ++ (c′ ++ d′))
+      four a b c d a′ b′ c′ d′ e f g h = cc
+
+  -- the slice, where the part that was lent comes back with other rows
+  pub lent-back : (t : Table) (from : ℕ) → from ≡ partOf t * 512 → (ys zs : List Row) → zs ≡ filled 512 ys
+      → take from xs ++ (zs ++ drop (from + 512 - from) (drop from xs)) ≡ laid (with-rows t ys (bookOf xs))
+  lent-back t from e ys zs f =
+      let n : from + 512 - from ≡ 512 = omega arith in
+      rw (n, e, f) (ap (λ (l : List Row). take (partOf t * 512) l ++ (filled 512 ys ++ drop 512 (drop (partOf t * 512) l))) (sym laid-book) ∙ part-put (bookOf xs) (orderly-book .few) t ys)
+
+-- a table's rows changed in the part that is lent, whatever the change is
+module _ (t : Table) (xs : List Row) (sound : Sound xs) (from : ℕ) (here : from ≡ partOf t * 512) where
+  pub lent-room : full t (bookOf xs) ≡ false → length (used (lent t xs sound from here)) < length (lent t xs sound from here)
+  lent-room e =
+      omega (arith, lent-length t xs sound from here, ap (λ (l : List Row). length l) (lent-rows t xs sound from here), leb-false 512 (length (rows t (bookOf xs))) e)
+
+  pub lent-changed : (change : ℕ → Row → List Row → List Row) (k : ℕ) → k ≡ keyWidth t → (row : Row) (zs : List Row)
+      → zs ≡ filled (length (lent t xs sound from here)) (change k row (used (lent t xs sound from here)))
+      → take from xs ++ (zs ++ drop (from + 512 - from) (drop from xs)) ≡ laid (with-rows t (change (keyWidth t) row (rows t (bookOf xs))) (bookOf xs))
+  lent-changed change k e row zs f =
+      lent-back xs sound t from here (change (keyWidth t) row (rows t (bookOf xs))) zs
+      (f ∙ ap (λ (n : ℕ). filled n (change k row (used (lent t xs sound from here)))) (lent-length t xs sound from here)
+      ∙ ap (λ (n : ℕ). filled 512 (change n row (used (lent t xs sound from here)))) e
+      ∙ ap (λ (l : List Row). filled 512 (change (keyWidth t) row l)) (lent-rows t xs sound from here))
+
+-- changes keep a book in order -------------------------------------------------------------------------------------------------------
+
+pub orderly-with : (b : Book) → Orderly b → (t : Table) (ys : List Row) → length ys ≤ 512 → rising (keyWidth t) ys ≡ true → Versioned ys → Orderly (with-rows t ys b)
+orderly-with b o t ys f r v =
+    record {
+      few = every-table (λ u l. length l ≤ 512) b t ys f (o .few);
+      rises = every-table (λ u l. rising (keyWidth u) l ≡ true) b t ys r (o .rises);
+      versioned = every-table (λ u l. Versioned l) b t ys v (o .versioned);
+    }
+
+pub orderly-empty : Orderly empty
+unfolding rising Versioned
+orderly-empty = record { few = few; rises = rises; versioned = versioned }
+  where
+    few : (t : Table) → length (rows t empty) ≤ 512
+    few VehicleType = lit≤ tt
+    few Depot = lit≤ tt
+    few Stop = lit≤ tt
+    few Block = lit≤ tt
+
+    rises : (t : Table) → rising (keyWidth t) (rows t empty) ≡ true
+    rises VehicleType = refl
+    rises Depot = refl
+    rises Stop = refl
+    rises Block = refl
+
+    versioned : (t : Table) → Versioned (rows t empty)
+    versioned VehicleType = tt
+    versioned Depot = tt
+    versioned Stop = tt
+    versioned Block = tt
+
+module _ (b : Book) (o : Orderly b) (t : Table) (row : Row) where
+  pub orderly-entered : 1 ≤ column 1 row → full t b ≡ false → Orderly (entered t row b)
+  orderly-entered v room =
+      orderly-with b o t _ (omega (arith, length-inserted-most (keyWidth t) row (rows t b), leb-false 512 (length (rows t b)) room))
+      (rising-inserted (keyWidth t) row (rows t b) (o .rises t)) (versioned-inserted (keyWidth t) row (rows t b) v (o .versioned t))
+
+  pub orderly-replaced : Orderly (with-rows t (replaced (keyWidth t) row (rows t b)) b)
+  orderly-replaced =
+      orderly-with b o t _ (omega (arith, length-replaced (keyWidth t) row (rows t b), o .few t))
+      (rising-replaced (keyWidth t) row (rows t b) (o .rises t)) (versioned-replaced (keyWidth t) row (rows t b) (keys-some t) (o .versioned t))
+
+  pub orderly-removed : Orderly (with-rows t (removed (keyWidth t) row (rows t b)) b)
+  orderly-removed =
+      orderly-with b o t _ (omega (arith, length-removed-most (keyWidth t) row (rows t b), o .few t))
+      (rising-removed (keyWidth t) row (rows t b) (o .rises t)) (versioned-removed (keyWidth t) row (rows t b) (o .versioned t))
+
+-- the empty book: 2048 rows of zeros
+four-alike : {A : Type 0} (m : ℕ) (z : A) → replicate (m + (m + (m + m))) z ≡ replicate m z ++ (replicate m z ++ (replicate m z ++ replicate m z))
+four-alike m z = sym (rw (replicate-append-replicate m m z, replicate-append-replicate m (m + m) z, replicate-append-replicate m (m + (m + m)) z))
+
+pub laid-empty : (n : ℕ) → n ≡ 2048 → filled n [] ≡ laid empty
+laid-empty n e = rw e (four-alike 512 zeros)

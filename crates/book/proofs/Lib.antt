@@ -1,0 +1,5 @@
+pub mod Laying
+pub mod Referring
+pub mod Keeping
+pub mod Sums
+pub mod Answers

@@ -1,0 +1,102 @@
+-- A key by its numbers alone finds what the row of it finds; the references of a row, one by one. Assumes nothing.
+use mathlib.Core.Path.{_≡_, refl, sym, ap, _∙_}
+use mathlib.Core.List.{List, [], _∷_, _++_}
+use mathlib.Core.Bool.{Bool, true, false}
+use Prim.Native.Nat.{ℕ, zero, suc, _+_, _-_, _≤_, _<_}
+use native.Mathlib.Omega.{arith}
+use lib.Dec.{lit≤}
+use lib.ListN.{length, drop, getD, replicate, drop-of-length-le}
+use Rattle.words.specs.Words.{Row}
+use Rattle.words.proofs.Lists.{drop-step}
+use Rattle.refusals.specs.Verdicts.{keyStands, noRow, endsEarly}
+use Rattle.refusals.specs.declared.Check.{Check}
+use Rattle.refusals.specs.declared.Check.the-variants.{Passes}
+use Rattle.tables.specs.Columns.{references, ref, keyWidth}
+use Rattle.tables.specs.declared.Table.{Table}
+use Rattle.tables.specs.declared.Table.the-variants.{VehicleType, Depot, Stop, Block}
+use Rattle.tables.specs.declared.Reference.{Reference}
+use Rattle.rows.specs.Rows.{wide, column, orderFrom, sameKey, stands, found}
+use Rattle.book.specs.Book.{Book, knows, rows}
+use Rattle.book.specs.Rules.{timeFault, unknownOf, unknown, ruled}
+
+-- zeros behind the numbers: past their end a list reads as 0 too
+getD-zeros : (n i : ℕ) → _≡_ {A = ℕ} (getD (replicate n 0) i 0) 0
+getD-zeros zero i = refl
+getD-zeros (suc n) zero = refl
+getD-zeros (suc n) (suc i) = getD-zeros n i
+
+pub getD-padded : (xs : List ℕ) (n i : ℕ) → getD (xs ++ replicate n 0) i 0 ≡ getD xs i 0
+getD-padded [] n i = getD-zeros n i
+getD-padded (x ∷ xs) n zero = refl
+getD-padded (x ∷ xs) n (suc i) = getD-padded xs n i
+
+order-wide : (n i : ℕ) (xs : List ℕ) (y : Row) → orderFrom n i (wide xs) y ≡ orderFrom n i xs y
+unfolding orderFrom
+order-wide zero i xs y = refl
+order-wide (suc n) i xs y = rw (getD-padded xs (11 - length xs) i, order-wide n (suc i) xs y)
+
+module _ (k : ℕ) (xs : List ℕ) where
+  pub sameKey-wide : (y : Row) → sameKey k (wide xs) y ≡ sameKey k xs y
+  sameKey-wide y = rw (order-wide k 0 xs y)
+
+  pub stands-wide : (rs : List Row) → stands k (wide xs) rs ≡ stands k xs rs
+  unfolding stands
+  stands-wide [] = refl
+  stands-wide (r ∷ rs) = rw (sameKey-wide r, stands-wide rs)
+
+  pub found-wide : (rs : List Row) → found k (wide xs) rs ≡ found k xs rs
+  unfolding found
+  found-wide [] = refl
+  found-wide (r ∷ rs) = rw (sameKey-wide r, found-wide rs)
+
+-- the column of a reference is one of the row's
+abbrev pub referenceOf : Table → ℕ → Reference
+referenceOf t i = getD (references t) i (ref 0 VehicleType)
+
+pub referring : (t : Table) (i : ℕ) → i < length (references t) → (1 ≤ referenceOf t i .column) × (referenceOf t i .column ≤ 11)
+referring VehicleType i h = absurd (omega arith)
+referring Depot i h = absurd (omega arith)
+referring Stop i h = absurd (omega arith)
+referring Block zero h = (lit≤ tt, lit≤ tt)
+referring Block (suc zero) h = (lit≤ tt, lit≤ tt)
+referring Block (suc (suc zero)) h = (lit≤ tt, lit≤ tt)
+referring Block (suc (suc (suc zero))) h = (lit≤ tt, lit≤ tt)
+referring Block (suc (suc (suc (suc i)))) h = absurd (omega arith)
+
+-- the references one by one
+module _ (t : Table) (row : Row) (b : Book) (i : ℕ) where
+  abbrev pub there : Bool
+  there = knows (referenceOf t i .to) (column 1 row ∷ column (referenceOf t i .column) row ∷ []) b
+
+  abbrev pub unknownFrom : Check
+  unknownFrom = unknownOf (drop i (references t)) row b
+
+  pub unknown-next : i < length (references t) → there ≡ true → unknownFrom ≡ unknownOf (drop (i + 1) (references t)) row b
+  unfolding unknownOf
+  unknown-next h e = rw (drop-step (ref 0 VehicleType) (references t) i h, e)
+
+  pub unknown-here : i < length (references t) → there ≡ false → unknownFrom ≡ noRow (referenceOf t i .column)
+  unfolding unknownOf
+  unknown-here h e = rw (drop-step (ref 0 VehicleType) (references t) i h, e)
+
+  pub unknown-end : length (references t) ≤ i → unknownFrom ≡ Passes
+  unfolding unknownOf
+  unknown-end h = rw (drop-of-length-le (references t) {i = i} h)
+
+-- one reference, as the code asks for it
+pub asked-there : (t : Table) (row : Row) (b : Book) (i : ℕ) (x : Reference) (k : Row) (r : Bool) → x ≡ referenceOf t i
+    → k ≡ wide (column 1 row ∷ column (x .column) row ∷ []) → r ≡ knows (x .to) k b → there t row b i ≡ r
+asked-there t row b i x k r e f g =
+    ap (λ (y : Reference). knows (y .to) (column 1 row ∷ column (y .column) row ∷ []) b) (sym e)
+    ∙ sym (g ∙ ap (λ (l : Row). knows (x .to) l b) f ∙ stands-wide (keyWidth (x .to)) _ (rows (x .to) b))
+
+-- the rules of a row, in their order
+module _ (t : Table) (row : Row) (b : Book) where
+  pub ruled-early : timeFault t row ≡ true → ruled t row b ≡ endsEarly
+  ruled-early e = rw e
+
+  pub ruled-stands : timeFault t row ≡ false → knows t row b ≡ true → ruled t row b ≡ keyStands
+  ruled-stands e f = rw (e, f)
+
+  pub ruled-unknown : timeFault t row ≡ false → knows t row b ≡ false → ruled t row b ≡ unknown t row b
+  ruled-unknown e f = rw (e, f)

@@ -1,0 +1,100 @@
+-- What the blocks of a type weigh together, block by block, and the bound of each block's times. Assumes nothing.
+use mathlib.Core.Path.{_≡_}
+use mathlib.Core.List.{List, [], _∷_}
+use mathlib.Core.Bool.{Bool, true, false, _&&_, not}
+use Prim.Native.Nat.{ℕ, zero, suc, _+_, _*_, _≤_, _<_}
+use native.Mathlib.Omega.{arith}
+use native.Mathlib.Numerals.{add-one}
+use native.Mathlib.Nat.{mul-suc}
+use lib.Dec.{leb, eqb}
+use lib.ListN.{length, take, drop, getD, drop-of-length-le}
+use lib.Seq.{getD-take}
+use borrow.Author.Tests.{eq-eqb, ne-eqb, leb-true, ltb-false, not-true}
+use Rattle.words.specs.Words.{Row, if_then_else_, same}
+use Rattle.words.proofs.Lists.{drop-step, and-left, and-right}
+use Rattle.refusals.specs.Verdicts.{passes}
+use Rattle.tables.specs.Columns.{Column, columnsOf, columnAt, noColumn, keptWidth, inRange}
+use Rattle.tables.specs.declared.Table.{Table}
+use Rattle.tables.specs.declared.Table.the-variants.{Block}
+use Rattle.tables.proofs.Figures.{kept-columns}
+use Rattle.rows.specs.Rows.{wide}
+use Rattle.book.specs.Book.{Book}
+use Rattle.book.specs.Rules.{timeFault, unknown}
+use Rattle.book.specs.Questions.{ofType, total}
+use Rattle.book.specs.Room.{bookOf}
+use Rattle.book.specs.Keeping.{ranged, lawful, keepsRule}
+use Rattle.book.proofs.Keeping.{keeps-row}
+
+-- a lawful row ----------------------------------------------------------------------------------------------------------------------
+
+ranged-high : (xs : List Column) (ns : List ℕ) → ranged xs ns ≡ true → (i : ℕ) → i < length xs → getD ns i 0 ≤ getD xs i noColumn .rules .high
+unfolding ranged
+ranged-high [] ns e i h = absurd (omega arith)
+ranged-high (x ∷ xs) [] e i h = omega arith
+ranged-high (x ∷ xs) (n ∷ ns) e zero h =
+    leb-true n (x .rules .high) (and-right (leb (x .rules .low) n) (leb n (x .rules .high)) (and-left (inRange (x .rules) n) (ranged xs ns) e))
+ranged-high (x ∷ xs) (n ∷ ns) e (suc i) h = ranged-high xs ns (and-right (inRange (x .rules) n) (ranged xs ns) e) i (omega arith)
+
+module _ (t : Table) (b : Book) (row : Row) (law : lawful t b row ≡ true) where
+  abbrev rest : Bool
+  rest = same row (wide (take (keptWidth t) row))
+
+  abbrev inRanges : Bool
+  inRanges = ranged (columnsOf t) (take (keptWidth t) row)
+
+  three : (rest && inRanges && not (timeFault t row)) ≡ true
+  three = and-left (rest && inRanges && not (timeFault t row)) (passes (unknown t row b)) law
+
+  -- no number that is kept is above its column's range
+  pub lawful-high : (i : ℕ) → i < keptWidth t → getD row i 0 ≤ columnAt t i .rules .high
+  lawful-high i h =
+      let e : inRanges ≡ true = and-right rest inRanges (and-left (rest && inRanges) (not (timeFault t row)) three) in
+      rw (getD-take (keptWidth t) row i 0 h) at (ranged-high (columnsOf t) (take (keptWidth t) row) e i (omega (arith, kept-columns t)))
+
+  pub lawful-timely : timeFault t row ≡ false
+  lawful-timely = not-true (timeFault t row) (and-right (rest && inRanges) (not (timeFault t row)) three)
+
+-- "END below BEGIN" is refused, and END has six digits
+pub block-times : (xs : List Row) → keepsRule xs ≡ true → (i : ℕ) (row : Row) → i < length (bookOf xs .blocks) → row ≡ getD (bookOf xs .blocks) i []
+    → (getD row 7 0 ≤ getD row 10 0) × (getD row 10 0 ≤ 999999)
+unfolding columnsOf
+block-times xs k i row h e =
+    let law : lawful Block (bookOf xs) row ≡ true = rw e (keeps-row xs k Block i h) in
+    (ltb-false (getD row 10 0) (getD row 7 0) (lawful-timely Block (bookOf xs) row law), lawful-high Block (bookOf xs) row law 10 (omega arith))
+
+-- sums ---------------------------------------------------------------------------------------------------------------------------------
+
+pub type-other : (version type : ℕ) (row : Row) → (getD row 0 0 ≡ version → ⊥) → ofType version type row ≡ false
+type-other version type row n = rw (ne-eqb (getD row 0 0) version n)
+
+pub type-same : (version type : ℕ) (row : Row) → getD row 0 0 ≡ version → ofType version type row ≡ eqb (getD row 4 0) type
+type-same version type row e = rw (eq-eqb (getD row 0 0) version e)
+
+-- the first i of rows are summed up, and none of them weighs more than `most`
+pub record Summed (weight : Row → ℕ) (version type : ℕ) (rs : List Row) (most i sum : ℕ) : Type 0 where
+  pub bound : sum ≤ most * i
+  pub whole : total weight version type rs ≡ sum + total weight version type (drop i rs)
+
+module _ (weight : Row → ℕ) (version type : ℕ) (rs : List Row) (most : ℕ) where
+  pub summed-none : Summed weight version type rs most 0 0
+  summed-none = record { bound = omega arith; whole = omega arith }
+
+  share-most : (here : Bool) (w : ℕ) → (if here then w else 0) ≤ w
+  share-most true w = omega arith
+  share-most false w = omega arith
+
+  module _ (i sum : ℕ) (sofar : Summed weight version type rs most i sum) where
+    pub summed-next : i < length rs → (row : Row) → row ≡ getD rs i [] → (here : Bool) → here ≡ ofType version type row
+        → (d : ℕ) → d ≡ (if here then weight row else 0) → weight row ≤ most → Summed weight version type rs most (i + 1) (sum + d)
+    unfolding total
+    summed-next h row e here f d g m =
+        let l : d ≤ weight row = rw g (share-most here (weight row)) in
+        let p : most * (i + 1) ≡ most * i + most = rw (add-one i) (mul-suc most i) in
+        let s : total weight version type (drop i rs) ≡ d + total weight version type (drop (i + 1) rs) = rw (drop-step [] rs i h, g, f, e) in
+        record { bound = omega (arith, sofar .bound); whole = omega (arith, sofar .whole) }
+
+    pub summed-all : length rs ≤ i → sum ≡ total weight version type rs
+    unfolding total
+    summed-all h =
+        let z : total weight version type (drop i rs) ≡ 0 = rw (drop-of-length-le rs h) in
+        omega (arith, sofar .whole)

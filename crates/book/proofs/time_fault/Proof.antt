@@ -1,0 +1,49 @@
+-- `book::time_fault` meets its contract, table by table. Assumes nothing.
+use borrow.Author.Needs.{needs}
+use Rattle.book.proofs.time_fault.Statement.{statement}
+use Rattle.book.proofs.time_fault.Tie as tie
+
+enum-told : tie.Need-enum-told
+enum-told c = search needs
+
+enum-told-2 : tie.Need-enum-told-2
+enum-told-2 c = search needs
+
+enum-told-3 : tie.Need-enum-told-3
+enum-told-3 c = search needs
+
+enum-told-4 : tie.Need-enum-told-4
+enum-told-4 c = search needs
+
+array-read-result : tie.Need-array-read-result
+array-read-result c = search needs
+
+array-read-result-2 : tie.Need-array-read-result-2
+array-read-result-2 c = search needs
+
+returns : tie.Need-returns
+returns c = search needs
+
+returns-2 : tie.Need-returns-2
+returns-2 c = search needs
+
+returns-3 : tie.Need-returns-3
+returns-3 c = search needs
+
+returns-4 : tie.Need-returns-4
+returns-4 c = rw (c .enum-told4 .given .1)
+
+pub time-fault-spec : {M : Type 1} → statement M
+time-fault-spec =
+    tie.close
+    (tie.spec
+    enum-told
+    enum-told-2
+    enum-told-3
+    enum-told-4
+    array-read-result
+    array-read-result-2
+    returns
+    returns-2
+    returns-3
+    returns-4)

@@ -1,0 +1,45 @@
+-- The book.
+use mathlib.Core.List.{List, []}
+use mathlib.Core.Bool.{Bool}
+use lib.Dec.{leb}
+use lib.ListN.{length}
+use Rattle.words.specs.Words.{Row}
+use Rattle.tables.specs.Columns.{keyWidth}
+use Rattle.tables.specs.declared.Table.{Table}
+use Rattle.tables.specs.declared.Table.the-variants.{VehicleType, Depot, Stop, Block}
+use Rattle.rows.specs.Rows.{stands, inserted}
+
+-- "The book holds the keys of tables 1 to 3 and the 11 numbers of each block, rows by rising key"
+pub record Book : Type 0 where
+  pub types : List Row
+  pub depots : List Row
+  pub stops : List Row
+  pub blocks : List Row
+
+-- "an empty book, which is the book of four tables without rows"
+abbrev pub empty : Book
+empty = record { types = []; depots = []; stops = []; blocks = [] }
+
+abbrev pub rows : Table → Book → List Row
+rows VehicleType b = b .types
+rows Depot b = b .depots
+rows Stop b = b .stops
+rows Block b = b .blocks
+
+-- the book with other rows in one table
+abbrev pub with-rows : Table → List Row → Book → Book
+with-rows VehicleType xs b = record { types = xs; depots = b .depots; stops = b .stops; blocks = b .blocks }
+with-rows Depot xs b = record { types = b .types; depots = xs; stops = b .stops; blocks = b .blocks }
+with-rows Stop xs b = record { types = b .types; depots = b .depots; stops = xs; blocks = b .blocks }
+with-rows Block xs b = record { types = b .types; depots = b .depots; stops = b .stops; blocks = xs }
+
+-- the book with a row entered in a table
+abbrev pub entered : Table → Row → Book → Book
+entered t row b = with-rows t (inserted (keyWidth t) row (rows t b)) b
+
+abbrev pub knows : Table → Row → Book → Bool
+knows t row b = stands (keyWidth t) row (rows t b)
+
+-- "There are at most 512 rows in each table."
+abbrev pub full : Table → Book → Bool
+full t b = leb 512 (length (rows t b))

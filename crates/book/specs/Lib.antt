@@ -1,0 +1,7 @@
+-- The book, to be read in this order.
+pub mod Book
+pub mod Rules
+pub mod Questions
+pub mod Room
+pub mod Keeping
+pub mod Calls

@@ -1,0 +1,38 @@
+-- The rules that a row meets in its book.
+use mathlib.Core.List.{List, [], _∷_}
+use mathlib.Core.Bool.{Bool, true, false, not}
+use lib.Dec.{ltb}
+use Rattle.words.specs.Words.{Row}
+use Rattle.refusals.specs.Verdicts.{_⊳_, _when_, keyStands, noRow, endsEarly}
+use Rattle.refusals.specs.declared.Check.{Check}
+use Rattle.refusals.specs.declared.Check.the-variants.{Passes}
+use Rattle.tables.specs.Columns.{references}
+use Rattle.tables.specs.declared.Table.{Table}
+use Rattle.tables.specs.declared.Table.the-variants.{VehicleType, Depot, Stop, Block}
+use Rattle.tables.specs.declared.Reference.{Reference}
+use Rattle.rows.specs.Rows.{column}
+use Rattle.book.specs.Book.{Book, knows}
+
+-- 11: "END below BEGIN"
+abbrev pub timeFault : Table → Row → Bool
+timeFault VehicleType row = false
+timeFault Depot row = false
+timeFault Stop row = false
+timeFault Block row = ltb (column 11 row) (column 8 row)
+
+-- 10: "reference finds no row", at the first such column; "each together with VERSION"
+unfoldable pub unknownOf : List Reference → Row → Book → Check
+unknownOf [] row b = Passes
+unknownOf (x ∷ xs) row b =
+    noRow (x .column) when not (knows (x .to) (column 1 row ∷ column (x .column) row ∷ []) b)
+    ⊳ unknownOf xs row b
+
+abbrev pub unknown : Table → Row → Book → Check
+unknown t row b = unknownOf (references t) row b
+
+-- "11, 9, 10 by column number"
+abbrev pub ruled : Table → Row → Book → Check
+ruled t row b =
+    endsEarly when timeFault t row
+    ⊳ keyStands when knows t row b
+    ⊳ unknown t row b
