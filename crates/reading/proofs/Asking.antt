@@ -1,0 +1,404 @@
+-- The question for a cell: where its line begins, where it begins on its line, what is said of it, and the order of the checks. Assumes nothing.
+use mathlib.Core.Path.{_≡_, refl, ap, sym, _∙_}
+use mathlib.Core.List.{List, [], _∷_, _++_}
+use mathlib.Core.Bool.{Bool, true, false, _||_}
+use Prim.Native.Nat.{ℕ, zero, suc, _+_, _-_, _≤_, _<_}
+use native.Mathlib.Omega.{arith}
+use lib.Dec.{eqb, ltb}
+use lib.ListN.{length, take, drop, getD, length-take, length-drop, length-append}
+use borrow.Author.Tests.{eq-eqb, ne-eqb, eqb-true, eqb-false, lt-ltb, le-ltb, ltb-true, ltb-false}
+use Rattle.words.specs.Words.{Bytes, if_then_else_}
+use Rattle.refusals.specs.Verdicts.{_⊳_, _when_, _before_, place, placed, nowhere, inText, inHeader, notThere, textTooLong, tooManyCells, cellFault, quoteFault, cellCount}
+use Rattle.refusals.specs.declared.Check.{Check}
+use Rattle.refusals.specs.declared.Check.the-variants.{Passes, Fails}
+use Rattle.refusals.specs.declared.Verdict.{Verdict}
+use Rattle.refusals.specs.declared.Verdict.the-variants.{Accepted, Refused}
+use Rattle.refusals.specs.declared.Cell.{Cell}
+use Rattle.refusals.specs.declared.Cell.the-variants.{Number, Text, Empty}
+use Rattle.text.specs.Lines.{lines, headLine, lineStart, lineLength, lineRoom, lineAt, overlong}
+use Rattle.text.specs.Cells.{Cut, faulty, cells, cut, cellsOf, quoted, stretch, content}
+use Rattle.text.specs.Fields.{parted}
+use Rattle.text.specs.Marks.{startsFrom, padded, marked}
+use Rattle.text.specs.Numbers.{value}
+use Rattle.text.specs.declared.Line.{Line}
+use Rattle.text.proofs.Lining.{line-start, head-line, start-step, start-le, start-within, start-past, length-room, room-le}
+use Rattle.text.proofs.Cutting.{cells-parted}
+use Rattle.text.proofs.Contents.{content-le, quoted-some}
+use Rattle.text.proofs.Marking.{Stands, getD-padded, length-starts}
+use Rattle.tables.specs.Columns.{columnsOf, columnAt, number, numbered, breaks}
+use Rattle.tables.specs.Values.{cellCheck, kept, valueOf}
+use Rattle.tables.proofs.Values.{column-narrow}
+use Rattle.tables.specs.declared.Table.{Table}
+use Rattle.tables.specs.declared.Rules.{Rules}
+use Rattle.tables.specs.declared.Named.{Named}
+use Rattle.tables.specs.declared.Named.the-variants.{Known, Unknown}
+use Rattle.tables.specs.declared.Sort.{Sort}
+use Rattle.tables.specs.declared.Sort.the-variants as sort-is
+use Rattle.tables.specs.declared.Value.{Value}
+use Rattle.tables.specs.declared.Value.the-variants as value-is
+use Rattle.reading.specs.Header.{Header, header, badCut, headerCheck, cutCheck, under, offset}
+use Rattle.reading.specs.Reading.{headerOf, topFaults}
+use Rattle.reading.specs.Heading.{placeFrom, places, headed, heading, cellNumbered, KeptOf, MarksOf}
+use Rattle.reading.specs.declared.Heading.{Heading}
+use Rattle.reading.specs.CellQuestion.{answered, said, cellSaid, cutAt, cellAt, cellStart, cellVerdict, tableCell, askedOf, cellAsked, stretchOf}
+use Rattle.reading.specs.Asking.{cellJudged, rowAnswer}
+use Rattle.reading.specs.declared.CellAnswer.{CellAnswer}
+use Rattle.reading.proofs.Columns.{markAt, cell-marked, place-above, under-numbered, line-faulty, line-count, line-cells}
+use Rattle.reading.proofs.Names.{place-at}
+
+-- answers ----------------------------------------------------------------------------------------------------------------------
+
+-- a refusal says the same of every cell
+pub refused-answer : (fault : Check) (table line : ℕ) (v : Verdict) → v ≡ placed table line fault → (n k : ℕ) (c : Cell) → fault ≡ Fails n k
+    → _≡_ {A = CellAnswer} (record { verdict = v; cell = Empty }) (answered (placed table line (Fails n k)) c)
+refused-answer fault table line v e n k c f = rw (e, f)
+
+-- a fault at a column, answered on a line of a table
+pub fault-answer : (line : ℕ) (r : CellAnswer) (fault : Check) (table t n k j : ℕ)
+    → ((m i : ℕ) (c : Cell) → fault ≡ Fails m i → r ≡ answered (placed table line (Fails m i)) c)
+    → fault ≡ Fails n k → k ≡ j → table ≡ t → r ≡ answered (placed t line (Fails n j)) Empty
+fault-answer line r fault table t n k j is e p q = is n k Empty e ∙ rw (p, q)
+
+-- a decimal column is no wider than 64 bits
+pub narrow-rules : (t : Table) (i : ℕ) (x : Rules) → x ≡ columnAt t i .rules → x .sort ≡ sort-is.Decimal → x .width ≤ 19
+narrow-rules t i x e = rw e (column-narrow t i)
+
+-- what is said of a cell by the value that it has to its column
+module _ (n line k at : ℕ) (cell : Bytes) where
+  abbrev pub answeredBy : Value → CellAnswer
+  answeredBy (value-is.Number v) = answered Accepted (Number v)
+  answeredBy value-is.Text = answered Accepted (said sort-is.Text at cell)
+  answeredBy value-is.Empty = answered Accepted Empty
+  answeredBy value-is.Bad = answered (placed n line (cellFault k)) Empty
+
+  by-value : (x : Rules) → answered (placed n line (cellCheck k x (content cell))) (cellSaid (x .sort) at cell) ≡ answeredBy (valueOf x (content cell))
+  by-value x = go (breaks x (content cell)) (x .sort) (eqb (length (content cell)) 0) refl
+    where
+      go : (b : Bool) (sort : Sort) (z : Bool) → eqb (length (content cell)) 0 ≡ z
+          → answered (placed n line (cellFault k when b)) (cellSaid sort at cell) ≡ answeredBy (if b then value-is.Bad else kept sort (content cell))
+      go true sort z e = refl
+      go false sort-is.Decimal true e = rw e
+      go false sort-is.Decimal false e = rw e
+      go false sort-is.Text true e = rw e
+      go false sort-is.Text false e = rw e
+
+pub judged-by : (t : Table) (line k at : ℕ) (cell : Bytes) (x : Rules) (v w : Value) → x ≡ columnAt t (k - 1) .rules → v ≡ valueOf x (content cell) → v ≡ w
+    → answeredBy (number t) line k at cell w ≡ cellJudged t line k at cell
+unfolding cellJudged
+judged-by t line k at cell x v w e f g =
+    rw (← g, f, ← e) (sym (by-value (number t) line k at cell x))
+
+-- a text is its stretch, by the stretch's length
+stretch-length : (cell : Bytes) → quoted cell ≡ true → length (stretch cell) ≡ length cell - 2
+stretch-length cell q = rw q (simp (length-take, length-drop) (omega arith))
+
+pub said-quoted : (cell : Bytes) (at from len : ℕ) → quoted cell ≡ true → from ≡ at + 1 → len ≡ length (stretch cell) → Text from len ≡ said sort-is.Text at cell
+said-quoted cell at from len q e f = rw (f, stretch-length cell q, e, q)
+
+pub said-bare : (cell : Bytes) (at from len : ℕ) → quoted cell ≡ false → from ≡ at → len ≡ length (stretch cell) → Text from len ≡ said sort-is.Text at cell
+said-bare cell at from len q e f = rw (f, e, q)
+
+-- where a line begins -----------------------------------------------------------------------------------------------------------
+
+pub start-first : (s : Bytes) → 0 ≡ lineStart 1 s
+unfolding lineStart
+start-first s = refl
+
+-- behind the text's end no line begins
+pub start-stays : (i d : ℕ) (s : Bytes) → 1 ≤ i → length s ≤ lineStart i s → lineStart (i + d) s ≡ lineStart i s
+start-stays i zero s h l = let e : i + 0 ≡ i = omega arith in rw e
+start-stays i (suc d) s h l =
+    let e : i + suc d ≡ i + d + 1 = omega arith in
+    let f : lineStart (i + d) s ≡ lineStart i s = start-stays i d s h l in
+    rw e (omega (arith, start-step (i + d) s (omega arith), start-le (i + d + 1) s))
+
+pub start-behind : (i line : ℕ) (s : Bytes) → 1 ≤ i → i ≤ line → length s ≤ lineStart i s → lineStart i s ≡ lineStart line s
+start-behind i line s h g l = let e : i + (line - i) ≡ line = omega arith in sym (rw e at (start-stays i (line - i) s h l))
+
+pub start-next : (i : ℕ) (s : Bytes) (at : ℕ) (r : Line) → 1 ≤ i → at ≡ lineStart i s → r ≡ lineAt s at → r .next ≡ lineStart (i + 1) s
+start-next i s at r h e f = rw (f, e) (sym (start-step i s h))
+
+-- where a cell begins on its line -----------------------------------------------------------------------------------------------
+
+offset-from : (i k b : ℕ) (h : Header) (cs : List Bytes) → length cs ≡ length h → (placeFrom i k h ≡ 0 → ⊥) → getD (startsFrom b cs) (placeFrom i k h - suc i) 0 ≡ b + offset k h cs
+unfolding placeFrom offset startsFrom
+offset-from i k b [] cs l n = absurd (n refl)
+offset-from i k b (x ∷ xs) [] l n = absurd (omega arith)
+offset-from i k b (x ∷ xs) (c ∷ cs) l n = go (eqb k x) n (offset-from (suc i) k (b + length c + 1) xs cs (omega arith))
+  where
+    go : (q : Bool) → ((if q then suc i else placeFrom (suc i) k xs) ≡ 0 → ⊥) → ((placeFrom (suc i) k xs ≡ 0 → ⊥) → getD (startsFrom (b + length c + 1) cs) (placeFrom (suc i) k xs - suc (suc i)) 0 ≡ b + length c + 1 + offset k xs cs)
+        → getD (b ∷ startsFrom (b + length c + 1) cs) ((if q then suc i else placeFrom (suc i) k xs) - suc i) 0 ≡ b + (if q then 0 else length c + 1 + offset k xs cs)
+    go true m ih = let e : suc i - suc i ≡ 0 = omega arith in rw e (omega arith)
+    go false m ih =
+        let l : suc (suc i) ≤ placeFrom (suc i) k xs = place-above (suc i) k xs m in
+        let e : placeFrom (suc i) k xs - suc i ≡ suc (placeFrom (suc i) k xs - suc (suc i)) = omega arith in
+        rw e (ih m ∙ omega arith)
+
+place-most : (i k : ℕ) (h : Header) → placeFrom i k h ≤ i + length h
+unfolding placeFrom
+place-most i k [] = omega arith
+place-most i k (x ∷ xs) = go (eqb k x) (place-most (suc i) k xs)
+  where
+    go : (q : Bool) → placeFrom (suc i) k xs ≤ suc i + length xs → (if q then suc i else placeFrom (suc i) k xs) ≤ i + suc (length xs)
+    go true ih = omega arith
+    go false ih = omega arith
+
+-- it is the mark of the cell that the header names for the column
+pub offset-marked : (k : ℕ) (h : Header) (cs : List Bytes) → length cs ≡ length h → length h ≤ 32 → (placeFrom 0 k h ≡ 0 → ⊥) → markAt (padded 32 (startsFrom 0 cs)) (placeFrom 0 k h) ≡ offset k h cs
+offset-marked k h cs e l n =
+    let a : 1 ≤ placeFrom 0 k h = place-above 0 k h n in
+    let m : placeFrom 0 k h ≤ length h = omega (arith, place-most 0 k h) in
+    rw (ne-eqb (placeFrom 0 k h) 0 n, le-ltb 32 (placeFrom 0 k h) (omega arith), getD-padded 32 (startsFrom 0 cs) (placeFrom 0 k h - 1) (omega arith) (rw length-starts (omega arith)))
+    (offset-from 0 k 0 h cs e n ∙ omega arith)
+
+said-empty : (sort : Sort) (a b : ℕ) (cell : Bytes) → cell ≡ [] → cellSaid sort a cell ≡ cellSaid sort b cell
+said-empty sort a b cell e = rw e
+
+-- a column that the header lacks has an empty cell, of which nothing is said wherever it begins
+pub said-marked : (sort : Sort) (begin k : ℕ) (h : Header) (cs : List Bytes) → length cs ≡ length h → length h ≤ 32
+    → cellSaid sort (begin + markAt (padded 32 (startsFrom 0 cs)) (placeFrom 0 k h)) (under k h cs) ≡ cellSaid sort (begin + offset k h cs) (under k h cs)
+said-marked sort begin k h cs e l = go (eqb (placeFrom 0 k h) 0) refl
+  where
+    go : (z : Bool) → eqb (placeFrom 0 k h) 0 ≡ z → cellSaid sort (begin + markAt (padded 32 (startsFrom 0 cs)) (placeFrom 0 k h)) (under k h cs) ≡ cellSaid sort (begin + offset k h cs) (under k h cs)
+    go true q = said-empty sort (begin + markAt (padded 32 (startsFrom 0 cs)) (placeFrom 0 k h)) (begin + offset k h cs) (under k h cs) (under-numbered k h cs ∙ rw q)
+    go false q = ap (λ (o : ℕ). cellSaid sort (begin + o) (under k h cs)) (offset-marked k h cs e l (eqb-false (placeFrom 0 k h) 0 q))
+
+-- no mark lies behind its line
+pub mark-within : (line : Bytes) (start end : List ℕ) (n : ℕ) → MarksOf line start end → markAt start n ≤ length line
+mark-within line start end n m =
+    let p : Stands line (markAt start n) (markAt end n) (cellNumbered n (cellsOf (cut line))) = cell-marked line start end n m in
+    omega (arith, p .ordered, p .inside)
+
+-- a row ---------------------------------------------------------------------------------------------------------------------------
+
+-- 6 and 7 of a row, before its cell is looked at
+module _ (t : Table) (h : Header) (line k begin : ℕ) (row : Bytes) where
+  abbrev rowCell : Bytes
+  rowCell = under k h (cellsOf (cut row))
+
+  abbrev rowCheck : Check
+  rowCheck = cellCheck k (columnAt t (k - 1) .rules) (content rowCell)
+
+  abbrev rowSaid : ℕ → Cell
+  rowSaid at = cellSaid (columnAt t (k - 1) .rules .sort) at rowCell
+
+  row-checked : (c : Check) → (cutCheck h (cut row) ⊳ rowCheck) ≡ c → rowAnswer t h line k begin row ≡ answered (placed (number t) line c) (rowSaid (begin + offset k h (cellsOf (cut row))))
+  unfolding rowAnswer
+  row-checked c e = ap (λ (q : Check). answered (placed (number t) line q) (rowSaid (begin + offset k h (cellsOf (cut row))))) e
+
+  pub row-faulty : (n : ℕ) → cut row ≡ faulty n → answered (placed (number t) line (quoteFault n)) Empty ≡ rowAnswer t h line k begin row
+  row-faulty n e = sym (row-checked (quoteFault n) (line-faulty h row rowCheck n e))
+
+  module _ (e : cut row ≡ cells (cellsOf (cut row))) where
+    pub row-count : (length (cellsOf (cut row)) ≡ length h → ⊥) → answered (placed (number t) line cellCount) Empty ≡ rowAnswer t h line k begin row
+    row-count n = sym (row-checked cellCount (line-count h row rowCheck e n))
+
+    pub row-cell : (at start : List ℕ) (m from : ℕ) → length (cellsOf (cut row)) ≡ length h → length h ≤ 32 → at ≡ places h → start ≡ marked (cut row) .start → 1 ≤ k → k < 12 → m ≡ getD at k 0 → from ≡ begin + markAt start m
+        → cellJudged t line k from (cellNumbered m (cellsOf (cut row))) ≡ rowAnswer t h line k begin row
+    unfolding cellJudged
+    row-cell at start m from n few a s low high p q =
+        let cs : List Bytes = cellsOf (cut row) in
+        let d : k - 1 + 1 ≡ k = omega arith in
+        let o : m ≡ placeFrom 0 k h = p ∙ rw a (rw d at (place-at h (k - 1) (omega arith))) in
+        let u : cellNumbered m cs ≡ rowCell = rw o (sym (under-numbered k h cs)) in
+        let b : start ≡ padded 32 (startsFrom 0 cs) = s ∙ ap (λ (x : Cut). marked x .start) e in
+        let g : from ≡ begin + markAt (padded 32 (startsFrom 0 cs)) (placeFrom 0 k h) = q ∙ rw (b, o) in
+        let f : rowSaid from ≡ rowSaid (begin + offset k h cs) = ap rowSaid g ∙ said-marked (columnAt t (k - 1) .rules .sort) begin k h cs n few in
+        ap (λ (c : Bytes). answered (placed (number t) line (cellCheck k (columnAt t (k - 1) .rules) (content c))) (cellSaid (columnAt t (k - 1) .rules .sort) from c)) u
+        ∙ ap (λ (c : Cell). answered (placed (number t) line rowCheck) c) f
+        ∙ sym (row-checked rowCheck (line-cells h row rowCheck e n))
+
+pub part-length : (s : Bytes) (a e : ℕ) → e ≤ length s → length (take (e - a) (drop a s)) ≡ e - a
+part-length s a e l = simp (length-take, length-drop) (omega arith)
+
+-- a line is the part of its text from where it begins to where it ends
+pub line-row : (line : ℕ) (s : Bytes) (begin : ℕ) (r : Line) → 1 ≤ line → begin ≡ lineStart line s → r ≡ lineAt s begin → take (r .end - begin) (drop begin s) ≡ getD (lines s) (line - 1) []
+line-row line s begin r h e f =
+    let z : r .end - begin ≡ lineLength (drop begin s) = ap (λ (x : Line). x .end - begin) f ∙ omega arith in
+    rw (z, e) (sym (line-start line s h))
+
+pub head-row : (s : Bytes) (r : Line) → r ≡ lineAt s 0 → take (r .end - 0) (drop 0 s) ≡ headLine (lines s)
+head-row s r f =
+    let z : r .end - 0 ≡ lineLength s = ap (λ (x : Line). x .end - 0) f ∙ omega arith in
+    rw z (sym (head-line s))
+
+pub head-within : (s : Bytes) (r : Line) → r ≡ lineAt s 0 → r .end ≤ length s
+head-within s r f =
+    let z : r .end ≡ 0 + lineLength s = ap (λ (x : Line). x .end) f in
+    omega (arith, length-room s, room-le s)
+
+-- a header ------------------------------------------------------------------------------------------------------------------------
+
+headed-check : (c : Check) (h : Header) → headed c h .check ≡ c
+headed-check Passes h = refl
+headed-check (Fails n k) h = refl
+
+module _ (t : Table) (line : Bytes) (g : Heading) (is : g ≡ heading t line) where
+  pub heading-check : g .check ≡ headerCheck t line
+  heading-check = ap (λ (x : Heading). x .check) is ∙ headed-check (headerCheck t line) (header t (cellsOf (cut line)))
+
+  module _ (passing : g .check ≡ Passes) where
+    whole : g ≡ headed Passes (header t (cellsOf (cut line)))
+    whole = is ∙ ap (λ (c : Check). headed c (header t (cellsOf (cut line)))) (sym heading-check ∙ passing)
+
+    pub heading-kept : KeptOf (header t (cellsOf (cut line))) (g .cells) (g .at)
+    heading-kept = record { count = ap (λ (x : Heading). x .cells) whole; spots = ap (λ (x : Heading). x .at) whole }
+
+    pub heading-few : g .cells ≤ 32
+    unfolding headerCheck
+    heading-few = rw (ap (λ (x : Heading). x .cells) whole) (ltb-false 32 (length (header t (cellsOf (cut line)))) (few (badCut (cut line)) (ltb 32 (length (header t (cellsOf (cut line))))) _ (sym heading-check ∙ passing)))
+      where
+        few : (a : Check) (b : Bool) (d : Check) → (a ⊳ (tooManyCells when b) ⊳ d) ≡ Passes → b ≡ false
+        few Passes true d e = cc
+        few Passes false d e = refl
+        few (Fails n k) b d e = cc
+
+-- the order of the checks ---------------------------------------------------------------------------------------------------------
+
+module _ (t : Table) (s : Bytes) (line k : ℕ) where
+  pub column-zero : k ≡ 0 → answered (nowhere notThere) Empty ≡ tableCell t s line k
+  unfolding tableCell cellVerdict
+  column-zero e = rw (eq-eqb k 0 e)
+
+  pub column-past : (k ≡ 0 → ⊥) → length (columnsOf t) < k → answered (nowhere notThere) Empty ≡ tableCell t s line k
+  unfolding tableCell cellVerdict
+  column-past n l = rw (ne-eqb k 0 n, lt-ltb (length (columnsOf t)) k l)
+
+  module _ (some : k ≡ 0 → ⊥) (known : k ≤ length (columnsOf t)) where
+    behind-column : (v : Verdict) → topFaults t s ≡ v → tableCell t s line k
+        ≡ answered (v before nowhere (notThere when (ltb line 2 || ltb (length (lines s)) line)) before placed (number t) line (cutCheck (headerOf t s) (cutAt line s) ⊳ cellCheck k (columnAt t (k - 1) .rules) (content (cellAt t s line k))))
+        (cellSaid (columnAt t (k - 1) .rules .sort) (cellStart t s line k) (cellAt t s line k))
+    unfolding tableCell cellVerdict
+    behind-column v e = rw (ne-eqb k 0 some, le-ltb (length (columnsOf t)) k known, e)
+
+    pub text-long : 65536 < length s → answered (inText (number t) textTooLong) Empty ≡ tableCell t s line k
+    text-long l = sym (behind-column (inText (number t) textTooLong) (rw (lt-ltb 65536 (length s) l)))
+
+    pub header-faults : length s ≤ 65536 → (n c : ℕ) → headerCheck t (headLine (lines s)) ≡ Fails n c → answered (inHeader (number t) (Fails n c)) Empty ≡ tableCell t s line k
+    header-faults l n c e = sym (behind-column (inHeader (number t) (Fails n c)) (rw (le-ltb 65536 (length s) l, e)))
+
+    module _ (top : topFaults t s ≡ Accepted) where
+      pub line-low : line < 2 → answered (nowhere notThere) Empty ≡ tableCell t s line k
+      line-low l = sym (behind-column Accepted top ∙ rw (lt-ltb line 2 l))
+
+      module _ (row : 2 ≤ line) where
+        last-line : lineStart (suc (line - 1)) s ≡ lineStart line s
+        last-line = let e : suc (line - 1) ≡ line = omega arith in rw e
+
+        pub line-past : length s ≤ lineStart line s → answered (nowhere notThere) Empty ≡ tableCell t s line k
+        line-past l = go (ltb (length (lines s)) line) refl
+          where
+            go : (b : Bool) → ltb (length (lines s)) line ≡ b → answered (nowhere notThere) Empty ≡ tableCell t s line k
+            go true q = sym (behind-column Accepted top ∙ rw (le-ltb line 2 row, q))
+            go false q =
+                let m : line ≤ length (lines s) = ltb-false (length (lines s)) line q in
+                absurd (omega (arith, start-within (line - 1) s (omega arith), last-line))
+
+        pub line-here : lineStart line s < length s → rowAnswer t (headerOf t s) line k (lineStart line s) (getD (lines s) (line - 1) []) ≡ tableCell t s line k
+        unfolding rowAnswer
+        line-here l = go (ltb (length (lines s)) line) refl
+          where
+            go : (b : Bool) → ltb (length (lines s)) line ≡ b → rowAnswer t (headerOf t s) line k (lineStart line s) (getD (lines s) (line - 1) []) ≡ tableCell t s line k
+            go false q = sym (behind-column Accepted top ∙ rw (le-ltb line 2 row, q))
+            go true q =
+                let m : length (lines s) < line = ltb-true (length (lines s)) line q in
+                absurd (omega (arith, start-past (line - 1) s (omega arith), last-line))
+
+pub top-passes : (t : Table) (s : Bytes) → length s ≤ 65536 → headerCheck t (headLine (lines s)) ≡ Passes → topFaults t s ≡ Accepted
+top-passes t s l e = rw (le-ltb 65536 (length s) l, e)
+
+module _ (s : Bytes) (table line k : ℕ) (n : Named) (e : n ≡ numbered table) where
+  pub asked-known : (t : Table) → n ≡ Known t → tableCell t s line k ≡ cellAsked s table line k
+  unfolding cellAsked
+  asked-known t g = ap (λ (z : Named). askedOf z s line k) (sym g ∙ e)
+
+  pub asked-unknown : n ≡ Unknown → answered (nowhere notThere) Empty ≡ cellAsked s table line k
+  unfolding cellAsked
+  asked-unknown g = ap (λ (z : Named). askedOf z s line k) (sym g ∙ e)
+
+-- the stretch ---------------------------------------------------------------------------------------------------------------------
+
+under-none : (k : ℕ) (h : Header) → length (under k h []) ≡ 0
+unfolding under
+under-none k [] = refl
+under-none k (x ∷ xs) = refl
+
+-- a cell that is not empty lies within its line
+offset-inside : (k : ℕ) (h : Header) (cs : List Bytes) → 0 < length (under k h cs) → offset k h cs + length (under k h cs) ≤ length (parted 59 cs)
+unfolding offset under parted
+offset-inside k [] cs p = absurd (omega arith)
+offset-inside k (x ∷ xs) [] p = absurd (omega arith)
+offset-inside k (x ∷ xs) (c ∷ []) p = go (eqb k x) p
+  where
+    go : (q : Bool) → 0 < length (if q then c else under k xs []) → (if q then 0 else length c + 1 + offset k xs []) + length (if q then c else under k xs []) ≤ length c
+    go true p = omega arith
+    go false p = absurd (omega (arith, under-none k xs))
+offset-inside k (x ∷ xs) (c ∷ (e ∷ es)) p = rw length-append (go (eqb k x) p (offset-inside k xs (e ∷ es)))
+  where
+    go : (q : Bool) → 0 < length (if q then c else under k xs (e ∷ es)) → (0 < length (under k xs (e ∷ es)) → offset k xs (e ∷ es) + length (under k xs (e ∷ es)) ≤ length (parted 59 (e ∷ es)))
+        → (if q then 0 else length c + 1 + offset k xs (e ∷ es)) + length (if q then c else under k xs (e ∷ es)) ≤ length c + suc (length (parted 59 (e ∷ es)))
+    go true p ih = omega arith
+    go false p ih = omega (arith, ih p)
+
+row-inside : (k : ℕ) (h : Header) (row : Bytes) → 0 < length (under k h (cellsOf (cut row))) → offset k h (cellsOf (cut row)) + length (under k h (cellsOf (cut row))) ≤ length row
+row-inside k h row = go (cut row) refl
+  where
+    go : (u : Cut) → cut row ≡ u → 0 < length (under k h (cellsOf u)) → offset k h (cellsOf u) + length (under k h (cellsOf u)) ≤ length row
+    go (faulty n) e p = absurd (omega (arith, under-none k h))
+    go (cells cs) e p = omega (arith, offset-inside k h cs p, ap length (cells-parted row cs e))
+
+inside-from : (i : ℕ) (s : Bytes) → lineStart (suc i) s + length (getD (lines s) (suc i - 1) []) ≤ length s
+inside-from i s = rw (line-start (suc i) s (omega arith)) (simp (length-take, length-drop) (omega (arith, start-le (suc i) s)))
+
+line-inside : (line : ℕ) (s : Bytes) → lineStart line s + length (getD (lines s) (line - 1) []) ≤ length s
+unfolding lineStart
+line-inside zero s = inside-from 0 s
+line-inside (suc i) s = inside-from i s
+
+-- so does a text, with or without its quotes
+said-inside : (s cell : Bytes) (sort : Sort) (at start len : ℕ) → (0 < length cell → at + length cell ≤ length s) → cellSaid sort at cell ≡ Text start len → start + len ≤ length s
+said-inside s cell sort at start len h = go (eqb (length (content cell)) 0) refl sort (quoted cell) refl
+  where
+    go : (z : Bool) → eqb (length (content cell)) 0 ≡ z → (x : Sort) (q : Bool) → quoted cell ≡ q
+        → (if z then Empty else said x at cell) ≡ Text start len → start + len ≤ length s
+    go true e x q f g = let z : _≡_ {A = ℕ} 0 1 = cc in absurd (omega arith)
+    go false e sort-is.Decimal q f g = let z : _≡_ {A = ℕ} 0 1 = cc in absurd (omega arith)
+    go false e sort-is.Text true f g =
+        let w : Text (at + 1) (length cell - 2) ≡ Text start len = rw f at g in
+        let a : at + 1 ≡ start = cc in
+        let b : length cell - 2 ≡ len = cc in
+        let p : 0 < length cell = quoted-some cell f in
+        omega (arith, h p)
+    go false e sort-is.Text false f g =
+        let w : Text at (length cell) ≡ Text start len = rw f at g in
+        let a : at ≡ start = cc in
+        let b : length cell ≡ len = cc in
+        let p : 0 < length cell = omega (arith, eqb-false (length (content cell)) 0 e, content-le cell) in
+        omega (arith, h p)
+
+answered-text : (v : Verdict) (c : Cell) (start len : ℕ) → answered v c .cell ≡ Text start len → c ≡ Text start len
+answered-text Accepted c start len e = e
+answered-text (Refused p) c start len e = cc
+
+-- the stretch that an answer names lies within the text
+pub stretch-inside : (s : Bytes) (table line k start len : ℕ) → cellAsked s table line k .cell ≡ Text start len → start + len ≤ length s
+unfolding cellAsked tableCell
+stretch-inside s table line k start len = go (numbered table)
+  where
+    go : (n : Named) → askedOf n s line k .cell ≡ Text start len → start + len ≤ length s
+    go Unknown e = let z : _≡_ {A = ℕ} 0 1 = cc in absurd (omega arith)
+    go (Known t) e =
+        let row : Bytes = getD (lines s) (line - 1) [] in
+        let cell : Bytes = cellAt t s line k in
+        said-inside s cell (columnAt t (k - 1) .rules .sort) (cellStart t s line k) start len
+        (λ p. omega (arith, row-inside k (headerOf t s) row p, line-inside line s))
+        (answered-text (cellVerdict t s line k) (cellSaid (columnAt t (k - 1) .rules .sort) (cellStart t s line k) cell) start len e)
+
+-- the part of the text that is handed back
+pub stretch-empty : (s : Bytes) (d c : Cell) → c ≡ d → stretchOf s d ≡ [] → take (0 - 0) (drop 0 s) ≡ stretchOf s c
+stretch-empty s d c e f = sym (ap (stretchOf s) e ∙ f)
+
+pub stretch-part : (s : Bytes) (start len : ℕ) (c : Cell) → c ≡ Text start len → take (start + len - start) (drop start s) ≡ stretchOf s c
+stretch-part s start len c e =
+    let n : start + len - start ≡ len = omega arith in
+    rw (e, n)

@@ -1,0 +1,204 @@
+-- The cell of a number on a line, the cell of a column and its content, and the checks of a line. Assumes nothing.
+use mathlib.Core.Path.{_≡_, refl, ap, sym, _∙_}
+use mathlib.Core.List.{List, [], _∷_}
+use mathlib.Core.Bool.{Bool, true, false}
+use Prim.Native.Nat.{ℕ, zero, suc, _+_, _-_, _≤_, _<_}
+use native.Mathlib.Omega.{arith}
+use lib.Dec.{eqb, ltb}
+use lib.ListN.{length, drop, getD, replicate, List·getD-eq-default, drop-of-length-le}
+use borrow.Author.Tests.{eq-eqb, ne-eqb, eqb-false, lt-ltb, ltb-true, ltb-false}
+use Rattle.words.specs.Words.{Bytes, if_then_else_}
+use Rattle.words.proofs.Lists.{drop-step}
+use Rattle.refusals.specs.Verdicts.{_⊳_, _when_, quoteFault, cellCount, cellFault}
+use Rattle.refusals.specs.declared.Check.{Check}
+use Rattle.refusals.specs.declared.Check.the-variants.{Passes, Fails}
+use Rattle.text.specs.Cells.{Cut, faulty, cells, cut, cellsOf, content}
+use Rattle.text.specs.Marks.{startsFrom, endsFrom, padded, marked}
+use Rattle.text.specs.declared.Answer.the-variants.{Good}
+use Rattle.text.specs.declared.Cells.{Cells}
+use Rattle.text.proofs.Marking.{Stands, cell-stands, length-starts, length-ends, good-count}
+use Rattle.text.proofs.Cutting.{faulty-from-one}
+use Rattle.tables.specs.declared.Table.{Table}
+use Rattle.tables.specs.declared.Rules.{Rules}
+use Rattle.tables.specs.Columns.{Column, columnsOf, noColumn, breaks}
+use Rattle.tables.specs.Values.{cellCheck}
+use Rattle.tables.proofs.Figures.{columns-few}
+use Rattle.reading.specs.Header.{Header, cutCheck, under, contentsFrom, contents}
+use Rattle.reading.specs.Reading.{badCell}
+use Rattle.reading.specs.Heading.{placeFrom, places, cellNumbered, MarksOf}
+use Rattle.reading.proofs.Names.{place-at}
+
+-- of two checks
+pub first-passes : (a b : Check) → (a ⊳ b) ≡ Passes → a ≡ Passes
+first-passes Passes b e = refl
+first-passes (Fails n k) b e = e
+
+pub second-passes : (a b : Check) → (a ⊳ b) ≡ Passes → b ≡ Passes
+second-passes Passes b e = e
+second-passes (Fails n k) b e = cc
+
+pub check-order : (a b c : Check) → ((a ⊳ b) ⊳ c) ≡ (a ⊳ (b ⊳ c))
+check-order Passes b c = refl
+check-order (Fails n k) b c = refl
+
+-- marks ----------------------------------------------------------------------------------------------------------------------
+
+zero-past : (n k : ℕ) → _≡_ {A = ℕ} (getD (replicate n 0) k 0) 0
+zero-past zero k = refl
+zero-past (suc n) zero = refl
+zero-past (suc n) (suc k) = zero-past n k
+
+pub padded-past : (room : ℕ) (xs : List ℕ) (k : ℕ) → length xs ≤ k → getD (padded room xs) k 0 ≡ 0
+padded-past zero xs k l = zero-past (0 - length xs) k
+padded-past (suc room) [] k l = zero-past (suc room - 0) k
+padded-past (suc room) (x ∷ xs) zero l = absurd (omega arith)
+padded-past (suc room) (x ∷ xs) (suc k) l =
+    let a : suc room - suc (length xs) ≡ room - length xs = omega arith in
+    rw a (padded-past room xs k (omega arith))
+
+nowhere : (line : Bytes) → Stands line 0 0 []
+nowhere line = record { ordered = omega arith; inside = omega arith; there = refl }
+
+-- a mark by the number of its cell, of which there are at most 32
+abbrev pub markAt : List ℕ → ℕ → ℕ
+markAt marks n = if eqb n 0 then 0 else if ltb 32 n then 0 else getD marks (n - 1) 0
+
+behind-last : (line : Bytes) (u : Cut) (k : ℕ) → length (cellsOf u) ≤ k → Stands line (getD (marked u .start) k 0) (getD (marked u .end) k 0) (getD (cellsOf u) k [])
+behind-last line (faulty n) k l = rw (zero-past 32 k) (nowhere line)
+behind-last line (cells cs) k l =
+    rw (padded-past 32 (startsFrom 0 cs) k (rw length-starts l), padded-past 32 (endsFrom 0 cs) k (rw length-ends l), List·getD-eq-default cs [] {n = k} l) (nowhere line)
+
+good-answer : (u : Cut) (k : ℕ) → k < length (cellsOf u) → marked u .answer ≡ Good (length (cellsOf u))
+good-answer (faulty n) k l = absurd (omega arith)
+good-answer (cells cs) k l = refl
+
+pub cell-marked : (line : Bytes) (start end : List ℕ) (n : ℕ) → MarksOf line start end → Stands line (markAt start n) (markAt end n) (cellNumbered n (cellsOf (cut line)))
+cell-marked line start end n m = go (eqb n 0) (ltb 32 n) (ltb (n - 1) (length (cellsOf (cut line)))) refl refl
+  where
+    go : (z w b : Bool) → ltb 32 n ≡ w → ltb (n - 1) (length (cellsOf (cut line))) ≡ b
+        → Stands line (if z then 0 else if w then 0 else getD start (n - 1) 0) (if z then 0 else if w then 0 else getD end (n - 1) 0) (if z then [] else getD (cellsOf (cut line)) (n - 1) [])
+    go true w b p q = nowhere line
+    go false true b p q =
+        let l : 32 < n = ltb-true 32 n p in
+        rw (List·getD-eq-default (cellsOf (cut line)) [] {n = n - 1} (omega (arith, m .few))) (nowhere line)
+    go false false true p q =
+        let l : n - 1 < length (cellsOf (cut line)) = ltb-true (n - 1) (length (cellsOf (cut line))) q in
+        rw (m .starts, m .ends) (cell-stands line (marked (cut line)) (length (cellsOf (cut line))) (n - 1) refl (good-answer (cut line) (n - 1) l) l (omega (arith, m .few)))
+    go false false false p q = rw (m .starts, m .ends) (behind-last line (cut line) (n - 1) (ltb-false (n - 1) (length (cellsOf (cut line))) q))
+
+-- the marks of a line whose cells are counted
+pub marks-of : (line : Bytes) (r : Cells) (m : ℕ) → r ≡ marked (cut line) → r .answer ≡ Good m → m ≤ 32 → MarksOf line (r .start) (r .end)
+marks-of line r m e g l =
+    record {
+      starts = ap (λ (x : Cells). x .start) e;
+      ends = ap (λ (x : Cells). x .end) e;
+      few = omega (arith, good-count (cut line) r m e g);
+    }
+
+-- the cell of a column ----------------------------------------------------------------------------------------------------------
+
+pub place-above : (i k : ℕ) (h : Header) → (placeFrom i k h ≡ 0 → ⊥) → suc i ≤ placeFrom i k h
+unfolding placeFrom
+place-above i k [] n = absurd (n refl)
+place-above i k (x ∷ xs) n = go (eqb k x) n (place-above (suc i) k xs)
+  where
+    go : (b : Bool) → ((if b then suc i else placeFrom (suc i) k xs) ≡ 0 → ⊥) → ((placeFrom (suc i) k xs ≡ 0 → ⊥) → suc (suc i) ≤ placeFrom (suc i) k xs) → suc i ≤ (if b then suc i else placeFrom (suc i) k xs)
+    go true m ih = omega arith
+    go false m ih = let l : suc (suc i) ≤ placeFrom (suc i) k xs = ih m in omega arith
+
+no-cell : (b : Bool) (n : ℕ) → _≡_ {A = Bytes} [] (if b then [] else getD [] n [])
+no-cell true n = refl
+no-cell false n = refl
+
+under-from : (i k : ℕ) (h : Header) (cs : List Bytes) → under k h cs ≡ (if eqb (placeFrom i k h) 0 then [] else getD cs (placeFrom i k h - suc i) [])
+unfolding placeFrom under
+under-from i k [] cs = refl
+under-from i k (x ∷ xs) [] = no-cell (eqb (if eqb k x then suc i else placeFrom (suc i) k xs) 0) ((if eqb k x then suc i else placeFrom (suc i) k xs) - suc i)
+under-from i k (x ∷ xs) (c ∷ cs) = go (eqb k x) (under-from (suc i) k xs cs)
+  where
+    behind : (z : Bool) → eqb (placeFrom (suc i) k xs) 0 ≡ z → (if z then [] else getD cs (placeFrom (suc i) k xs - suc (suc i)) []) ≡ (if z then [] else getD (c ∷ cs) (placeFrom (suc i) k xs - suc i) [])
+    behind true q = refl
+    behind false q =
+        let l : suc (suc i) ≤ placeFrom (suc i) k xs = place-above (suc i) k xs (eqb-false (placeFrom (suc i) k xs) 0 q) in
+        let e : placeFrom (suc i) k xs - suc i ≡ suc (placeFrom (suc i) k xs - suc (suc i)) = omega arith in
+        rw e
+
+    go : (b : Bool) → under k xs cs ≡ (if eqb (placeFrom (suc i) k xs) 0 then [] else getD cs (placeFrom (suc i) k xs - suc (suc i)) [])
+        → (if b then c else under k xs cs) ≡ (if eqb (if b then suc i else placeFrom (suc i) k xs) 0 then [] else getD (c ∷ cs) ((if b then suc i else placeFrom (suc i) k xs) - suc i) [])
+    go true ih =
+        let e : suc i - suc i ≡ 0 = omega arith in
+        rw (ne-eqb (suc i) 0 (λ z. omega arith), e)
+    go false ih = ih ∙ behind (eqb (placeFrom (suc i) k xs) 0) refl
+
+-- it is the cell whose number the header keeps for the column
+pub under-numbered : (k : ℕ) (h : Header) (cs : List Bytes) → under k h cs ≡ cellNumbered (placeFrom 0 k h) cs
+under-numbered k h cs = under-from 0 k h cs
+
+-- contents -----------------------------------------------------------------------------------------------------------------------
+
+pub contents-length : (j : ℕ) (xs : List Column) (h : Header) (cs : List Bytes) → length (contentsFrom j xs h cs) ≡ length xs
+unfolding contentsFrom
+contents-length j [] h cs = refl
+contents-length j (x ∷ xs) h cs = ap suc (contents-length (suc j) xs h cs)
+
+contents-at : (j : ℕ) (xs : List Column) (h : Header) (cs : List Bytes) (k : ℕ) → k < length xs → getD (contentsFrom j xs h cs) k [] ≡ content (under (j + k) h cs)
+unfolding contentsFrom
+contents-at j [] h cs k l = absurd (omega arith)
+contents-at j (x ∷ xs) h cs zero l = let e : j + 0 ≡ j = omega arith in rw e
+contents-at j (x ∷ xs) h cs (suc k) l = let e : j + suc k ≡ suc j + k = omega arith in rw e (contents-at (suc j) xs h cs k (omega arith))
+
+-- the content of a column, by the cell that its place names
+pub content-found : (t : Table) (h : Header) (cs : List Bytes) (at : List ℕ) (k : ℕ) (cell : Bytes) → at ≡ places h → k < length (columnsOf t) → cell ≡ cellNumbered (getD at (k + 1) 0) cs → content cell ≡ getD (contents t h cs) k []
+content-found t h cs at k cell e l f =
+    let n : 1 + k ≡ k + 1 = omega arith in
+    let p : getD at (k + 1) 0 ≡ placeFrom 0 (k + 1) h = rw e (place-at h k (omega (arith, columns-few t))) in
+    let u : cell ≡ under (k + 1) h cs = f ∙ rw p (sym (under-numbered (k + 1) h cs)) in
+    sym (contents-at 1 (columnsOf t) h cs k l ∙ rw (n, ← u))
+
+-- 8, column by column ------------------------------------------------------------------------------------------------------------
+
+module _ (xs : List Column) (ss : List Bytes) (k : ℕ) (lx : k < length xs) (ls : k < length ss) where
+  bad-step : badCell (k + 1) (drop k xs) (drop k ss) ≡ cellCheck (k + 1) (getD xs k noColumn .rules) (getD ss k []) ⊳ badCell (k + 1 + 1) (drop (k + 1) xs) (drop (k + 1) ss)
+  unfolding badCell
+  bad-step =
+      let s : k + 1 + 1 ≡ suc (k + 1) = omega arith in
+      rw (drop-step noColumn xs k lx, drop-step [] ss k ls, s)
+
+  pub bad-next : cellCheck (k + 1) (getD xs k noColumn .rules) (getD ss k []) ≡ Passes → badCell (k + 1) (drop k xs) (drop k ss) ≡ badCell (k + 1 + 1) (drop (k + 1) xs) (drop (k + 1) ss)
+  bad-next e = bad-step ∙ rw e
+
+  pub bad-here : (n c : ℕ) → cellCheck (k + 1) (getD xs k noColumn .rules) (getD ss k []) ≡ Fails n c → badCell (k + 1) (drop k xs) (drop k ss) ≡ Fails n c
+  bad-here n c e = bad-step ∙ rw e
+
+pub bad-end : (xs : List Column) (ss : List Bytes) (k : ℕ) → length xs ≤ k → badCell (k + 1) (drop k xs) ss ≡ Passes
+unfolding badCell
+bad-end xs ss k l = rw (drop-of-length-le xs l)
+
+pub check-kept : (k : ℕ) (x : Rules) (s : Bytes) → cellCheck k x s ≡ Passes → breaks x s ≡ false
+check-kept k x s e = go (breaks x s) e
+  where
+    go : (b : Bool) → (cellFault k when b) ≡ Passes → b ≡ false
+    go true q = cc
+    go false q = refl
+
+-- where no column has a fault, the content of each keeps to its rules
+pub all-kept : (j : ℕ) (xs : List Column) (ss : List Bytes) → badCell j xs ss ≡ Passes → (k : ℕ) → k < length xs → k < length ss → breaks (getD xs k noColumn .rules) (getD ss k []) ≡ false
+unfolding badCell
+all-kept j [] ss e k lx ls = absurd (omega arith)
+all-kept j (x ∷ xs) [] e k lx ls = absurd (omega arith)
+all-kept j (x ∷ xs) (s ∷ ss) e zero lx ls = check-kept j (x .rules) s (first-passes (cellCheck j (x .rules) s) (badCell (suc j) xs ss) e)
+all-kept j (x ∷ xs) (s ∷ ss) e (suc k) lx ls =
+    all-kept (suc j) xs ss (second-passes (cellCheck j (x .rules) s) (badCell (suc j) xs ss) e) k (omega arith) (omega arith)
+
+-- the checks of a line -------------------------------------------------------------------------------------------------------------
+
+module _ (h : Header) (line : Bytes) (c : Check) where
+  pub line-faulty : (n : ℕ) → cut line ≡ faulty n → (cutCheck h (cut line) ⊳ c) ≡ quoteFault n
+  line-faulty n e = rw (e, lt-ltb 0 n (faulty-from-one line n e))
+
+  module _ (e : cut line ≡ cells (cellsOf (cut line))) where
+    pub line-count : (length (cellsOf (cut line)) ≡ length h → ⊥) → (cutCheck h (cut line) ⊳ c) ≡ cellCount
+    line-count n = rw (e, ne-eqb (length (cellsOf (cut line))) (length h) n)
+
+    pub line-cells : length (cellsOf (cut line)) ≡ length h → (cutCheck h (cut line) ⊳ c) ≡ c
+    line-cells n = rw (e, eq-eqb (length (cellsOf (cut line))) (length h) n)

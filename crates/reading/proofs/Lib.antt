@@ -1,0 +1,6 @@
+pub mod Names
+pub mod Columns
+pub mod Filling
+pub mod Asking
+pub mod Judging
+pub mod Taking

@@ -1,0 +1,93 @@
+-- `reading::read_header` meets its contract: a faulty line, one of too many cells, and the names of any other. Assumes nothing.
+use mathlib.Core.Path.{sym, ap, _∙_}
+use native.Mathlib.Omega.{arith}
+use Prim.Native.Nat.{ℕ, _<_, _≤_}
+use lib.ListN.{length}
+use Rattle.refusals.specs.declared.Check.{Check}
+use Rattle.refusals.specs.declared.Check.the-variants.{Fails}
+use Rattle.text.specs.Cells.{cells, cut, cellsOf}
+use Rattle.text.proofs.Marking.{good-cells, good-count, bad-cell}
+use Rattle.reading.specs.Header.{header}
+use Rattle.reading.specs.Heading.{headed}
+use Rattle.reading.proofs.Columns.{marks-of}
+use Rattle.reading.proofs.Names.{header-faulty, header-wide, header-names}
+use borrow.Author.Needs.{needs}
+use Rattle.reading.proofs.read_header.Statement.{statement}
+use Rattle.reading.proofs.read_header.Tie as tie
+
+cells-of-requires : tie.Need-cells-of-requires
+cells-of-requires c κs = search needs
+
+enum-known-answer : tie.Need-enum-known-answer
+enum-known-answer c = search needs
+
+wide-requires : tie.Need-wide-requires
+wide-requires c κs = search needs
+
+quote-fault-requires : tie.Need-quote-fault-requires
+quote-fault-requires c κs = search needs
+
+no-heading-requires : tie.Need-no-heading-requires
+no-heading-requires c κs = search needs
+
+enum-known-answer-2 : tie.Need-enum-known-answer-2
+enum-known-answer-2 c = search needs
+
+too-many-cells-requires : tie.Need-too-many-cells-requires
+too-many-cells-requires c κs = search needs
+
+no-heading-requires-2 : tie.Need-no-heading-requires-2
+no-heading-requires-2 c κs = search needs
+
+returns : tie.Need-returns
+returns c =
+    let a = c .before .before .before .before .before .before .before .before .args in
+    let line = a .line .now in
+    let h = header (a .t) (cellsOf (cut line)) in
+    let r = c .before .before .before .before .before .before .cells-of in
+    let g = c .before .before .before .before .answer2 .given in
+    let l : 32 < length (cellsOf (cut line)) = omega (arith, good-count (cut line) (r .result) (g .0 .0) (r .ensures) (g .1), c .before .before .if1 .taken) in
+    c .no-heading2 .ensures 4 0 h (c .before .too-many-cells .ensures) ∙ ap (λ (q : Check). headed q h) (sym (header-wide (a .t) line (good-cells (cut line) (r .result) (g .0 .0) (r .ensures) (g .1)) l))
+
+map-names-requires : tie.Need-map-names-requires
+map-names-requires c κs =
+    let line = c .before .before .before .before .before .before .before .before .before .before .args .line .now in
+    let r = c .before .before .before .before .before .before .before .before .cells-of in
+    let g = c .before .before .before .before .before .before .answer2 .given in
+    (marks-of line (r .result) (g .0 .0) (r .ensures) (g .1) (c .before .before .before .before .if1 .left), sym (good-count (cut line) (r .result) (g .0 .0) (r .ensures) (g .1)))
+
+returns-2 : tie.Need-returns-2
+returns-2 c =
+    let a = c .before .before .before .before .before .before .before .before .args in
+    let line = a .line .now in
+    let h = header (a .t) (cellsOf (cut line)) in
+    let r = c .before .before .before .before .before .before .cells-of in
+    let g = c .before .before .before .before .answer .given in
+    c .no-heading .ensures 6 (c .before .before .wide .result) h (c .before .quote-fault .ensures) ∙ ap (λ (q : Check). headed q h) (ap (λ (m : ℕ). Fails 6 m) (c .before .before .wide .ensures) ∙ sym (header-faulty (a .t) line (g .0 .0) (bad-cell (cut line) (r .result) (g .0 .0) (r .ensures) (g .1))))
+
+returns-3 : tie.Need-returns-3
+returns-3 c =
+    let a = c .before .before .before .before .before .before .before .before .before .before .before .args in
+    let line = a .line .now in
+    let h = header (a .t) (cellsOf (cut line)) in
+    let r = c .before .before .before .before .before .before .before .before .before .cells-of in
+    let g = c .before .before .before .before .before .before .before .answer2 .given in
+    let l : length (cellsOf (cut line)) ≤ 32 = omega (arith, good-count (cut line) (r .result) (g .0 .0) (r .ensures) (g .1), c .before .before .before .before .before .if1 .left) in
+    c .map-names .ensures ∙ ap (λ (q : Check). headed q h) (sym (header-names (a .t) line (good-cells (cut line) (r .result) (g .0 .0) (r .ensures) (g .1)) l))
+
+pub read-header-spec : {M : Type 1} → statement M
+read-header-spec =
+    tie.close
+    (tie.spec
+    cells-of-requires
+    enum-known-answer
+    wide-requires
+    quote-fault-requires
+    no-heading-requires
+    enum-known-answer-2
+    too-many-cells-requires
+    no-heading-requires-2
+    returns
+    map-names-requires
+    returns-2
+    returns-3)

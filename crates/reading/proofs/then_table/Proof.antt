@@ -1,0 +1,27 @@
+use mathlib.Core.Path.{_≡_, refl, ap, sym, _∙_}
+use borrow.Author.Needs.{needs}
+use Rattle.reading.proofs.then_table.Statement.{statement}
+use Rattle.reading.proofs.then_table.Tie as tie
+
+enum-known-earlier : tie.Need-enum-known-earlier
+enum-known-earlier c = search needs
+
+enum-told : tie.Need-enum-told
+enum-told c = search needs
+
+take-table-requires : tie.Need-take-table-requires
+take-table-requires c κs = search needs
+
+returns : tie.Need-returns
+returns c = (c .before .before .before .before .pre, rw (c .before .earlier .given .1))
+
+same-length : tie.Need-same-length
+same-length c = search needs
+
+returns-2 : tie.Need-returns-2
+returns-2 c = (c .before .take-table .ensures .0, c .before .take-table .ensures .1 ∙ rw (c .before .before .before .enum-told .given .1))
+
+pub then-table-spec : {M : Type 1} → statement M
+then-table-spec =
+    tie.close
+    (tie.spec enum-known-earlier enum-told take-table-requires returns same-length returns-2)

@@ -1,0 +1,22 @@
+-- What the code finds on its way to the answer for a cell.
+use Prim.Native.Nat.{ℕ, _+_, _-_}
+use Rattle.words.specs.Words.{Bytes}
+use Rattle.refusals.specs.Verdicts.{_⊳_, placed}
+use Rattle.text.specs.Cells.{cut, cellsOf, content}
+use Rattle.tables.specs.Columns.{columnAt, number}
+use Rattle.tables.specs.Values.{cellCheck}
+use Rattle.tables.specs.declared.Table.{Table}
+use Rattle.reading.specs.Header.{Header, cutCheck, under, offset}
+use Rattle.reading.specs.CellQuestion.{answered, cellSaid}
+use Rattle.reading.specs.declared.CellAnswer.{CellAnswer}
+
+-- 8, and what is said of a cell of column k that begins at this place of its text
+unfoldable pub cellJudged : Table → ℕ → ℕ → ℕ → Bytes → CellAnswer
+cellJudged t line k at cell =
+    answered (placed (number t) line (cellCheck k (columnAt t (k - 1) .rules) (content cell))) (cellSaid (columnAt t (k - 1) .rules .sort) at cell)
+
+-- 6, 7 and 8, and what is said of the cell of column k, on a row that begins at this place of its text
+unfoldable pub rowAnswer : Table → Header → ℕ → ℕ → ℕ → Bytes → CellAnswer
+rowAnswer t h line k at row =
+    let cell = under k h (cellsOf (cut row)) in
+    answered (placed (number t) line (cutCheck h (cut row) ⊳ cellCheck k (columnAt t (k - 1) .rules) (content cell))) (cellSaid (columnAt t (k - 1) .rules .sort) (at + offset k h (cellsOf (cut row))) cell)

@@ -1,0 +1,38 @@
+-- What the calls answer, and what everything lent to them holds behind the call.
+use mathlib.Core.List.{List}
+use mathlib.Core.Bool.{Bool, true, false, not}
+use lib.Dec.{eqb}
+use lib.ListN.{length}
+use Rattle.words.specs.Words.{Bytes, Row, if_then_else_}
+use Rattle.refusals.specs.Verdicts.{_when_, nowhere, badLoan}
+use Rattle.refusals.specs.declared.Verdict.{Verdict}
+use Rattle.refusals.specs.declared.Verdict.the-variants.{Accepted, Refused}
+use Rattle.book.specs.Book.{Book, empty}
+use Rattle.book.specs.Room.{laid, bookOf}
+use Rattle.reading.specs.Reading.{Delivery, Result, refused, leaves, unless, reading}
+
+-- a verdict, and what the lent book holds
+pub record Outcome : Type 0 where
+  pub verdict : Verdict
+  pub book : List Row
+
+abbrev pub outcome : Verdict → List Row → Outcome
+outcome v slice = record { verdict = v; book = slice }
+
+-- "A refused reading leaves an empty book"
+abbrev pub readOutcome : Result → Outcome
+readOutcome (refused p) = outcome (Refused p) (laid empty)
+readOutcome (leaves b) = outcome Accepted (laid b)
+
+-- "Book and working area each have one fixed size; one lent at another length is 16, before all else: that one stays as it came"
+abbrev pub readCall : Delivery → List Row → Outcome
+readCall d slice =
+    if eqb (length slice) 2048 then readOutcome (reading d) else outcome (nowhere badLoan) slice
+
+-- what a verdict and a book's slice come to, where the slice is not looked at behind a refusal
+abbrev pub resultOf : Verdict → List Row → Result
+resultOf Accepted slice = leaves (bookOf slice)
+resultOf (Refused p) slice = refused p
+
+abbrev pub delivery : Bytes → Bytes → Bytes → Bytes → Delivery
+delivery a b c d = record { types = a; depots = b; stops = c; blocks = d }
