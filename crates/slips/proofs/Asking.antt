@@ -1,0 +1,188 @@
+-- What a slip line asks for, and its checks on a row that has zeros behind its numbers. Assumes nothing.
+use mathlib.Core.Path.{_≡_, refl, sym, ap, _∙_}
+use mathlib.Core.List.{List, [], _∷_, map}
+use mathlib.Core.Bool.{Bool, true, false, _&&_}
+use Prim.Native.Nat.{ℕ, suc, _-_, _≤_, _<_}
+use native.Mathlib.Omega.{arith}
+use lib.Dec.{eqb, lit<}
+use lib.ListN.{length, getD}
+use borrow.Author.Tests.{eqb-true}
+use Rattle.words.specs.Words.{Bytes, Row, if_then_else_, bytes, same}
+use Rattle.refusals.specs.Verdicts.{_⊳_, _when_, tooManyRows, endsEarly, unknownLine}
+use Rattle.refusals.specs.declared.Check.{Check}
+use Rattle.refusals.specs.declared.Check.the-variants.{Passes, Fails}
+use Rattle.text.specs.Numbers.{value}
+use Rattle.text.specs.Fields.{fields}
+use Rattle.text.specs.Marks.{fieldMarks}
+use Rattle.text.specs.declared.Fields.{Fields}
+use Rattle.text.proofs.Cutting.{fields-some}
+use Rattle.text.proofs.Marking.{Stands, field-stands}
+use Rattle.tables.specs.Columns.{keyWidth, references}
+use Rattle.tables.specs.declared.Table.{Table}
+use Rattle.tables.specs.declared.Table.the-variants.{Block}
+use Rattle.tables.specs.declared.Reference.{Reference}
+use Rattle.rows.specs.Rows.{wide, column}
+use Rattle.rows.specs.Room.{zeros}
+use Rattle.book.specs.Book.{Book, rows, knows, full}
+use Rattle.book.specs.Rules.{timeFault, unknownOf, unknown, ruled}
+use Rattle.book.proofs.Referring.{getD-padded, stands-wide}
+use Rattle.reading.specs.Heading.{rowed}
+use Rattle.reading.specs.declared.Judged.{Judged}
+use Rattle.slips.specs.Slips.{numbers, letter, counted, wish, badField, missingBlock, lineJudged, rowIn, fieldsRead, askedBy, asked}
+use Rattle.slips.specs.declared.Asked.{Asked}
+use Rattle.slips.specs.declared.Wish.{Wish}
+use Rattle.slips.specs.declared.Wish.the-variants.{Add, Replace, Delete, Unknown}
+
+-- kinds -------------------------------------------------------------------------------------------------------------------------
+
+pub one-byte : (f : Bytes) (b : ℕ) → length f ≡ 1 → eqb (getD f 0 0) b ≡ same f (b ∷ [])
+unfolding same
+one-byte [] b e = absurd (omega arith)
+one-byte (x ∷ []) b e = go (eqb x b)
+  where
+    go : (t : Bool) → t ≡ (t && true)
+    go true = refl
+    go false = refl
+one-byte (x ∷ (y ∷ ys)) b e = absurd (omega arith)
+
+module _ (f : Bytes) where
+  pub letter-add : same f (65 ∷ []) ≡ true → Add ≡ letter f
+  unfolding bytes
+  letter-add e = rw e
+
+  pub letter-replace : same f (65 ∷ []) ≡ false → same f (82 ∷ []) ≡ true → Replace ≡ letter f
+  unfolding bytes
+  letter-replace a e = rw (a, e)
+
+  pub letter-delete : same f (65 ∷ []) ≡ false → same f (82 ∷ []) ≡ false → same f (68 ∷ []) ≡ true → Delete ≡ letter f
+  unfolding bytes
+  letter-delete a r e = rw (a, r, e)
+
+  pub letter-unknown : same f (65 ∷ []) ≡ false → same f (82 ∷ []) ≡ false → same f (68 ∷ []) ≡ false → Unknown ≡ letter f
+  unfolding bytes
+  letter-unknown a r e = rw (a, r, e)
+
+pub wish-first : (fs : List Bytes) → 1 ≤ length fs → wish fs ≡ counted (letter (getD fs 0 [])) (length fs - 1)
+wish-first [] h = absurd (omega arith)
+wish-first (f ∷ fs) h = let e : suc (length fs) - 1 ≡ length fs = omega arith in rw e
+
+-- the first field stands on the line where the marks say
+pub first-stands : (line : Bytes) (r : Fields) → r ≡ fieldMarks (fields line) → Stands line (getD (r .start) 0 0) (getD (r .end) 0 0) (getD (fields line) 0 [])
+first-stands line r e = field-stands line r 0 e (rw e (omega (arith, fields-some line))) (lit< tt)
+
+pub marks-some : (line : Bytes) (r : Fields) → r ≡ fieldMarks (fields line) → 1 ≤ r .count
+marks-some line r e = rw e (fields-some line)
+
+pub wish-marked : (line : Bytes) (r : Fields) → r ≡ fieldMarks (fields line) → (f : Bytes) (w v : Wish) → f ≡ getD (fields line) 0 [] → w ≡ letter f
+    → v ≡ counted w (r .count - 1) → v ≡ wish (fields line)
+wish-marked line r e f w v p q h = h ∙ ap (λ (x : Wish). counted x (r .count - 1)) (q ∙ ap letter p) ∙ rw e (sym (wish-first (fields line) (fields-some line)))
+
+-- how many numbers a line of a kind has
+abbrev size : Wish → ℕ
+size Add = 11
+size Replace = 11
+size Delete = 4
+size Unknown = 0
+
+counted-size : (w : Wish) (n : ℕ) → counted w n ≡ (if eqb n (size w) then w else Unknown)
+counted-size Add n = refl
+counted-size Replace n = refl
+counted-size Delete n = refl
+counted-size Unknown n = go (eqb n 0)
+  where
+    go : (t : Bool) → Unknown ≡ (if t then Unknown else Unknown)
+    go true = refl
+    go false = refl
+
+sized : (w : Wish) (n : ℕ) (v : Wish) → counted w n ≡ v → (v ≡ Unknown → ⊥) → n ≡ size v
+sized w n v e known = go (eqb n (size w)) refl (sym (counted-size w n) ∙ e)
+  where
+    go : (t : Bool) → eqb n (size w) ≡ t → (if t then w else Unknown) ≡ v → n ≡ size v
+    go true q p = eqb-true n (size w) q ∙ ap size p
+    go false q p = absurd (known (sym p))
+
+pub wish-size : (fs : List Bytes) (v : Wish) → wish fs ≡ v → (v ≡ Unknown → ⊥) → length (numbers fs) ≡ size v
+wish-size [] v e known = absurd (known (sym e))
+wish-size (f ∷ fs) v e known = sized (letter f) (length fs) v e known
+
+-- rows with zeros behind their numbers -----------------------------------------------------------------------------------------
+
+module _ (ns : List ℕ) where
+  abbrev padding : ℕ
+  padding = 11 - length ns
+
+  pub time-wide : timeFault Block (wide ns) ≡ timeFault Block ns
+  time-wide = rw (getD-padded ns padding 10, getD-padded ns padding 7)
+
+  module _ (b : Book) where
+    pub knows-wide : (t : Table) → knows t (wide ns) b ≡ knows t ns b
+    knows-wide t = stands-wide (keyWidth t) ns (rows t b)
+
+    unknownOf-wide : (xs : List Reference) → unknownOf xs (wide ns) b ≡ unknownOf xs ns b
+    unfolding unknownOf
+    unknownOf-wide [] = refl
+    unknownOf-wide (x ∷ xs) = rw (getD-padded ns padding 0, getD-padded ns padding (x .column - 1), unknownOf-wide xs)
+
+    pub unknown-wide : (t : Table) → unknown t (wide ns) b ≡ unknown t ns b
+    unknown-wide t = unknownOf-wide (references t)
+
+    pub ruled-wide : ruled Block (wide ns) b ≡ ruled Block ns b
+    ruled-wide = rw (time-wide, knows-wide Block, unknown-wide Block)
+
+-- a check of the row behind that of the fields
+read-then : (f : Row → Check) (fs : List Bytes) (j : Judged) → j ≡ fieldsRead fs → f (wide (map value fs)) ≡ f (map value fs)
+    → j .check ⊳ f (j .row) ≡ badField fs ⊳ f (map value fs)
+read-then f fs j e g = rw e (go (badField fs))
+  where
+    go : (q : Check) → rowed q (wide (map value fs)) .check ⊳ f (rowed q (wide (map value fs)) .row) ≡ q ⊳ f (map value fs)
+    go Passes = g
+    go (Fails n k) = refl
+
+module _ (fs : List Bytes) (b : Book) (j : Judged) (e : j ≡ fieldsRead fs) where
+  abbrev ns : List ℕ
+  ns = map value fs
+
+  pub add-read : (tooManyRows when full Block b) ⊳ (j .check ⊳ ruled Block (j .row) b) ≡ lineJudged Add fs ns b
+  add-read = ap (λ (q : Check). (tooManyRows when full Block b) ⊳ q) (read-then (λ r. ruled Block r b) fs j e (ruled-wide ns b))
+
+  pub replace-read : j .check ⊳ ((endsEarly when timeFault Block (j .row)) ⊳ (missingBlock (j .row) b ⊳ unknown Block (j .row) b)) ≡ lineJudged Replace fs ns b
+  replace-read =
+      read-then (λ r. (endsEarly when timeFault Block r) ⊳ (missingBlock r b ⊳ unknown Block r b)) fs j e
+      (rw (time-wide ns, knows-wide ns b Block, unknown-wide ns b Block))
+
+  pub delete-read : j .check ⊳ missingBlock (j .row) b ≡ lineJudged Delete fs ns b
+  delete-read = read-then (λ r. missingBlock r b) fs j e (rw (knows-wide ns b Block))
+
+  -- a fault of a field is one of the line
+  faulty : (w : Wish) (n k : ℕ) (x y : Row) → badField fs ≡ Fails n k → rowed (lineJudged w fs ns b) x ≡ rowed (lineJudged w fs ns b) y
+  faulty Add n k x y q = rw q (go (full Block b))
+    where
+      go : (t : Bool) → rowed ((tooManyRows when t) ⊳ Fails n k) x ≡ rowed ((tooManyRows when t) ⊳ Fails n k) y
+      go true = refl
+      go false = refl
+  faulty Replace n k x y q = rw q
+  faulty Delete n k x y q = rw q
+  faulty Unknown n k x y q = refl
+
+  pub row-read : (w : Wish) → rowed (lineJudged w fs ns b) (j .row) ≡ rowed (lineJudged w fs ns b) (wide ns)
+  row-read w = go (badField fs) refl
+    where
+      go : (q : Check) → badField fs ≡ q → rowed (lineJudged w fs ns b) (j .row) ≡ rowed (lineJudged w fs ns b) (wide ns)
+      go Passes p = ap (λ (i : Judged). rowed (lineJudged w fs ns b) (i .row)) (e ∙ ap (λ (c : Check). rowed c (wide ns)) p)
+      go (Fails n k) p = faulty w n k (j .row) (wide ns) p
+
+-- what is answered of a line
+module _ (line : Bytes) (b : Book) (a : Asked) (q : Check) where
+  abbrev lineOf : Wish → Check
+  lineOf w = lineJudged w (numbers (fields line)) (rowIn line) b
+
+  pub asked-known : (w : Wish) (j : Judged) → wish (fields line) ≡ w → j ≡ fieldsRead (numbers (fields line)) → q ≡ lineOf w → a ≡ askedBy w (rowed q (j .row)) → a ≡ asked line b
+  asked-known w j e f g h =
+      h ∙ ap (λ (x : Check). askedBy w (rowed x (j .row))) g
+      ∙ ap (askedBy w) (row-read (numbers (fields line)) b j f w)
+      ∙ ap (λ (v : Wish). askedBy v (rowed (lineOf v) (wide (rowIn line)))) (sym e)
+
+  pub asked-unknown : wish (fields line) ≡ Unknown → q ≡ unknownLine → a ≡ askedBy Unknown (rowed q zeros) → a ≡ asked line b
+  asked-unknown e g h =
+      h ∙ ap (λ (x : Check). askedBy Unknown (rowed x zeros)) g
+      ∙ ap (λ (v : Wish). askedBy v (rowed (lineOf v) (wide (rowIn line)))) (sym e)

@@ -1,0 +1,5 @@
+pub mod Asking
+pub mod Numbers
+pub mod Granting
+pub mod Posting
+pub mod Days

@@ -1,0 +1,170 @@
+-- `slips::read_fields` meets its contract: the fields before place i pass, and their numbers stand in the row. Assumes nothing.
+use mathlib.Core.List.{[]}
+use mathlib.Core.Path.{_≡_, refl, ap, _∙_}
+use Prim.Native.Nat.{_-_, _≤_, _<_}
+use native.Mathlib.Omega.{arith}
+use lib.ListN.{getD, set, length}
+use borrow.Author.Needs.{needs}
+use Rattle.words.specs.Words.{Row}
+use Rattle.text.specs.Fields.{fields}
+use Rattle.tables.specs.Values.{valueOf}
+use Rattle.tables.specs.Columns.{columnAt}
+use Rattle.tables.specs.declared.Table.the-variants.{Block}
+use Rattle.tables.proofs.Values.{column-narrow}
+use Rattle.slips.specs.Slips.{numbers, badField}
+use Rattle.slips.proofs.Numbers.{refused, passed, badFrom, rowSofar, number-stands, field-fault, field-passes, field-number, bad-end, row-more, row-whole}
+use Rattle.slips.proofs.read_fields.Statement.{statement}
+use Rattle.slips.proofs.read_fields.Tie as tie
+
+abbrev Inv-columns : tie.InvT-columns
+Inv-columns line n start end row₀ i₀ row i = (i ≤ n) × (row ≡ rowSofar i (numbers (fields line))) × (badField (numbers (fields line)) ≡ badFrom i (numbers (fields line)))
+
+abbrev μ-columns : tie.MeasureT-columns
+μ-columns line n start end row₀ i₀ row i = n - i
+
+-- a field that was checked
+few : (c : tie.After-check Inv-columns μ-columns) → length (numbers (fields (c .before .before .before .before .before .before .before .before .before .args .line .now))) ≤ 11
+few c = omega (arith, c .before .before .before .before .before .before .before .before .before .pre .1, c .before .before .before .before .before .before .before .before .before .pre .2)
+
+inside : (c : tie.After-check Inv-columns μ-columns) → c .before .before .before .before .before .columns .i < length (numbers (fields (c .before .before .before .before .before .before .before .before .before .args .line .now)))
+inside c = omega (arith, c .before .before .before .before .before .before .before .before .before .pre .1, c .before .before .before .before .columns-test .taken)
+
+value-is : (c : tie.After-check Inv-columns μ-columns) → c .before .of-field .result ≡ valueOf (columnAt Block (c .before .before .before .before .before .columns .i) .rules) (getD (numbers (fields (c .before .before .before .before .before .before .before .before .before .args .line .now))) (c .before .before .before .before .before .columns .i) [])
+value-is c =
+    let st = c .before .before .before .before .before .before .before .before .before in
+    c .before .of-field .ensures
+    ∙ rw (c .before .before .before .rules .ensures, number-stands (st .args .line .now) (st .args .marks) (st .args .n) (c .before .before .before .before .before .columns .i) (st .pre .0) (st .pre .1) (st .pre .2) (c .before .before .before .before .columns-test .taken) .there)
+
+columns-holds : tie.Need-columns-holds Inv-columns μ-columns
+columns-holds c = (search needs, refl, refl)
+
+add-from : tie.Need-add-from Inv-columns μ-columns
+add-from c = search needs
+
+mul-from : tie.Need-mul-from Inv-columns μ-columns
+mul-from c = search needs
+
+array-read-from : tie.Need-array-read-from Inv-columns μ-columns
+array-read-from c = search needs
+
+add-to : tie.Need-add-to Inv-columns μ-columns
+add-to c = search needs
+
+mul-to : tie.Need-mul-to Inv-columns μ-columns
+mul-to c = search needs
+
+array-read-to : tie.Need-array-read-to Inv-columns μ-columns
+array-read-to c = search needs
+
+rules-requires : tie.Need-rules-requires Inv-columns μ-columns
+rules-requires c κs = search needs
+
+sub-of-field : tie.Need-sub-of-field Inv-columns μ-columns
+sub-of-field c =
+    let st = c .before .before .before .before .before .before in
+    let s = number-stands (st .args .line .now) (st .args .marks) (st .args .n) (c .before .before .columns .i) (st .pre .0) (st .pre .1) (st .pre .2) (c .before .columns-test .taken) in
+    omega (arith, s .ordered, s .inside)
+
+part-of-field-start : tie.Need-part-of-field-start Inv-columns μ-columns
+part-of-field-start c =
+    let st = c .before .before .before .before .before .before in
+    let s = number-stands (st .args .line .now) (st .args .marks) (st .args .n) (c .before .before .columns .i) (st .pre .0) (st .pre .1) (st .pre .2) (c .before .columns-test .taken) in
+    omega (arith, s .ordered, s .inside)
+
+part-of-field-end : tie.Need-part-of-field-end Inv-columns μ-columns
+part-of-field-end c =
+    let st = c .before .before .before .before .before .before in
+    let s = number-stands (st .args .line .now) (st .args .marks) (st .args .n) (c .before .before .columns .i) (st .pre .0) (st .pre .1) (st .pre .2) (c .before .columns-test .taken) in
+    omega (arith, s .ordered, s .inside)
+
+of-field-requires : tie.Need-of-field-requires Inv-columns μ-columns
+of-field-requires c κs = rw (c .before .rules .ensures) (column-narrow Block (c .before .before .before .columns .i))
+
+add-check : tie.Need-add-check Inv-columns μ-columns
+add-check c = search needs
+
+check-requires : tie.Need-check-requires Inv-columns μ-columns
+check-requires c κs = search needs
+
+enum-told : tie.Need-enum-told Inv-columns μ-columns
+enum-told c = search needs
+
+enum-known-number : tie.Need-enum-known-number Inv-columns μ-columns
+enum-known-number c = search needs
+
+returns : tie.Need-returns Inv-columns μ-columns
+returns c =
+    let k = c .before .before .before in
+    let at = k .before .before .before .before .before in
+    let st = at .before .before .before .before in
+    let fs = numbers (fields (st .args .line .now)) in
+    refused (badField fs) _ _ _ (at .columns .inv .2 ∙ field-fault fs (few k) (at .columns .i) (k .before .of-field .result) (k .check .result) (inside k) (value-is k) (k .check .ensures) _ _ (c .before .number .given .1))
+
+figure-requires : tie.Need-figure-requires Inv-columns μ-columns
+figure-requires c κs = search needs
+
+mul-row : tie.Need-mul-row Inv-columns μ-columns
+mul-row c = search needs
+
+array-write-row : tie.Need-array-write-row Inv-columns μ-columns
+array-write-row c = search needs
+
+add-i : tie.Need-add-i Inv-columns μ-columns
+add-i c = search needs
+
+columns-less : tie.Need-columns-less Inv-columns μ-columns
+columns-less c = search needs
+
+columns-again : tie.Need-columns-again Inv-columns μ-columns
+columns-again c =
+    let k = c .before .before .before in
+    let at = k .before .before .before .before .before in
+    let st = at .before .before .before .before in
+    let fs = numbers (fields (st .args .line .now)) in
+    let i = at .columns .i in
+    let p = c .before .enum-told .given .1 in
+    let v = k .before .of-field .result in (
+      omega (arith, inside k, st .pre .1),
+      ap (λ (l : Row). set l i (c .figure .result)) (at .columns .inv .1)
+          ∙ row-more fs i (c .figure .result) (inside k) (omega (arith, inside k, few k)) (c .figure .ensures _ (field-number fs (few k) i v (k .check .result) (inside k) (value-is k) (k .check .ensures) p)),
+      at .columns .inv .2 ∙ field-passes fs (few k) i v (k .check .result) (inside k) (value-is k) (k .check .ensures) p,
+    )
+
+returns-2 : tie.Need-returns-2 Inv-columns μ-columns
+returns-2 c =
+    let at = c .before in
+    let st = at .before .before .before .before in
+    let fs = numbers (fields (st .args .line .now)) in
+    let e : at .columns .i ≡ length fs = omega (arith, st .pre .1, at .columns .inv .0, c .columns-test .left) in
+    passed (badField fs) _ _ (at .columns .inv .2 ∙ bad-end fs (omega (arith, st .pre .1, st .pre .2)) (at .columns .i) (omega arith)) (at .columns .inv .1 ∙ row-whole fs (at .columns .i) e)
+
+pub read-fields-spec : {M : Type 1} → statement M
+read-fields-spec =
+    tie.close
+    (tie.spec
+    Inv-columns
+    μ-columns
+    columns-holds
+    add-from
+    mul-from
+    array-read-from
+    add-to
+    mul-to
+    array-read-to
+    rules-requires
+    sub-of-field
+    part-of-field-start
+    part-of-field-end
+    of-field-requires
+    add-check
+    check-requires
+    enum-told
+    enum-known-number
+    returns
+    figure-requires
+    mul-row
+    array-write-row
+    add-i
+    columns-less
+    columns-again
+    returns-2)
