@@ -1,0 +1,2 @@
+-- What the proofs of the day sheet cite.
+pub mod Lines

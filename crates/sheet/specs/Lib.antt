@@ -1,0 +1,3 @@
+-- The day sheet, to be read in this order.
+pub mod Sheet
+pub mod Calls

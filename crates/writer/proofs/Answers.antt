@@ -1,0 +1,69 @@
+-- What a call that writes a text answers: 16, 14, or the text at the head of the output. Assumes nothing.
+use Prim.Native.Nat.{ℕ, _+_, _*_, _-_, _≤_, _<_}
+use native.Mathlib.Omega.{arith}
+use mathlib.Core.Path.{_≡_, refl, ap, sym, _∙_}
+use mathlib.Core.Bool.{Bool, true, false, not}
+use mathlib.Core.List.{List, [], _∷_, _++_, append-assoc, map}
+use lib.Dec.{ltb}
+use lib.ListN.{length, take, drop, length-append}
+use borrow.Author.Tests.{lt-ltb, le-ltb}
+use Rattle.words.specs.Words.{Bytes, Row, bytes}
+use Rattle.refusals.specs.Verdicts.{_when_, _before_, nowhere, badLoan, outputShort}
+use Rattle.refusals.specs.declared.Verdict.{Verdict}
+use Rattle.refusals.specs.declared.Verdict.the-variants.{Accepted}
+use Rattle.text.specs.Fields.{parted}
+use Rattle.tables.specs.Columns.{columnsOf, partOf}
+use Rattle.tables.specs.declared.Table.the-variants.{Block}
+use Rattle.rows.proofs.Room.{used-take}
+use Rattle.book.specs.Room.{part, bookOf}
+use Rattle.book.specs.Keeping.{keepsRule}
+use Rattle.book.proofs.Laying.{part-lent}
+use Rattle.writer.specs.Writing.{linesWritten, namesLine, rowLine, written}
+use Rattle.writer.specs.Calls.{Outcome, outcome, put, wrote, writeCall}
+
+module _ (s out : Bytes) (size : ℕ) (long : size ≡ length s) where
+  -- 14
+  pub too-short : (v : Verdict) (n : ℕ) → length out < size → v ≡ nowhere outputShort → n ≡ 0
+      → outcome v n out ≡ wrote (nowhere (outputShort when ltb (length out) (length s))) s out
+  too-short v n h ev en = rw (ev, en, lt-ltb (length out) (length s) (omega arith))
+
+  -- the text
+  pub all-written : (p : Bytes) → size ≤ length out → p ≡ put s out → outcome Accepted size p ≡ wrote (nowhere (outputShort when ltb (length out) (length s))) s out
+  all-written p h ep = rw (ep, long, le-ltb (length out) (length s) (omega arith))
+
+module _ (keeps : Bool) (next : Verdict) (s out : Bytes) where
+  -- 16
+  pub bad-book : (v : Verdict) (n : ℕ) → keeps ≡ false → v ≡ nowhere badLoan → n ≡ 0 → outcome v n out ≡ wrote (nowhere (badLoan when not keeps) before next) s out
+  bad-book v n e ev en = rw (ev, en, e)
+
+  -- what the book does not refuse
+  pub good-book : keeps ≡ true → wrote next s out ≡ wrote (nowhere (badLoan when not keeps) before next) s out
+  good-book e = rw e
+
+-- a line, and the lines behind it
+pub line-first : (l : Bytes) (ls : List Bytes) → linesWritten (l ∷ ls) ≡ (l ++ (10 ∷ [])) ++ linesWritten ls
+unfolding linesWritten
+line-first l ls = sym (append-assoc l (10 ∷ []) (linesWritten ls))
+
+pub line-first-length : (l : Bytes) (ls : List Bytes) → length (linesWritten (l ∷ ls)) ≡ length l + 1 + length (linesWritten ls)
+line-first-length l ls = rw (line-first l ls) (simp length-append)
+
+pub header-length : length namesLine + 1 ≡ 145
+unfolding columnsOf parted bytes
+header-length = refl
+
+-- the blocks are the first rows of their part
+blocks-lent : (xs : List Row) (from n : ℕ) → from ≡ partOf Block * 512 → n ≡ length (bookOf xs .blocks)
+    → take n (take (from + 512 - from) (drop from xs)) ≡ bookOf xs .blocks
+blocks-lent xs from n e en = rw (part-lent Block xs from e, en) (used-take (part 3 xs))
+
+-- so what is written of their part is what the call answers
+abbrev answered : List Row → Bytes → Outcome
+answered ls out =
+    wrote (nowhere (outputShort when ltb (length out) (length (linesWritten (namesLine ∷ map rowLine ls))))) (linesWritten (namesLine ∷ map rowLine ls)) out
+
+pub blocks-written : (xs : List Row) (out : Bytes) (from n : ℕ) → from ≡ partOf Block * 512 → n ≡ length (bookOf xs .blocks) → keepsRule xs ≡ true
+    → answered (take n (take (from + 512 - from) (drop from xs))) out ≡ writeCall xs out
+blocks-written xs out from n e en k =
+    ap (λ (ls : List Row). answered ls out) (blocks-lent xs from n e en)
+    ∙ good-book (keepsRule xs) (nowhere (outputShort when ltb (length out) (length (written (bookOf xs))))) (written (bookOf xs)) out k

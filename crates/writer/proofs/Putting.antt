@@ -1,0 +1,78 @@
+-- A text put at the head of a buffer, a byte behind it, and the rest of the buffer lent on. Assumes nothing.
+use Prim.Native.Nat.{ℕ, _+_, _-_, _/_, _%_, _≤_, _<_}
+use native.Mathlib.Numerals.{add-one}
+use native.Mathlib.Omega.{arith}
+use mathlib.Core.Path.{_≡_, ap, sym, _∙_}
+use mathlib.Core.List.{[], _∷_, _++_, append-assoc, append-nil}
+use lib.ListN.{length, take, drop, getD, set, length-append, length-drop, drop-of-length-le, take-append-drop}
+use lib.Seq.{take-append-seam, drop-append-seam, drop-drop, drop-cons, set-append-seam, take-suc, take-all, length-take-le, drop-append-add}
+use borrow.Rule.Slice.PartMut.{same-len-mid}
+use Rattle.words.specs.Words.{Bytes}
+use Rattle.text.specs.Numbers.{decimal}
+use Rattle.text.proofs.Writing.{decimal-one, decimal-more}
+use Rattle.writer.specs.Calls.{put}
+
+pub length-put : (t o : Bytes) → length t ≤ length o → length (put t o) ≡ length o
+length-put t o h = simp (length-append, length-drop) (omega arith)
+
+-- a text behind a text
+put-more : (t u o : Bytes) → take (length t) (put t o) ++ put u (drop (length t) (put t o)) ≡ put (t ++ u) o
+put-more t u o = rw (take-append-seam, drop-append-seam, drop-drop, length-append, append-assoc)
+
+-- a byte stored behind a text
+put-set : (t o : Bytes) (b : ℕ) → length t < length o → set (put t o) (length t) b ≡ put (t ++ (b ∷ [])) o
+put-set t o b h = rw (drop-cons o (length t) 0 h, set-append-seam, length-append, add-one, append-assoc)
+
+pub put-byte : (t o p : Bytes) (a b : ℕ) → a ≡ length t → p ≡ put t o → a < length o → set p a b ≡ put (t ++ (b ∷ [])) o
+put-byte t o p a b ea ep h = rw (ep, ea) (put-set t o b (omega arith))
+
+-- a number of one digit, and the last digit behind the others
+pub put-one : (n : ℕ) (o : Bytes) → n < 10 → 0 < length o → set o 0 (48 + n) ≡ put (decimal n) o
+put-one n o h l = rw (decimal-one n h) (put-set [] o (48 + n) l)
+
+pub put-last : (n r : ℕ) (o p : Bytes) → 10 ≤ n → r < length o → r ≡ length (decimal (n / 10)) → p ≡ put (decimal (n / 10)) o → set p r (48 + n % 10) ≡ put (decimal n) o
+put-last n r o p h l e q = rw (decimal-more n h) (put-byte (decimal (n / 10)) o p r (48 + n % 10) e q l)
+
+-- the first bytes of a text, and the next one
+pub put-next : (s o p : Bytes) (i : ℕ) → i < length s → i < length o → p ≡ put (take i s) o → set p i (getD s i 0) ≡ put (take (i + 1) s) o
+put-next s o p i h l e =
+    let k : i ≡ length (take i s) = rw (length-take-le i s (omega arith)) in
+    rw (add-one, take-suc s i 0 h) (put-byte (take i s) o p i (getD s i 0) k e l)
+
+-- the rest from a place on is lent to a call that puts a text at its head: `p[a..]` is `rest p a`, and with what comes back the whole is `back p a ys`
+
+abbrev pub rest : Bytes → ℕ → Bytes
+rest p a = take (length p - a) (drop a p)
+
+abbrev pub back : Bytes → ℕ → Bytes → Bytes
+back p a ys = take a p ++ (ys ++ drop (length p - a) (drop a p))
+
+rest-is : (p : Bytes) (a : ℕ) → rest p a ≡ drop a p
+rest-is p a = take-all (length p - a) (drop a p) (simp length-drop (omega arith))
+
+pub length-rest : (p : Bytes) (a : ℕ) → length (rest p a) ≡ length p - a
+length-rest p a = rw (rest-is p a, length-drop)
+
+pub length-back : (p ys : Bytes) (a : ℕ) → length ys ≡ length (rest p a) → length (back p a ys) ≡ length p
+length-back p ys a h = same-len-mid a (length p - a) p ys h
+
+pub lent : (t u o p ys : Bytes) (a : ℕ) → a ≡ length t → p ≡ put t o → ys ≡ put u (rest p a) → back p a ys ≡ put (t ++ u) o
+lent t u o p ys a ea ep ey =
+    let none : drop (length p - a) (drop a p) ≡ [] = drop-of-length-le (drop a p) {i = length p - a} (simp length-drop (omega arith)) in
+    rw (none, append-nil, ey, rest-is p a, ep, ea) (put-more t u o)
+
+-- what is put behind the first bytes of a buffer that a text stands in
+pub put-behind : (t u o p : Bytes) (a : ℕ) → a ≡ length t → p ≡ put t o → put (take a p ++ u) p ≡ put (t ++ u) o
+put-behind t u o p a ea ep = rw (ep, ea, take-append-seam, length-append, drop-append-add, drop-drop)
+
+-- the first bytes of a buffer are a text at its head
+pub put-own : (p : Bytes) (a : ℕ) → a ≤ length p → p ≡ put (take a p) p
+put-own p a h = sym (ap (λ (n : ℕ). take a p ++ drop n p) (length-take-le a p h) ∙ take-append-drop a p)
+
+-- a name in the rest that is lent, and the byte behind it
+pub put-name : (p name ys : Bytes) (a r b : ℕ) → a + (length name + 1) ≤ length p → r ≡ length name → ys ≡ put name (rest p a) → set (back p a ys) (a + r) b ≡ put (take a p ++ (name ++ (b ∷ []))) p
+put-name p name ys a r b h er ey =
+    let first : length (take a p) ≡ a = length-take-le a p (omega arith) in
+    let named : back p a ys ≡ put (take a p ++ name) p = lent (take a p) name p p ys a (sym first) (put-own p a (omega arith)) ey in
+    put-byte (take a p ++ name) p (back p a ys) (a + r) b (simp length-append (omega arith)) named (omega arith)
+    ∙ ap (λ (t : Bytes). put t p) (append-assoc (take a p) name (b ∷ []))

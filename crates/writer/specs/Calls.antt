@@ -1,0 +1,37 @@
+-- What the write call answers, and what the lent output holds behind it.
+use mathlib.Core.List.{List, _++_}
+use mathlib.Core.Bool.{Bool, true, false, not}
+use Prim.Native.Nat.{ℕ}
+use lib.Dec.{ltb}
+use lib.ListN.{length, drop}
+use Rattle.words.specs.Words.{Bytes, Row}
+use Rattle.refusals.specs.Verdicts.{_when_, _before_, nowhere, badLoan, outputShort}
+use Rattle.refusals.specs.declared.Verdict.{Verdict}
+use Rattle.refusals.specs.declared.Verdict.the-variants.{Accepted, Refused}
+use Rattle.book.specs.Room.{bookOf}
+use Rattle.book.specs.Keeping.{keepsRule}
+use Rattle.writer.specs.Writing.{written}
+
+-- a verdict, the text's length, and what the lent output holds
+pub record Outcome : Type 0 where
+  pub verdict : Verdict
+  pub size : ℕ
+  pub out : Bytes
+
+abbrev pub outcome : Verdict → ℕ → Bytes → Outcome
+outcome v n out = record { verdict = v; size = n; out = out }
+
+-- a text at the head of a buffer: "Bytes behind the text stay."
+abbrev pub put : Bytes → Bytes → Bytes
+put s out = s ++ drop (length s) out
+
+-- "The answer is the text's length, 0 if refused."
+abbrev pub wrote : Verdict → Bytes → Bytes → Outcome
+wrote Accepted s out = outcome Accepted (length s) (put s out)
+wrote (Refused p) s out = outcome (Refused p) 0 out
+
+-- "Order: 16, 14."
+abbrev pub writeCall : List Row → Bytes → Outcome
+writeCall book out =
+    wrote (nowhere (badLoan when not (keepsRule book)) before nowhere (outputShort when ltb (length out) (length (written (bookOf book)))))
+    (written (bookOf book)) out
