@@ -1,0 +1,16 @@
+-- Demand 2: blocks written out and read back give the same book, and written again the same text. Assumes nothing.
+use mathlib.Core.Path.{_≡_, ap, _∙_}
+use Rattle.tables.specs.declared.Table.the-variants.{Block}
+use Rattle.reading.specs.Reading.{Result, _▹_, tableRead, reading}
+use Rattle.writer.specs.Writing.{written}
+use Rattle.promises.specs.Promises.{ReadsBack, WritesAgain}
+use Rattle.promises.proofs.DeliveryLaws.{Accepted, left-by, blocks-back}
+
+pub reads-back : ReadsBack
+unfolding reading
+reads-back d b e =
+    let a : Accepted d b = left-by d b e in
+    ap (λ (r : Result). r ▹ tableRead Block (written b)) (a .before-blocks) ∙ blocks-back b (b .blocks) (a .standing .blocks)
+
+pub writes-again : WritesAgain
+writes-again d b c e f = let g : c ≡ b = cc (reads-back d b e) in ap written g

@@ -1,0 +1,234 @@
+-- Demand 1: what the calls answer and leave behind, for good and bad input alike. Assumes nothing.
+use Prim.Native.Nat.{ℕ, _-_, _≤_}
+use native.Mathlib.Omega.{arith}
+use mathlib.Core.Path.{_≡_, refl, ap, sym, subst, _∙_}
+use mathlib.Core.Bool.{Bool, true, false, not, _&&_}
+use mathlib.Core.List.{List, [], _∷_}
+use lib.ListN.{length, take, drop, length-append, length-drop, length-replicate}
+use lib.Dec.{eqb, ltb}
+use borrow.Author.Tests.{eq-eqb, ne-eqb, eqb-true, ltb-false, le-ltb, lt-ltb}
+use Rattle.words.specs.Words.{Bytes, Row}
+use Rattle.refusals.specs.Verdicts.{_when_, _before_, place, nowhere, badLoan, outputShort}
+use Rattle.refusals.specs.declared.Place.{Place}
+use Rattle.refusals.specs.declared.Verdict.{Verdict}
+use Rattle.refusals.specs.declared.Verdict.the-variants.{Accepted, Refused}
+use Rattle.rows.specs.Room.{zeros}
+use Rattle.tables.specs.declared.Table.the-variants.{VehicleType, Depot, Stop, Block}
+use Rattle.book.specs.Book.{Book, empty}
+use Rattle.book.specs.Room.{laid, bookOf}
+use Rattle.book.specs.Keeping.{keepsRule}
+use Rattle.reading.specs.Reading.{Result, leaves, refused, unless, Delivery, reading, Left}
+use Rattle.reading.specs.Calls.{readOutcome, readCall}
+use Rattle.slips.specs.Slips.{posting, kept, posted}
+use Rattle.slips.specs.Calls.{Outcome, cleared, workSized, slipOutcome, slipCall}
+use Rattle.writer.specs.Writing.{written}
+use Rattle.writer.specs.Calls.{put, wrote, writeCall}
+use Rattle.writer.specs.Calls as writing
+use Rattle.reading.specs.Calls as reading-is
+use Rattle.words.proofs.Lists.{take-seam, and-left}
+use Rattle.promises.proofs.BackPromises.{reads-back}
+use Rattle.sheet.specs.Sheet.{sheetText, refusalText}
+use Rattle.sheet.specs.Calls.{shortFor}
+use Rattle.promises.specs.Promises as promises
+use Rattle.promises.proofs.DeliveryLaws.{Standing, nothing-held}
+use Rattle.promises.proofs.RuleLaws.{laid-long, laid-keeps, book-laid}
+use Rattle.promises.proofs.RulePromises.{left-standing, rule-tested}
+use Rattle.promises.proofs.SlipPromises.{rule-kept, run-reads-afresh}
+
+-- a reading --------------------------------------------------------------------------------------------------------------
+
+read-sized : (d : Delivery) (slice : List Row) → length slice ≡ 2048 → readCall d slice ≡ readOutcome (reading d)
+read-sized d slice n = rw (eq-eqb (length slice) 2048 n)
+
+empties : (r : Result) (p : Place) → readOutcome r .verdict ≡ Refused p → readOutcome r .book ≡ laid empty
+empties (refused q) p h = refl
+empties (leaves b) p h = let z : _≡_ {A = ℕ} 0 1 = cc in let y : ⊥ = omega arith in absurd y
+
+pub refused-reading-empties : promises.RefusedReadingEmpties
+refused-reading-empties d slice p n = rw (eq-eqb (length slice) 2048 n) (empties (reading d) p)
+
+pub wrong-book-stays : promises.WrongBookStays
+wrong-book-stays d slice n = let e : eqb (length slice) 2048 ≡ false = ne-eqb (length slice) 2048 n in (rw e, rw e)
+
+-- a slip -----------------------------------------------------------------------------------------------------------------
+
+keeps : (r : Result) (book work : List Row) (p : Place) → slipOutcome r book work .verdict ≡ Refused p → slipOutcome r book work .book ≡ book
+keeps (refused q) book work p h = refl
+keeps (leaves b) book work p h = let z : _≡_ {A = ℕ} 0 1 = cc in let y : ⊥ = omega arith in absurd y
+
+abbrev judgedSlip : Bytes → List Row → List Row → Result
+judgedSlip s book work = unless (nowhere (badLoan when not (keepsRule book && workSized work))) (posting s (bookOf book))
+
+pub refused-slip-keeps : promises.RefusedSlipKeeps
+refused-slip-keeps s book work p h = keeps (judgedSlip s book work) book work p h
+
+work-behind : (r : Result) (book work : List Row) → slipOutcome r book work .work ≡ cleared work
+work-behind (refused q) book work = refl
+work-behind (leaves b) book work = refl
+
+pub work-cleared : promises.WorkCleared
+work-cleared s book work n = work-behind (judgedSlip s book work) book work ∙ rw (eq-eqb (length work) 512 n)
+
+and-false : (p : Bool) → (p && false) ≡ false
+and-false true = refl
+and-false false = refl
+
+pub wrong-work-stays : promises.WrongWorkStays
+wrong-work-stays s book work n =
+    let e : eqb (length work) 512 ≡ false = ne-eqb (length work) 512 n in
+    let f : (keepsRule book && workSized work) ≡ false = ap (λ (q : Bool). keepsRule book && q) e ∙ and-false (keepsRule book) in
+    let g : judgedSlip s book work ≡ refused (place 16 0 0 0) = ap (λ (q : Bool). unless (nowhere (badLoan when not q)) (posting s (bookOf book))) f in (
+      ap (λ (r : Result). slipOutcome r book work .verdict) g,
+      ap (λ (r : Result). slipOutcome r book work .book) g,
+      work-behind (judgedSlip s book work) book work ∙ rw e,
+    )
+
+-- the writer -------------------------------------------------------------------------------------------------------------
+
+untouched : (v : Verdict) (s out : Bytes) (p : Place) → wrote v s out .verdict ≡ Refused p → (wrote v s out .size ≡ 0) × (wrote v s out .out ≡ out)
+untouched Accepted s out p h = let z : _≡_ {A = ℕ} 0 1 = cc in let y : ⊥ = omega arith in absurd y
+untouched (Refused q) s out p h = (refl, refl)
+
+pub refused-writing-keeps : promises.RefusedWritingKeeps
+refused-writing-keeps book out p h =
+    untouched (nowhere (badLoan when not (keepsRule book)) before nowhere (outputShort when ltb (length out) (length (written (bookOf book))))) (written (bookOf book)) out p h
+
+pub refused-sheet-keeps : promises.RefusedSheetKeeps
+refused-sheet-keeps Accepted book out p h =
+    untouched (nowhere (badLoan when not (keepsRule book)) before shortFor (sheetText (bookOf book)) out) (sheetText (bookOf book)) out p h
+refused-sheet-keeps (Refused q) book out p h = untouched (shortFor (refusalText q) out) (refusalText q) out p h
+
+-- a book that breaks the rule -------------------------------------------------------------------------------------------
+
+pub bad-book-refused : promises.BadBookRefused
+bad-book-refused book h =
+    let e : keepsRule book ≡ false = broken (keepsRule book) refl in
+    (λ s work. rw e, λ out. rw e, λ version type. rw e, λ version day depot block. rw e)
+  where
+    broken : (q : Bool) → keepsRule book ≡ q → keepsRule book ≡ false
+    broken true e = let l = rule-tested book .0 e in absurd (h (l .0) (l .1) (l .2))
+    broken false e = e
+
+-- lengths ----------------------------------------------------------------------------------------------------------------
+
+empty-standing : Standing empty
+empty-standing = record { types = nothing-held VehicleType empty; depots = nothing-held Depot empty; stops = nothing-held Stop empty; blocks = nothing-held Block empty }
+
+read-length : (d : Delivery) (slice : List Row) → length (readCall d slice .book) ≡ length slice
+read-length d slice = go (eqb (length slice) 2048) refl
+  where
+    long : (r : Result) → reading d ≡ r → length (readOutcome r .book) ≡ 2048
+    long (refused p) e = laid-long empty empty-standing
+    long (leaves b) e = laid-long b (left-standing b (d, e))
+
+    go : (q : Bool) → eqb (length slice) 2048 ≡ q → length (readCall d slice .book) ≡ length slice
+    go true e = rw e (long (reading d) refl ∙ sym (eqb-true (length slice) 2048 e))
+    go false e = rw e
+
+-- what an accepted slip leaves is again a book that some delivery leaves
+leaves-left : (s : Bytes) (b c : Book) → Left b → posting s b ≡ leaves c → Left c
+leaves-left s b c l e = subst (λ (z : Book). Left z) (ap (λ (r : Result). kept b r) e) (rule-kept b s l)
+
+slip-length : (s : Bytes) (book work : List Row) → length (slipCall s book work .book) ≡ length book
+slip-length s book work = go (keepsRule book && workSized work) refl
+  where
+    taken : keepsRule book ≡ true → (r : Result) → posting s (bookOf book) ≡ r → length (slipOutcome r book work .book) ≡ length book
+    taken k (refused p) e = refl
+    taken k (leaves c) e =
+        let l = rule-tested book .0 k in
+        let b : Book = l .0 in
+        let st : Standing b = left-standing b (l .1) in
+        let same : bookOf book ≡ b = ap bookOf (l .2) ∙ book-laid b st in
+        laid-long c (left-standing c (leaves-left s b c (l .1) (subst (λ (z : Book). posting s z ≡ leaves c) same e)))
+        ∙ sym (ap length (l .2) ∙ laid-long b st)
+
+    go : (q : Bool) → (keepsRule book && workSized work) ≡ q → length (slipCall s book work .book) ≡ length book
+    go true e =
+        ap (λ (q : Bool). length (slipOutcome (unless (nowhere (badLoan when not q)) (posting s (bookOf book))) book work .book)) e
+        ∙ taken (and-left (keepsRule book) (workSized work) e) (posting s (bookOf book)) refl
+    go false e = ap (λ (q : Bool). length (slipOutcome (unless (nowhere (badLoan when not q)) (posting s (bookOf book))) book work .book)) e
+
+cleared-length : (work : List Row) → length (cleared work) ≡ length work
+cleared-length work = go (eqb (length work) 512) refl
+  where
+    go : (q : Bool) → eqb (length work) 512 ≡ q → length (cleared work) ≡ length work
+    go true e = rw e (length-replicate 512 zeros ∙ sym (eqb-true (length work) 512 e))
+    go false e = rw e
+
+work-length : (s : Bytes) (book work : List Row) → length (slipCall s book work .work) ≡ length work
+work-length s book work = ap length (work-behind (judgedSlip s book work) book work) ∙ cleared-length work
+
+put-length : (s out : Bytes) → length s ≤ length out → length (put s out) ≡ length out
+put-length s out h = rw (length-append, length-drop) (omega arith)
+
+write-length : (book : List Row) (out : Bytes) → length (writeCall book out .out) ≡ length out
+write-length book out = go (keepsRule book) (ltb (length out) (length text)) refl
+  where
+    text : Bytes
+    text = written (bookOf book)
+
+    go : (p q : Bool) → ltb (length out) (length text) ≡ q → length (wrote (nowhere (badLoan when not p) before nowhere (outputShort when q)) text out .out) ≡ length out
+    go true true e = refl
+    go true false e = put-length text out (ltb-false (length out) (length text) e)
+    go false q e = refl
+
+pub lengths-kept : promises.LengthsKept
+lengths-kept = (read-length, λ s book work. (slip-length s book work, work-length s book work), write-length)
+
+-- what is written by the call --------------------------------------------------------------------------------------------
+
+write-laid : (b : Book) (out : Bytes) → Left b → writeCall (laid b) out ≡ wrote (nowhere (outputShort when ltb (length out) (length (written b)))) (written b) out
+write-laid b out l =
+    let st : Standing b = left-standing b l in
+    ap (λ (q : Bool).
+    wrote (nowhere (badLoan when not q) before nowhere (outputShort when ltb (length out) (length (written (bookOf (laid b))))))
+    (written (bookOf (laid b))) out)
+    (laid-keeps b st)
+    ∙ ap (λ (z : Book). wrote (nowhere (outputShort when ltb (length out) (length (written z)))) (written z) out) (book-laid b st)
+
+pub write-call-answers : promises.WriteCallAnswers
+write-call-answers b out l = (
+  λ h. write-laid b out l ∙ ap (λ (q : Bool). wrote (nowhere (outputShort when q)) (written b) out) (le-ltb (length out) (length (written b)) h),
+  λ h. write-laid b out l ∙ ap (λ (q : Bool). wrote (nowhere (outputShort when q)) (written b) out) (lt-ltb (length out) (length (written b)) h),
+)
+
+pub calls-read-back : promises.CallsReadBack
+calls-read-back d b book out e m h =
+    let r : readCall d book ≡ readOutcome (leaves b) = rw (eq-eqb (length book) 2048 m, e) in
+    let w : writeCall (readCall d book .book) out ≡ writing.outcome Accepted (length (written b)) (put (written b) out) =
+    ap (λ (z : reading-is.Outcome). writeCall (z .book) out) r ∙ write-call-answers b out (d, e) .0 h in
+    let text : take (writeCall (readCall d book .book) out .size) (writeCall (readCall d book .book) out .out) ≡ written b =
+    ap (λ (z : writing.Outcome). take (z .size) (z .out)) w ∙ take-seam (written b) (drop (length (written b)) out) in
+    ap (λ (s : Bytes). readCall (promises.with-blocks s d) book) text
+    ∙ rw (eq-eqb (length book) 2048 m, reads-back d b e) (sym (ap readOutcome e))
+
+-- a run of slip calls ----------------------------------------------------------------------------------------------------
+
+pub slip-call-answers : promises.SlipCallAnswers
+slip-call-answers s b work l n =
+    let st : Standing b = left-standing b l in
+    ap (λ (q : Bool). slipOutcome (unless (nowhere (badLoan when not (q && workSized work))) (posting s (bookOf (laid b)))) (laid b) work) (laid-keeps b st)
+    ∙ ap (λ (q : Bool). slipOutcome (unless (nowhere (badLoan when not q)) (posting s (bookOf (laid b)))) (laid b) work) (eq-eqb (length work) 512 n)
+    ∙ ap (λ (z : Book). slipOutcome (posting s z) (laid b) work) (book-laid b st)
+
+outcome-book : (r : Result) (b : Book) (work : List Row) → slipOutcome r (laid b) work .book ≡ laid (kept b r)
+outcome-book (refused p) b work = refl
+outcome-book (leaves c) b work = refl
+
+called : (ss : List Bytes) (b : Book) (work : List Row) → Left b → length work ≡ 512 → promises.slipsCalled ss (laid b) work ≡ laid (promises.run ss b)
+unfolding promises.slipsCalled promises.run
+called [] b work l n = refl
+called (s ∷ ss) b work l n =
+    let o = slip-call-answers s b work l n in
+    let next : slipCall s (laid b) work .book ≡ laid (posted s b) = ap (λ (z : Outcome). z .book) o ∙ outcome-book (posting s b) b work in
+    ap (λ (z : List Row). promises.slipsCalled ss z (slipCall s (laid b) work .work)) next
+    ∙ called ss (posted s b) (slipCall s (laid b) work .work) (rule-kept b s l) (work-length s (laid b) work ∙ n)
+
+pub calls-read-afresh : promises.CallsReadAfresh
+calls-read-afresh d b ss book work e m n =
+    let after : promises.slipsCalled ss (readCall d book .book) work ≡ laid (promises.run ss b) =
+    ap (λ (z : List Row). promises.slipsCalled ss z work) (rw (eq-eqb (length book) 2048 m, e)) ∙ called ss b work (d, e) n in
+    (after, after ∙ rw (eq-eqb (length book) 2048 m, run-reads-afresh d b ss e))
+
+pub determined : promises.Determined
+determined A call one other e f = e ∙ sym f

@@ -1,0 +1,51 @@
+-- What was joined by semicolons is cut as it was. Assumes nothing.
+use mathlib.Core.Path.{_≡_, refl, _∙_}
+use mathlib.Core.List.{List, [], _∷_, _++_, append-nil}
+use Rattle.words.specs.Words.{Bytes}
+use Rattle.text.specs.Cells.{Cut, cells, grown, after, kind, cutFrom, cut}
+use Rattle.text.specs.Fields.{parted}
+use Rattle.text.specs.declared.State.the-variants.{Fresh, Plain}
+use Rattle.text.specs.declared.Kind.the-variants.{Other}
+
+unfoldable pub AllPlain : Bytes → Type 0
+AllPlain [] = Unit {0}
+AllPlain (b ∷ bs) = (kind b ≡ Other) × AllPlain bs
+
+unfoldable pub EachPlain : List Bytes → Type 0
+EachPlain [] = Unit {0}
+EachPlain (c ∷ cs) = AllPlain c × EachPlain cs
+
+unfoldable pub grownBy : Bytes → Cut → Cut
+grownBy [] u = u
+grownBy (b ∷ bs) u = grown b (grownBy bs u)
+
+pub grownBy-cells : (c : Bytes) (cs : List Bytes) (e : Bytes) → grownBy c (cells (e ∷ cs)) ≡ cells ((c ++ e) ∷ cs)
+unfolding grownBy
+grownBy-cells [] cs e = refl
+grownBy-cells (b ∷ bs) cs e = rw (grownBy-cells bs cs e)
+
+plain-semi : (c : Bytes) (rest : Bytes) → AllPlain c → cutFrom Plain (c ++ (59 ∷ rest)) ≡ grownBy c (after (cutFrom Fresh rest))
+unfolding cutFrom grownBy AllPlain
+plain-semi [] rest h = refl
+plain-semi (b ∷ bs) rest h = rw (h .0, plain-semi bs rest (h .1))
+
+plain-end : (c : Bytes) → AllPlain c → cutFrom Plain c ≡ grownBy c (cells ([] ∷ []))
+unfolding cutFrom grownBy AllPlain
+plain-end [] h = refl
+plain-end (b ∷ bs) h = rw (h .0, plain-end bs (h .1))
+
+fresh-semi : (c : Bytes) (rest : Bytes) → AllPlain c → cutFrom Fresh (c ++ (59 ∷ rest)) ≡ grownBy c (after (cutFrom Fresh rest))
+unfolding cutFrom grownBy AllPlain
+fresh-semi [] rest h = refl
+fresh-semi (b ∷ bs) rest h = rw (h .0, plain-semi bs rest (h .1))
+
+fresh-end : (c : Bytes) → AllPlain c → cutFrom Fresh c ≡ grownBy c (cells ([] ∷ []))
+unfolding cutFrom grownBy AllPlain
+fresh-end [] h = refl
+fresh-end (b ∷ bs) h = rw (h .0, plain-end bs (h .1))
+
+pub cut-parted : (c : Bytes) (cs : List Bytes) → EachPlain (c ∷ cs) → cut (parted 59 (c ∷ cs)) ≡ cells (c ∷ cs)
+unfolding parted EachPlain
+cut-parted c [] h = fresh-end c (h .0) ∙ grownBy-cells c [] [] ∙ rw append-nil
+cut-parted c (e ∷ es) h =
+    fresh-semi c (parted 59 (e ∷ es)) (h .0) ∙ rw (cut-parted e es (h .1)) (grownBy-cells c (e ∷ es) [] ∙ rw append-nil)

@@ -1,0 +1,225 @@
+-- Demand 2: accepted exactly if no line breaks a rule, else the first fault. Assumes nothing.
+use Prim.Native.Nat.{ℕ, zero, suc, _+_, _<_}
+use native.Mathlib.Omega.{arith}
+use mathlib.Core.Path.{_≡_, refl, ap, sym, _∙_}
+use mathlib.Core.Bool.{Bool, true, false}
+use mathlib.Core.List.{List, [], _∷_}
+use mathlib.Core.Logic.{_⊎_, inl, inr, ⊎-elim}
+use lib.ListN.{length}
+use Rattle.words.specs.Words.{Bytes}
+use Rattle.refusals.specs.Verdicts.{_when_, placed, place, inText, textTooLong}
+use Rattle.refusals.specs.declared.Place.{Place}
+use Rattle.refusals.specs.declared.Check.{Check}
+use Rattle.refusals.specs.declared.Check.the-variants.{Passes, Fails}
+use Rattle.refusals.specs.declared.Verdict.{Verdict}
+use Rattle.refusals.specs.declared.Verdict.the-variants.{Accepted, Refused}
+use Rattle.text.specs.Lines.{slipLines, overlong}
+use Rattle.tables.specs.Columns.{number}
+use Rattle.tables.specs.declared.Table.{Table}
+use Rattle.tables.specs.declared.Table.the-variants.{VehicleType, Depot, Stop, Block}
+use Rattle.book.specs.Book.{Book, empty, entered}
+use Rattle.reading.specs.Header.{Header}
+use Rattle.reading.specs.Reading.{Result, leaves, refused, unless, _▹_, judged, rowRead, rowsRead, headerOf, topFaults, tableRead, Delivery, reading}
+use Rattle.slips.specs.Slips.{slipCheck, slipLeaves, linesPosted, posting}
+use Rattle.promises.specs.Promises.{onward, checkAt, Faultless, FirstFault, rowLinesOf, rowStep, AcceptedExactly, RefusedAtFirst, SlipAcceptedExactly, SlipRefusedAtFirst, DeliveryInOrder, FaultyTable, in-types, in-depots, in-stops, in-blocks, DeliveryRefused}
+use Rattle.promises.proofs.TestLaws.{came, going-on, unrefused}
+use Rattle.promises.proofs.DeliveryLaws.{in-order}
+
+-- lines judged in turn, said once for rows and for slip lines
+module _ (check : Bytes → Book → Check) (step : Bytes → Book → Book) (table : ℕ) where
+  unfoldable inTurn : ℕ → List Bytes → Book → Result
+  inTurn i [] b = leaves b
+  inTurn i (l ∷ ls) b = unless (placed table i (check l b)) (inTurn (suc i) ls (step l b))
+
+  turn-faultless : (i : ℕ) (ls : List Bytes) (b c : Book) → inTurn i ls b ≡ leaves c → Faultless check step ls b c
+  unfolding inTurn onward
+  turn-faultless i [] b c e = let f : c ≡ b = cc in record { passing = λ j h. absurd (omega arith); left = f }
+  turn-faultless i (l ∷ ls) b c e = go (check l b) refl (turn-faultless (suc i) ls (step l b) c) e
+    where
+      go : (v : Check) → check l b ≡ v → (inTurn (suc i) ls (step l b) ≡ leaves c → Faultless check step ls (step l b) c) →
+          unless (placed table i (check l b)) (inTurn (suc i) ls (step l b)) ≡ leaves c → Faultless check step (l ∷ ls) b c
+      go Passes v ih f =
+          let r : Faultless check step ls (step l b) c = ih (rw v at f) in
+          record { passing = at r; left = r .left }
+        where
+          at : Faultless check step ls (step l b) c → (j : ℕ) → j < length (l ∷ ls) → checkAt check step (l ∷ ls) j b ≡ Passes
+          at r zero h = v
+          at r (suc j) h = r .passing j (omega arith)
+      go (Fails n k) v ih f =
+          let x : refused (place n table i k) ≡ leaves c = rw v at f in
+          let z : _≡_ {A = ℕ} 0 1 = cc in let y : ⊥ = omega arith in absurd y
+
+  faultless-turn : (i : ℕ) (ls : List Bytes) (b c : Book) → Faultless check step ls b c → inTurn i ls b ≡ leaves c
+  unfolding inTurn onward
+  faultless-turn i [] b c h = ap (λ (z : Book). leaves z) (sym (h .left))
+  faultless-turn i (l ∷ ls) b c h =
+      let here : check l b ≡ Passes = h .passing 0 (omega arith) in
+      rw here (faultless-turn (suc i) ls (step l b) c (record { passing = λ j g. h .passing (suc j) (omega arith); left = h .left }))
+
+  turn-fault : (i : ℕ) (ls : List Bytes) (b : Book) (p : Place) → inTurn i ls b ≡ refused p → FirstFault check step table i ls b p
+  unfolding inTurn onward
+  turn-fault i [] b p e = let z : _≡_ {A = ℕ} 0 1 = cc in let y : ⊥ = omega arith in absurd y
+  turn-fault i (l ∷ ls) b p e = go (check l b) refl (turn-fault (suc i) ls (step l b) p) e
+    where
+      go : (v : Check) → check l b ≡ v → (inTurn (suc i) ls (step l b) ≡ refused p → FirstFault check step table (suc i) ls (step l b) p) →
+          unless (placed table i (check l b)) (inTurn (suc i) ls (step l b)) ≡ refused p → FirstFault check step table i (l ∷ ls) b p
+      go Passes v ih f =
+          let r : FirstFault check step table (suc i) ls (step l b) p = ih (rw v at f) in
+          let n : i + suc (r .at) ≡ suc i + r .at = omega arith in
+          record { at = suc (r .at); inside = omega (arith, r .inside); fault = rw n (r .fault); above = up r }
+        where
+          up : (r : FirstFault check step table (suc i) ls (step l b) p) (j : ℕ) → j < suc (r .at) → checkAt check step (l ∷ ls) j b ≡ Passes
+          up r zero h = v
+          up r (suc j) h = r .above j (omega arith)
+      go (Fails n k) v ih f =
+          let x : refused (place n table i k) ≡ refused p = rw v at f in
+          let q : place n table i k ≡ p = cc in
+          let m : i + 0 ≡ i = omega arith in
+          record { at = 0; inside = omega arith; fault = rw (m, v) (ap (λ (z : Place). Refused z) q); above = λ j h. absurd (omega arith) }
+
+  fault-turn : (i : ℕ) (ls : List Bytes) (b : Book) (p : Place) (at : ℕ) → at < length ls → placed table (i + at) (checkAt check step ls at b) ≡ Refused p →
+      ((j : ℕ) → j < at → checkAt check step ls j b ≡ Passes) → inTurn i ls b ≡ refused p
+  unfolding inTurn onward
+  fault-turn i [] b p at n f u = absurd (omega arith)
+  fault-turn i (l ∷ ls) b p zero n f u =
+      let m : i + 0 ≡ i = omega arith in
+      let v : placed table i (check l b) ≡ Refused p = rw m at f in
+      rw v
+  fault-turn i (l ∷ ls) b p (suc at) n f u =
+      let here : check l b ≡ Passes = u 0 (omega arith) in
+      let m : i + suc at ≡ suc i + at = omega arith in
+      rw here (fault-turn (suc i) ls (step l b) p at (omega arith) (rw m at f) (λ j h. u (suc j) (omega arith)))
+
+-- rows and slip lines are so judged
+rows-in-turn : (t : Table) (h : Header) (i : ℕ) (ls : List Bytes) (b : Book) → rowsRead t h i ls b ≡ inTurn (judged t h) (λ l x. entered t (rowRead t h l) x) (number t) i ls b
+unfolding rowsRead inTurn
+rows-in-turn t h i [] b = refl
+rows-in-turn t h i (l ∷ ls) b = ap (λ (r : Result). unless (placed (number t) i (judged t h l b)) r) (rows-in-turn t h (suc i) ls (entered t (rowRead t h l) b))
+
+slip-in-turn : (i : ℕ) (ls : List Bytes) (b : Book) → linesPosted i ls b ≡ inTurn slipCheck slipLeaves 5 i ls b
+unfolding linesPosted inTurn
+slip-in-turn i [] b = refl
+slip-in-turn i (l ∷ ls) b = ap (λ (r : Result). unless (placed 5 i (slipCheck l b)) r) (slip-in-turn (suc i) ls (slipLeaves l b))
+
+-- what stands before them
+unless-refused : (v : Verdict) (r : Result) (p : Place) → unless v r ≡ refused p → (v ≡ Refused p) ⊎ ((v ≡ Accepted) × (r ≡ refused p))
+unless-refused Accepted r p h = inr (refl, h)
+unless-refused (Refused q) r p h = let e : q ≡ p = cc in inl (ap (λ (z : Place). Refused z) e)
+
+pub accepted-exactly : AcceptedExactly
+unfolding tableRead
+accepted-exactly t s b c = (
+  λ e. (
+    unrefused (topFaults t s) read c e,
+    turn-faultless (judged t h) (rowStep t s) (number t) 2 ls b c (sym (rows-in-turn t h 2 ls b) ∙ going-on (topFaults t s) read c e),
+  ),
+  λ f. rw (f .0) (rows-in-turn t h 2 ls b ∙ faultless-turn (judged t h) (rowStep t s) (number t) 2 ls b c (f .1)),
+)
+  where
+    h : Header
+    h = headerOf t s
+
+    ls : List Bytes
+    ls = rowLinesOf s
+
+    read : Result
+    read = rowsRead t h 2 ls b
+
+pub refused-at-first : RefusedAtFirst
+unfolding tableRead
+refused-at-first t s b p = (
+  λ e.
+      ⊎-elim (λ v. inl v)
+      (λ v. inr (v .0, turn-fault (judged t h) (rowStep t s) (number t) 2 ls b p (sym (rows-in-turn t h 2 ls b) ∙ v .1)))
+      (unless-refused (topFaults t s) (rowsRead t h 2 ls b) p e),
+  ⊎-elim (λ v. rw v)
+      (λ v. rw (v .0) (rows-in-turn t h 2 ls b ∙ fault-turn (judged t h) (rowStep t s) (number t) 2 ls b p (v .1 .at) (v .1 .inside) (v .1 .fault) (v .1 .above))),
+)
+  where
+    h : Header
+    h = headerOf t s
+
+    ls : List Bytes
+    ls = rowLinesOf s
+
+-- the length of a slip
+short-slip : (t : Bool) → inText 5 (textTooLong when t) ≡ Accepted → t ≡ false
+short-slip true h = let z : _≡_ {A = ℕ} 0 1 = cc in let y : ⊥ = omega arith in absurd y
+short-slip false h = refl
+
+long-slip : (t : Bool) (p : Place) → inText 5 (textTooLong when t) ≡ Refused p → (t ≡ true) × (p ≡ place 1 5 0 0)
+long-slip true p h = let e : p ≡ place 1 5 0 0 = cc in (refl, e)
+long-slip false p h = let z : _≡_ {A = ℕ} 0 1 = cc in let y : ⊥ = omega arith in absurd y
+
+pub slip-accepted-exactly : SlipAcceptedExactly
+unfolding posting
+slip-accepted-exactly s b c = (
+  λ e. (
+    short-slip (overlong s) (unrefused top read c e),
+    turn-faultless slipCheck slipLeaves 5 1 (slipLines s) b c (sym (slip-in-turn 1 (slipLines s) b) ∙ going-on top read c e),
+  ),
+  λ f. rw (f .0) (slip-in-turn 1 (slipLines s) b ∙ faultless-turn slipCheck slipLeaves 5 1 (slipLines s) b c (f .1)),
+)
+  where
+    top : Verdict
+    top = inText 5 (textTooLong when overlong s)
+
+    read : Result
+    read = linesPosted 1 (slipLines s) b
+
+pub slip-refused-at-first : SlipRefusedAtFirst
+unfolding posting
+slip-refused-at-first s b p = (
+  λ e.
+      ⊎-elim (λ v. inl (long-slip (overlong s) p v))
+      (λ v. inr (short-slip (overlong s) (v .0), turn-fault slipCheck slipLeaves 5 1 (slipLines s) b p (sym (slip-in-turn 1 (slipLines s) b) ∙ v .1)))
+      (unless-refused (inText 5 (textTooLong when overlong s)) (linesPosted 1 (slipLines s) b) p e),
+  ⊎-elim (λ v. rw (v .0) (ap (λ (z : Place). refused z) (sym (v .1))))
+      (λ v. rw (v .0) (slip-in-turn 1 (slipLines s) b ∙ fault-turn slipCheck slipLeaves 5 1 (slipLines s) b p (v .1 .at) (v .1 .inside) (v .1 .fault) (v .1 .above))),
+)
+
+-- the four tables --------------------------------------------------------------------------------------------------------
+
+pub delivery-in-order : DeliveryInOrder
+unfolding reading
+delivery-in-order d b = (in-order d b, λ o. rw (o .types, o .depots, o .stops, o .blocks))
+
+-- a result that goes on, or ends in a refusal
+ended : (r : Result) (f : Book → Result) (p : Place) → (r ▹ f) ≡ refused p → (r ≡ refused p) ⊎ ((b : Book) × (r ≡ leaves b) × (f b ≡ refused p))
+ended (refused q) f p h = inl h
+ended (leaves b) f p h = inr (b, refl, h)
+
+faulty-table : (d : Delivery) (p : Place) → reading d ≡ refused p → FaultyTable d p
+unfolding reading
+faulty-table d p e =
+    ⊎-elim
+    (λ e3.
+    ⊎-elim
+    (λ e2.
+    ⊎-elim (λ e1. in-types e1) (λ s2. in-depots (s2 .0) (s2 .1) (s2 .2)) (ended r1 (tableRead Depot (d .depots)) p e2))
+    (λ s3. let s2 = came r1 (tableRead Depot (d .depots)) (s3 .0) (s3 .1) in in-stops (s2 .0) (s3 .0) (s2 .1) (s2 .2) (s3 .2))
+    (ended r2 (tableRead Stop (d .stops)) p e3))
+    (λ s4.
+    let s3 = came r2 (tableRead Stop (d .stops)) (s4 .0) (s4 .1) in
+    let s2 = came r1 (tableRead Depot (d .depots)) (s3 .0) (s3 .1) in
+    in-blocks (s2 .0) (s3 .0) (s4 .0) (s2 .1) (s2 .2) (s3 .2) (s4 .2))
+    (ended r3 (tableRead Block (d .blocks)) p e)
+  where
+    r1 : Result
+    r1 = tableRead VehicleType (d .types) empty
+
+    r2 : Result
+    r2 = r1 ▹ tableRead Depot (d .depots)
+
+    r3 : Result
+    r3 = r2 ▹ tableRead Stop (d .stops)
+
+table-faulty : (d : Delivery) (p : Place) → FaultyTable d p → reading d ≡ refused p
+unfolding reading
+table-faulty d p (in-types e) = rw e
+table-faulty d p (in-depots b e f) = rw (e, f)
+table-faulty d p (in-stops b c e f g) = rw (e, f, g)
+table-faulty d p (in-blocks b c x e f g h) = rw (e, f, g, h)
+
+pub delivery-refused : DeliveryRefused
+delivery-refused d p = (faulty-table d p, table-faulty d p)

@@ -1,0 +1,298 @@
+-- What stands in a table by right: a reading leaves nothing else, and whatever so stands is read back from its plain form. Assumes nothing.
+use Prim.Native.Nat.{ℕ, suc, _+_, _-_, _*_, _≤_, _<_}
+use native.Mathlib.Omega.{arith}
+use mathlib.Core.Path.{_≡_, refl, ap, sym, subst, _∙_}
+use mathlib.Core.Bool.{true, false}
+use mathlib.Core.List.{List, [], _∷_, _++_, map, append-nil}
+use lib.ListN.{length, take, length-append, length-map, length-take, length-replicate, replicate}
+use lib.Seq.{take-at, append-snoc}
+use borrow.Author.Tests.{leb-false, lt-leb, le-ltb}
+use Rattle.words.specs.Words.{Bytes, Row}
+use Rattle.refusals.specs.Verdicts.{_⊳_, _when_, placed, place, tooManyRows, endsEarly, keyStands}
+use Rattle.refusals.specs.declared.Check.{Check}
+use Rattle.refusals.specs.declared.Check.the-variants.{Passes, Fails}
+use Rattle.refusals.specs.declared.Verdict.{Verdict}
+use Rattle.refusals.specs.declared.Verdict.the-variants.{Accepted, Refused}
+use Rattle.text.specs.Numbers.{value}
+use Rattle.text.specs.Lines.{lines, rowLines}
+use Rattle.text.specs.Cells.{cut, cellsOf}
+use Rattle.tables.specs.Columns.{columnsOf, number, keyWidth, keptWidth}
+use Rattle.tables.specs.declared.Table.{Table}
+use Rattle.tables.specs.declared.Table.the-variants.{VehicleType, Depot, Stop, Block}
+use Rattle.rows.specs.Rows.{wide, keyOrder, inserted, stands, rising as rises}
+use Rattle.rows.specs.declared.Order.{Order}
+use Rattle.rows.specs.declared.Order.the-variants.{Less, Same, More}
+use Rattle.book.specs.Book.{Book, rows, with-rows, entered, full, knows}
+use Rattle.book.specs.Rules.{timeFault, unknown, unknownOf, ruled}
+use Rattle.book.specs.Keeping.{ranged}
+use Rattle.reading.specs.Header.{Header, cutCheck, contents, contentsFrom}
+use Rattle.reading.specs.Reading.{Result, leaves, refused, unless, _▹_, badCell, judged, rowRead, rowsRead, tableRead, headerOf, topFaults}
+use Rattle.writer.specs.Writing.{linesWritten}
+use Rattle.promises.proofs.TestLaws.{both, unfailed, going-on}
+use Rattle.rows.proofs.Rising.{rising-true, rising-inserted}
+use Rattle.rows.proofs.Changes.{length-inserted}
+use Rattle.tables.proofs.Figures.{kept-few}
+use Rattle.promises.proofs.LastRowLaws.{AboveAll, above-all, inserted-last, stands-not}
+use Rattle.promises.proofs.LineLaws.{Unbroken, EachUnbroken, lines-written}
+use Rattle.promises.proofs.PlainLaws.{plainNames, plainHeader, plainLine, plainText, Eleven, eleven-long, kept-numeric, cells-ranged, row-read, row-judged, unbroken-line, unbroken-plain, names-good, names-read, names-short, line-short}
+
+-- a book's tables are apart ----------------------------------------------------------------------------------------------
+
+pub rows-with : (t : Table) (xs : List Row) (b : Book) → rows t (with-rows t xs b) ≡ xs
+rows-with VehicleType xs b = refl
+rows-with Depot xs b = refl
+rows-with Stop xs b = refl
+rows-with Block xs b = refl
+
+pub with-own : (t : Table) (b : Book) → with-rows t (rows t b) b ≡ b
+with-own VehicleType b = refl
+with-own Depot b = refl
+with-own Stop b = refl
+with-own Block b = refl
+
+pub with-with : (t : Table) (xs ys : List Row) (b : Book) → with-rows t xs (with-rows t ys b) ≡ with-rows t xs b
+with-with VehicleType xs ys b = refl
+with-with Depot xs ys b = refl
+with-with Stop xs ys b = refl
+with-with Block xs ys b = refl
+
+pub entered-with : (t : Table) (row : Row) (xs : List Row) (b : Book) → entered t row (with-rows t xs b) ≡ with-rows t (inserted (keyWidth t) row xs) b
+entered-with VehicleType row xs b = refl
+entered-with Depot row xs b = refl
+entered-with Stop row xs b = refl
+entered-with Block row xs b = refl
+
+pub unknown-with : (t : Table) (row : Row) (xs : List Row) (b : Book) → unknown t row (with-rows t xs b) ≡ unknown t row b
+unfolding unknownOf
+unknown-with VehicleType row xs b = refl
+unknown-with Depot row xs b = refl
+unknown-with Stop row xs b = refl
+unknown-with Block row xs b = refl
+
+-- rows that stand by right -----------------------------------------------------------------------------------------------
+
+pub record Good (t : Table) (b : Book) (row : Row) : Type 0 where
+  pub shape : row ≡ wide (take (keptWidth t) row)
+  pub inside : ranged (columnsOf t) (take (keptWidth t) row) ≡ true
+  pub timed : timeFault t row ≡ false
+  pub known : unknown t row b ≡ Passes
+
+unfoldable pub EachGood : Table → Book → List Row → Type 0
+EachGood t b [] = Unit {0}
+EachGood t b (x ∷ xs) = Good t b x × EachGood t b xs
+
+pub record Held (t : Table) (b : Book) (xs : List Row) : Type 0 where
+  pub rising : rises (keyWidth t) xs ≡ true
+  pub good : EachGood t b xs
+  pub size : length xs ≤ 512
+
+pub good-eleven : (t : Table) (row : Row) → row ≡ wide (take (keptWidth t) row) → Eleven row
+good-eleven t row s =
+    let ns = take (keptWidth t) row in
+    let long : length row ≡ length ns + (11 - length ns) = ap length s ∙ length-append ns (replicate (11 - length ns) 0) ∙ ap (λ (n : ℕ). length ns + n) (length-replicate (11 - length ns) 0) in
+    let few : length ns ≤ 11 = rw length-take (omega (arith, kept-few t)) in
+    eleven-long row (omega arith)
+
+-- what the rules of a row depend on
+pub good-moved : (t : Table) (b c : Book) → ((row : Row) → unknown t row b ≡ unknown t row c) → (xs : List Row) → EachGood t b xs → EachGood t c xs
+unfolding EachGood
+good-moved t b c e [] h = tt
+good-moved t b c e (x ∷ xs) h =
+    let g : Good t b x = h .0 in
+    (record { shape = g .shape; inside = g .inside; timed = g .timed; known = sym (e x) ∙ g .known }, good-moved t b c e xs (h .1))
+
+pub held-moved : (t : Table) (b c : Book) → ((row : Row) → unknown t row b ≡ unknown t row c) → (xs : List Row) → Held t b xs → Held t c xs
+held-moved t b c e xs h = record { rising = h .rising; good = good-moved t b c e xs (h .good); size = h .size }
+
+pub good-insert : (t : Table) (b : Book) (k : ℕ) (row : Row) (xs : List Row) → Good t b row → EachGood t b xs → EachGood t b (inserted k row xs)
+unfolding EachGood inserted
+good-insert t b k row [] g h = (g, tt)
+good-insert t b k row (x ∷ xs) g h = go (keyOrder k row x) refl (good-insert t b k row xs g (h .1))
+  where
+    go : (o : Order) → keyOrder k row x ≡ o → EachGood t b (inserted k row xs) → EachGood t b (inserted k row (x ∷ xs))
+    go Less e ih = rw e (g, h)
+    go Same e ih = rw e h
+    go More e ih = rw e (h .0, ih)
+
+-- what a check that passes says ------------------------------------------------------------------------------------------
+
+pub record Taken (t : Table) (b : Book) (row : Row) : Type 0 where
+  pub good : Good t b row
+  pub room : length (rows t b) < 512
+  pub fresh : stands (keyWidth t) row (rows t b) ≡ false
+
+contents-long : (t : Table) (h : Header) (cs : List Bytes) → length (map value (take (keptWidth t) (contents t h cs))) ≡ keptWidth t
+unfolding contentsFrom columnsOf
+contents-long VehicleType h cs = refl
+contents-long Depot h cs = refl
+contents-long Stop h cs = refl
+contents-long Block h cs = refl
+
+pub judged-taken : (t : Table) (b : Book) (h : Header) (l : Bytes) → judged t h l b ≡ Passes → Taken t b (rowRead t h l)
+unfolding judged
+judged-taken t b h l p =
+    let cs = contents t h (cellsOf (cut l)) in
+    let row = rowRead t h l in
+    let p5 = both (tooManyRows when full t b) (cutCheck h (cut l) ⊳ badCell 1 (columnsOf t) cs ⊳ ruled t row b) p in
+    let p6 = both (cutCheck h (cut l)) (badCell 1 (columnsOf t) cs ⊳ ruled t row b) (p5 .1) in
+    let p8 = both (badCell 1 (columnsOf t) cs) (ruled t row b) (p6 .1) in
+    let p11 = both (endsEarly when timeFault t row) (keyStands when knows t row b ⊳ unknown t row b) (p8 .1) in
+    let p9 = both (keyStands when knows t row b) (unknown t row b) (p11 .1) in
+    let ns : Row = map value (take (keptWidth t) cs) in
+    let long : length ns ≡ keptWidth t = contents-long t h (cellsOf (cut l)) in
+    let back : take (keptWidth t) (wide ns) ≡ ns = take-at ns (replicate (11 - length ns) 0) (keptWidth t) long in
+    record {
+      good =
+          record {
+            shape = ap wide (sym back);
+            inside = rw back (cells-ranged (keptWidth t) 1 (columnsOf t) cs (kept-numeric t) (p8 .0));
+            timed = unfailed 11 11 (timeFault t row) (p11 .0);
+            known = p9 .1;
+          };
+      room = leb-false 512 (length (rows t b)) (unfailed 5 0 (full t b) (p5 .0));
+      fresh = unfailed 9 0 (knows t row b) (p9 .0);
+    }
+
+-- what the rows of a reading leave ---------------------------------------------------------------------------------------
+
+pub held-insert : (t : Table) (b : Book) (row : Row) → Taken t b row → Held t b (rows t b) → Held t b (inserted (keyWidth t) row (rows t b))
+held-insert t b row a h =
+    let small : length (rows t b) < 512 = a .room in
+    record {
+      rising = rising-inserted (keyWidth t) row (rows t b) (h .rising);
+      good = good-insert t b (keyWidth t) row (rows t b) (a .good) (h .good);
+      size = rw (length-inserted (keyWidth t) row (rows t b) (a .fresh)) (omega arith);
+    }
+
+pub held-entered : (t : Table) (b : Book) (row : Row) → Taken t b row → Held t b (rows t b) → Held t (entered t row b) (rows t (entered t row b))
+held-entered t b row a h =
+    let xs : List Row = inserted (keyWidth t) row (rows t b) in
+    rw rows-with (held-moved t b (with-rows t xs b) (λ r. sym (unknown-with t r xs b)) xs (held-insert t b row a h))
+
+pub held-read : (t : Table) (h : Header) (i : ℕ) (ls : List Bytes) (b c : Book) → Held t b (rows t b) → rowsRead t h i ls b ≡ leaves c →
+    (c ≡ with-rows t (rows t c) b) × Held t c (rows t c)
+unfolding rowsRead
+held-read t h i [] b c held e =
+    let f : b ≡ c = cc in
+    subst (λ (z : Book). (z ≡ with-rows t (rows t z) b) × Held t z (rows t z)) f (sym (with-own t b), held)
+held-read t h i (l ∷ ls) b c held e = go (judged t h l b) refl (held-read t h (suc i) ls (entered t (rowRead t h l) b) c) e
+  where
+    go : (v : Check) → judged t h l b ≡ v →
+        (Held t (entered t (rowRead t h l) b) (rows t (entered t (rowRead t h l) b)) → rowsRead t h (suc i) ls (entered t (rowRead t h l) b) ≡ leaves c →
+        (c ≡ with-rows t (rows t c) (entered t (rowRead t h l) b)) × Held t c (rows t c)) →
+        unless (placed (number t) i (judged t h l b)) (rowsRead t h (suc i) ls (entered t (rowRead t h l) b)) ≡ leaves c →
+        (c ≡ with-rows t (rows t c) b) × Held t c (rows t c)
+    go Passes v ih f =
+        let r = ih (held-entered t b (rowRead t h l) (judged-taken t b h l v) held) (rw v at f) in
+        (r .0 ∙ with-with t (rows t c) (inserted (keyWidth t) (rowRead t h l) (rows t b)) b, r .1)
+    go (Fails n k) v ih f =
+        let x : refused (place n (number t) i k) ≡ leaves c = rw v at f in
+        let z : _≡_ {A = ℕ} 0 1 = cc in let y : ⊥ = omega arith in absurd y
+
+pub held-table : (t : Table) (s : Bytes) (b c : Book) → Held t b (rows t b) → tableRead t s b ≡ leaves c →
+    (c ≡ with-rows t (rows t c) b) × Held t c (rows t c)
+unfolding tableRead
+held-table t s b c h e =
+    held-read t (headerOf t s) 2 (rowLines (lines s)) b c h
+    (going-on (topFaults t s) (rowsRead t (headerOf t s) 2 (rowLines (lines s)) b) c e)
+
+-- what so stands is read back from its plain form ------------------------------------------------------------------------
+
+good-judged : (t : Table) (b : Book) (xs : List Row) (row : Row) → Good t b row → length xs < 512 → AboveAll (keyWidth t) row xs →
+    judged t (plainHeader t) (plainLine t row) (with-rows t xs b) ≡ Passes
+good-judged t b xs row g small up =
+    row-judged t row (with-rows t xs b) (good-eleven t row (g .shape)) (g .shape) (g .inside)
+    ∙ rw (rows-with t xs b, lt-leb 512 (length xs) small, g .timed, stands-not (keyWidth t) row xs up, unknown-with t row xs b) (g .known)
+
+rows-back : (t : Table) (b : Book) (i : ℕ) (xs ys : List Row) → rises (keyWidth t) (xs ++ ys) ≡ true → EachGood t b ys → length (xs ++ ys) ≤ 512 →
+    rowsRead t (plainHeader t) i (map (plainLine t) ys) (with-rows t xs b) ≡ leaves (with-rows t (xs ++ ys) b)
+unfolding rowsRead EachGood
+rows-back t b i xs [] up g n = rw append-nil
+rows-back t b i xs (y ∷ ys) up g n =
+    let small : length xs < 512 = omega (arith, length-append xs (y ∷ ys)) in
+    let over : AboveAll (keyWidth t) y xs = above-all (keyWidth t) y xs ys (rising-true (keyWidth t) (xs ++ (y ∷ ys)) up) in
+    let good : Good t b y = g .0 in
+    let on : rowsRead t (plainHeader t) (suc i) (map (plainLine t) ys) (with-rows t (xs ++ (y ∷ [])) b) ≡ leaves (with-rows t (xs ++ (y ∷ ys)) b) =
+    rows-back t b (suc i) (xs ++ (y ∷ [])) ys (subst (λ (l : List Row). rises (keyWidth t) l ≡ true) (sym (append-snoc xs y ys)) up) (g .1) (rw (append-snoc xs y ys) n)
+    ∙ ap (λ (l : List Row). leaves (with-rows t l b)) (append-snoc xs y ys) in
+    rw (
+      good-judged t b xs y good small over,
+      row-read t y (good-eleven t y (good .shape)) (good .shape),
+      entered-with t y xs b,
+      inserted-last (keyWidth t) y xs over,
+    ) on
+
+-- a text of short lines below the plain names is read line by line: 1 is never given for it
+unfoldable pub EachShort : List Bytes → Type 0
+EachShort [] = Unit {0}
+EachShort (l ∷ ls) = (length l ≤ 65) × EachShort ls
+
+lines-short : (ls : List Bytes) → EachShort ls → length (linesWritten ls) ≤ length ls * 66
+unfolding linesWritten EachShort
+lines-short [] h = omega arith
+lines-short (l ∷ ls) h = rw length-append (omega (arith, h .0, lines-short ls (h .1)))
+
+text-short : (t : Table) (ls : List Bytes) → EachShort ls → length ls ≤ 513 → length (linesWritten (plainNames t ∷ ls)) ≤ 65536
+unfolding linesWritten
+text-short t ls h n = rw length-append (omega (arith, names-short t, lines-short ls h))
+
+pub plain-lines-read : (t : Table) (ls : List Bytes) (b : Book) → EachUnbroken (plainNames t ∷ ls) → EachShort ls → length ls ≤ 513 →
+    tableRead t (linesWritten (plainNames t ∷ ls)) b ≡ rowsRead t (plainHeader t) 2 ls b
+unfolding tableRead
+plain-lines-read t ls b u h n =
+    rw (lines-written (plainNames t ∷ ls) u, le-ltb 65536 (length (linesWritten (plainNames t ∷ ls))) (text-short t ls h n), names-good t, names-read t)
+
+pub rows-short : (t : Table) (b : Book) (ys : List Row) → EachGood t b ys → EachShort (map (plainLine t) ys)
+unfolding EachShort EachGood
+rows-short t b [] h = tt
+rows-short t b (y ∷ ys) h = let g : Good t b y = h .0 in (line-short t y (good-eleven t y (g .shape)) (g .inside), rows-short t b ys (h .1))
+
+few-lines : (t : Table) (b : Book) (ys : List Row) → Held t b ys → length (map (plainLine t) ys) ≤ 513
+few-lines t b ys h = omega (arith, length-map ys (plainLine t), h .size)
+
+pub plain-short : (t : Table) (b : Book) (ys : List Row) → Held t b ys → length (plainText t ys) ≤ 65536
+plain-short t b ys h = text-short t (map (plainLine t) ys) (rows-short t b ys (h .good)) (few-lines t b ys h)
+
+pub table-back : (t : Table) (b : Book) (ys : List Row) → Held t b ys → tableRead t (plainText t ys) (with-rows t [] b) ≡ leaves (with-rows t ys b)
+table-back t b ys h =
+    plain-lines-read t (map (plainLine t) ys) (with-rows t [] b) (unbroken-plain t ys) (rows-short t b ys (h .good)) (few-lines t b ys h)
+    ∙ rows-back t b 2 [] ys (h .rising) (h .good) (h .size)
+
+-- and one more row behind them -------------------------------------------------------------------------------------------
+
+rows-append : (t : Table) (h : Header) (i : ℕ) (ls ms : List Bytes) (b : Book) → rowsRead t h i (ls ++ ms) b ≡ (rowsRead t h i ls b ▹ rowsRead t h (i + length ls) ms)
+unfolding rowsRead
+rows-append t h i [] ms b = let m : i + 0 ≡ i = omega arith in rw m
+rows-append t h i (l ∷ ls) ms b = go (placed (number t) i (judged t h l b)) (rows-append t h (suc i) ls ms (entered t (rowRead t h l) b))
+  where
+    go : (v : Verdict) →
+        rowsRead t h (suc i) (ls ++ ms) (entered t (rowRead t h l) b) ≡ (rowsRead t h (suc i) ls (entered t (rowRead t h l) b) ▹ rowsRead t h (suc i + length ls) ms) →
+        unless v (rowsRead t h (suc i) (ls ++ ms) (entered t (rowRead t h l) b))
+        ≡ (unless v (rowsRead t h (suc i) ls (entered t (rowRead t h l) b)) ▹ rowsRead t h (i + suc (length ls)) ms)
+    go Accepted ih = let m : i + suc (length ls) ≡ suc i + length ls = omega arith in rw m ih
+    go (Refused p) ih = refl
+
+short-append : (ls : List Bytes) (l : Bytes) → EachShort ls → length l ≤ 65 → EachShort (ls ++ (l ∷ []))
+unfolding EachShort
+short-append [] l h n = (n, tt)
+short-append (x ∷ xs) l h n = (h .0, short-append xs l (h .1) n)
+
+unbroken-last : (ls : List Bytes) (l : Bytes) → EachUnbroken ls → Unbroken l → EachUnbroken (ls ++ (l ∷ []))
+unfolding EachUnbroken
+unbroken-last [] l h n = (n, tt)
+unbroken-last (x ∷ xs) l h n = (h .0, unbroken-last xs l (h .1) n)
+
+pub table-more : (t : Table) (b : Book) (ys : List Row) (row : Row) → Held t b ys → Eleven row → ranged (columnsOf t) (take (keptWidth t) row) ≡ true →
+    tableRead t (linesWritten (plainNames t ∷ (map (plainLine t) ys ++ (plainLine t row ∷ [])))) (with-rows t [] b)
+    ≡ unless (placed (number t) (2 + length ys) (judged t (plainHeader t) (plainLine t row) (with-rows t ys b)))
+    (leaves (entered t (rowRead t (plainHeader t) (plainLine t row)) (with-rows t ys b)))
+unfolding rowsRead
+table-more t b ys row h e r =
+    let ls : List Bytes = map (plainLine t) ys in
+    let l : Bytes = plainLine t row in
+    let n : length (ls ++ (l ∷ [])) ≤ 513 = omega (arith, length-append ls (l ∷ []), length-map ys (plainLine t), h .size) in
+    plain-lines-read t (ls ++ (l ∷ [])) (with-rows t [] b) (unbroken-last (plainNames t ∷ ls) l (unbroken-plain t ys) (unbroken-line t row))
+    (short-append ls l (rows-short t b ys (h .good)) (line-short t row e r)) n
+    ∙ rows-append t (plainHeader t) 2 ls (l ∷ []) (with-rows t [] b)
+    ∙ ap (λ (x : Result). x ▹ rowsRead t (plainHeader t) (2 + length ls) (l ∷ [])) (rows-back t b 2 [] ys (h .rising) (h .good) (h .size))
+    ∙ ap (λ (m : ℕ). rowsRead t (plainHeader t) (2 + m) (l ∷ []) (with-rows t ys b)) (length-map ys (plainLine t))

@@ -1,0 +1,355 @@
+-- A table in its plainest form: the required columns alone, numbers with no leading zeros. A row in that form is read as itself, and meets
+-- only 5, 11, 9 and 10. Of the blocks it is the writer's form. Assumes nothing.
+use Prim.Native.Nat.{ℕ, zero, suc, _+_, _-_, _^_, _≤_, _<_}
+use native.Mathlib.Omega.{arith}
+use mathlib.Core.Path.{_≡_, refl, ap, sym, subst, _∙_}
+use mathlib.Core.Bool.{Bool, true, false, not}
+use mathlib.Core.List.{List, [], _∷_, _++_, map}
+use lib.ListN.{length, take, drop, length-append}
+use lib.Dec.{leb, eqb, lit<}
+use borrow.Author.Tests.{leb-true, eq-eqb, not-false}
+use Rattle.words.specs.Words.{Bytes, Row, if_then_else_}
+use Rattle.refusals.specs.Verdicts.{_⊳_, _when_, tooManyRows, cellFault}
+use Rattle.refusals.specs.declared.Check.the-variants.{Passes}
+use Rattle.text.specs.Numbers.{value, decimal, isDecimal}
+use Rattle.text.specs.Cells.{cut, cells, content, cellsOf}
+use Rattle.text.specs.Fields.{parted}
+use Rattle.tables.specs.Columns.{Column, columnsOf, keptWidth, inRange, fits, breaks}
+use Rattle.tables.specs.declared.Table.{Table}
+use Rattle.tables.specs.declared.Table.the-variants.{VehicleType, Depot, Stop, Block}
+use Rattle.tables.specs.declared.Rules.{Rules}
+use Rattle.tables.specs.declared.Sort.{Sort}
+use Rattle.tables.specs.declared.Sort.the-variants.{Decimal}
+use Rattle.tables.proofs.Figures.{kept-columns}
+use Rattle.rows.specs.Rows.{wide}
+use Rattle.book.specs.Book.{Book, full}
+use Rattle.book.specs.Rules.{ruled}
+use Rattle.book.specs.Keeping.{ranged}
+use Rattle.reading.specs.Header.{Header, header, headerCheck, contents, contentsFrom, under}
+use Rattle.reading.specs.Reading.{badCell, judged, rowRead}
+use Rattle.writer.specs.Writing.{linesWritten, namesLine, rowLine}
+use Rattle.promises.specs.Run.{computed}
+use Rattle.words.proofs.Lists.{and-left, and-right}
+use Rattle.promises.proofs.TestLaws.{both, unfailed}
+use Rattle.promises.proofs.CutLaws.{EachPlain, AllPlain, cut-parted}
+use Rattle.promises.proofs.LineLaws.{Unbroken, EachUnbroken, unbroken-append, unbrokenTest, tested}
+use Rattle.promises.proofs.NumberLaws.{read-back, decimal-digits, digits-plain, digits-content, digits-unbroken, decimal-width, cell-good}
+
+-- the form ----------------------------------------------------------------------------------------------------------------
+
+unfoldable pub requiredOf : List Column → List Column
+requiredOf [] = []
+requiredOf (x ∷ xs) = if x .rules .required then x ∷ requiredOf xs else requiredOf xs
+
+abbrev pub plainNames : Table → Bytes
+plainNames t = parted 59 (map (λ x. x .name) (requiredOf (columnsOf t)))
+
+abbrev pub plainHeader : Table → Header
+plainHeader VehicleType = 1 ∷ 2 ∷ []
+plainHeader Depot = 1 ∷ 2 ∷ []
+plainHeader Stop = 1 ∷ 2 ∷ 3 ∷ []
+plainHeader Block = 1 ∷ 2 ∷ 3 ∷ 4 ∷ 5 ∷ 6 ∷ 7 ∷ 8 ∷ 9 ∷ 10 ∷ 11 ∷ []
+
+-- what stands behind the numbers that the book keeps: a stop's name
+abbrev pub behind : Table → List Bytes
+behind VehicleType = []
+behind Depot = []
+behind Stop = (120 ∷ []) ∷ []
+behind Block = []
+
+abbrev pub plainCells : Table → Row → List Bytes
+plainCells t row = map decimal (take (keptWidth t) row) ++ behind t
+
+abbrev pub plainLine : Table → Row → Bytes
+plainLine t row = parted 59 (plainCells t row)
+
+abbrev pub plainText : Table → List Row → Bytes
+plainText t ys = linesWritten (plainNames t ∷ map (plainLine t) ys)
+
+-- eleven numbers ----------------------------------------------------------------------------------------------------------
+
+pub data Eleven : Row → Type 0 where
+  eleven : (a b c d e f g h i j k : ℕ) → Eleven (a ∷ b ∷ c ∷ d ∷ e ∷ f ∷ g ∷ h ∷ i ∷ j ∷ k ∷ [])
+
+pub eleven-long : (row : Row) → length row ≡ 11 → Eleven row
+eleven-long [] h = absurd (omega arith)
+eleven-long (a ∷ []) h = absurd (omega arith)
+eleven-long (a ∷ b ∷ []) h = absurd (omega arith)
+eleven-long (a ∷ b ∷ c ∷ []) h = absurd (omega arith)
+eleven-long (a ∷ b ∷ c ∷ d ∷ []) h = absurd (omega arith)
+eleven-long (a ∷ b ∷ c ∷ d ∷ e ∷ []) h = absurd (omega arith)
+eleven-long (a ∷ b ∷ c ∷ d ∷ e ∷ f ∷ []) h = absurd (omega arith)
+eleven-long (a ∷ b ∷ c ∷ d ∷ e ∷ f ∷ g ∷ []) h = absurd (omega arith)
+eleven-long (a ∷ b ∷ c ∷ d ∷ e ∷ f ∷ g ∷ h₁ ∷ []) h = absurd (omega arith)
+eleven-long (a ∷ b ∷ c ∷ d ∷ e ∷ f ∷ g ∷ h₁ ∷ i ∷ []) h = absurd (omega arith)
+eleven-long (a ∷ b ∷ c ∷ d ∷ e ∷ f ∷ g ∷ h₁ ∷ i ∷ j ∷ []) h = absurd (omega arith)
+eleven-long (a ∷ b ∷ c ∷ d ∷ e ∷ f ∷ g ∷ h₁ ∷ i ∷ j ∷ k ∷ []) h = eleven a b c d e f g h₁ i j k
+eleven-long (a ∷ b ∷ c ∷ d ∷ e ∷ f ∷ g ∷ h₁ ∷ i ∷ j ∷ k ∷ l ∷ ls) h = absurd (omega arith)
+
+-- of the blocks it is the writer's form
+pub plain-names-block : plainNames Block ≡ namesLine
+unfolding computed requiredOf
+plain-names-block = refl
+
+pub plain-line-block : (row : Row) → Eleven row → plainLine Block row ≡ rowLine row
+plain-line-block row (eleven a b c d e f g h i j k) = refl
+
+-- the columns that the book keeps ----------------------------------------------------------------------------------------
+
+-- the first n columns are d columns, required, each of whose range is within its width
+unfoldable pub Numeric : ℕ → List Column → Type 0
+Numeric zero xs = Unit {0}
+Numeric (suc n) [] = Unit {0}
+Numeric (suc n) (x ∷ xs) =
+    ((w : ℕ) × (x .rules .sort ≡ Decimal) × (x .rules .required ≡ true) × (x .rules .width ≡ suc w) × (x .rules .high < 10 ^ suc w)) × Numeric n xs
+
+pub kept-numeric : (t : Table) → Numeric (keptWidth t) (columnsOf t)
+unfolding Numeric columnsOf
+kept-numeric VehicleType = ((1, refl, refl, refl, lit< tt), ((7, refl, refl, refl, lit< tt), tt))
+kept-numeric Depot = ((1, refl, refl, refl, lit< tt), ((4, refl, refl, refl, lit< tt), tt))
+kept-numeric Stop = ((1, refl, refl, refl, lit< tt), ((4, refl, refl, refl, lit< tt), tt))
+kept-numeric Block = (
+  (1, refl, refl, refl, lit< tt),
+  (
+    (8, refl, refl, refl, lit< tt),
+    (
+      (4, refl, refl, refl, lit< tt),
+      (
+        (7, refl, refl, refl, lit< tt),
+        (
+          (1, refl, refl, refl, lit< tt),
+          (
+            (5, refl, refl, refl, lit< tt),
+            (
+              (1, refl, refl, refl, lit< tt),
+              (
+                (5, refl, refl, refl, lit< tt),
+                ((5, refl, refl, refl, lit< tt), ((1, refl, refl, refl, lit< tt), ((5, refl, refl, refl, lit< tt), tt))),
+              ),
+            ),
+          ),
+        ),
+      ),
+    ),
+  ),
+)
+
+-- 8 is not given for numbers in their columns' ranges
+good-cells : (k : ℕ) (xs : List Column) (ns : Row) (rest : List Bytes) → Numeric (length ns) xs → ranged xs ns ≡ true →
+    badCell (k + length ns) (drop (length ns) xs) rest ≡ Passes → badCell k xs (map decimal ns ++ rest) ≡ Passes
+unfolding badCell Numeric ranged
+good-cells k xs [] rest h r e = let z : k + 0 ≡ k = omega arith in rw z at e
+good-cells k [] (n ∷ ns) rest h r e = refl
+good-cells k (x ∷ xs) (n ∷ ns) rest h r e =
+    let here = and-left (inRange (x .rules) n) (ranged xs ns) r in
+    let high : n ≤ x .rules .high = leb-true n (x .rules .high) (and-right (leb (x .rules .low) n) (leb n (x .rules .high)) here) in
+    let within : n < 10 ^ suc (h .0 .0) = omega (arith, h .0 .4) in
+    let on : k + length (n ∷ ns) ≡ suc k + length ns = omega arith in
+    rw (cell-good (x .rules) (h .0 .0) n (h .0 .1) (h .0 .3) within here)
+    (good-cells (suc k) xs ns rest (h .1) (and-right (inRange (x .rules) n) (ranged xs ns) r) (rw on at e))
+
+no-fault : (x : Rules) (s : Bytes) (e : Bool) → x .sort ≡ Decimal → x .required ≡ true →
+    (if e then x .required else not (fits (x .sort) x s)) ≡ false → inRange x (value s) ≡ true
+no-fault x s true p q h = let z : true ≡ false = sym q ∙ h in let y : _≡_ {A = ℕ} 0 1 = cc in let w : ⊥ = omega arith in absurd w
+no-fault x s false p q h =
+    let t : fits Decimal x s ≡ true = subst (λ (q : Sort). fits q x s ≡ true) p (not-false (fits (x .sort) x s) h) in
+    and-right (isDecimal (x .width) s) (inRange x (value s)) t
+
+-- and where 8 is not given, the numbers are in their columns' ranges
+pub cells-ranged : (n k : ℕ) (xs : List Column) (ss : List Bytes) → Numeric n xs → badCell k xs ss ≡ Passes → ranged xs (map value (take n ss)) ≡ true
+unfolding badCell Numeric ranged
+cells-ranged zero k [] ss a h = refl
+cells-ranged zero k (x ∷ xs) ss a h = refl
+cells-ranged (suc n) k [] ss a h = refl
+cells-ranged (suc n) k (x ∷ xs) [] a h = refl
+cells-ranged (suc n) k (x ∷ xs) (s ∷ ss) a h =
+    let t = both (cellFault k when breaks (x .rules) s) (badCell (suc k) xs ss) h in
+    rw (no-fault (x .rules) s (eqb (length s) 0) (a .0 .1) (a .0 .2) (unfailed 8 k (breaks (x .rules) s) (t .0)), cells-ranged n (suc k) xs ss (a .1) (t .1))
+
+-- a row in the plain form ------------------------------------------------------------------------------------------------
+
+plain-decimals : (row : Row) (rest : List Bytes) → EachPlain rest → EachPlain (map decimal row ++ rest)
+unfolding EachPlain
+plain-decimals [] rest h = h
+plain-decimals (n ∷ ns) rest h = (digits-plain (decimal n) (decimal-digits n), plain-decimals ns rest h)
+
+content-decimals : (row : Row) → map content (map decimal row) ≡ map decimal row
+content-decimals [] = refl
+content-decimals (n ∷ ns) = rw (digits-content (decimal n) (decimal-digits n), content-decimals ns)
+
+value-decimals : (row : Row) → map value (map decimal row) ≡ row
+value-decimals [] = refl
+value-decimals (n ∷ ns) = rw (read-back n, value-decimals ns)
+
+plain-behind : (t : Table) → EachPlain (behind t)
+unfolding EachPlain AllPlain
+plain-behind VehicleType = tt
+plain-behind Depot = tt
+plain-behind Stop = ((refl, tt), tt)
+plain-behind Block = tt
+
+cut-plain : (t : Table) (row : Row) → Eleven row → cut (plainLine t row) ≡ cells (plainCells t row)
+cut-plain VehicleType row (eleven a b c d e f g h i j k) = cut-parted _ _ (plain-decimals (a ∷ b ∷ []) [] (plain-behind VehicleType))
+cut-plain Depot row (eleven a b c d e f g h i j k) = cut-parted _ _ (plain-decimals (a ∷ b ∷ []) [] (plain-behind Depot))
+cut-plain Stop row (eleven a b c d e f g h i j k) = cut-parted _ _ (plain-decimals (a ∷ b ∷ []) (behind Stop) (plain-behind Stop))
+cut-plain Block row (eleven a b c d e f g h i j k) = cut-parted _ _ (plain-decimals (a ∷ b ∷ c ∷ d ∷ e ∷ f ∷ g ∷ h ∷ i ∷ j ∷ k ∷ []) [] (plain-behind Block))
+
+-- the contents behind the numbers: of a vehicle_type the optional columns, which are empty
+abbrev absent : Table → List Bytes
+absent VehicleType = [] ∷ [] ∷ [] ∷ [] ∷ [] ∷ [] ∷ [] ∷ [] ∷ [] ∷ []
+absent Depot = []
+absent Stop = behind Stop
+absent Block = []
+
+contents-cells : (t : Table) (row : Row) → Eleven row → contents t (plainHeader t) (plainCells t row) ≡ map content (map decimal (take (keptWidth t) row)) ++ absent t
+unfolding contentsFrom under columnsOf
+contents-cells VehicleType row (eleven a b c d e f g h i j k) = refl
+contents-cells Depot row (eleven a b c d e f g h i j k) = refl
+contents-cells Stop row (eleven a b c d e f g h i j k) = refl
+contents-cells Block row (eleven a b c d e f g h i j k) = refl
+
+contents-plain : (t : Table) (row : Row) → Eleven row → contents t (plainHeader t) (plainCells t row) ≡ map decimal (take (keptWidth t) row) ++ absent t
+contents-plain t row e = contents-cells t row e ∙ ap (λ (l : List Bytes). l ++ absent t) (content-decimals (take (keptWidth t) row))
+
+absent-good : (t : Table) → badCell (1 + keptWidth t) (drop (keptWidth t) (columnsOf t)) (absent t) ≡ Passes
+unfolding badCell columnsOf
+absent-good VehicleType = refl
+absent-good Depot = refl
+absent-good Stop = refl
+absent-good Block = refl
+
+kept-long : (t : Table) (row : Row) → Eleven row → length (take (keptWidth t) row) ≡ keptWidth t
+kept-long VehicleType row (eleven a b c d e f g h i j k) = refl
+kept-long Depot row (eleven a b c d e f g h i j k) = refl
+kept-long Stop row (eleven a b c d e f g h i j k) = refl
+kept-long Block row (eleven a b c d e f g h i j k) = refl
+
+kept-values : (t : Table) (row : Row) → Eleven row → map value (take (keptWidth t) (map decimal (take (keptWidth t) row) ++ absent t)) ≡ take (keptWidth t) row
+kept-values VehicleType row (eleven a b c d e f g h i j k) = value-decimals (a ∷ b ∷ [])
+kept-values Depot row (eleven a b c d e f g h i j k) = value-decimals (a ∷ b ∷ [])
+kept-values Stop row (eleven a b c d e f g h i j k) = value-decimals (a ∷ b ∷ [])
+kept-values Block row (eleven a b c d e f g h i j k) = value-decimals (a ∷ b ∷ c ∷ d ∷ e ∷ f ∷ g ∷ h ∷ i ∷ j ∷ k ∷ [])
+
+pub row-read : (t : Table) (row : Row) → Eleven row → row ≡ wide (take (keptWidth t) row) → rowRead t (plainHeader t) (plainLine t row) ≡ row
+row-read t row e s = rw (cut-plain t row e, contents-plain t row e, kept-values t row e) (sym s)
+
+cut-counted : (t : Table) (row : Row) → Eleven row → length (plainCells t row) ≡ length (plainHeader t)
+cut-counted VehicleType row (eleven a b c d e f g h i j k) = refl
+cut-counted Depot row (eleven a b c d e f g h i j k) = refl
+cut-counted Stop row (eleven a b c d e f g h i j k) = refl
+cut-counted Block row (eleven a b c d e f g h i j k) = refl
+
+pub row-judged : (t : Table) (row : Row) (b : Book) → Eleven row → row ≡ wide (take (keptWidth t) row) → ranged (columnsOf t) (take (keptWidth t) row) ≡ true →
+    judged t (plainHeader t) (plainLine t row) b ≡ tooManyRows when full t b ⊳ ruled t row b
+unfolding judged
+row-judged t row b e s r =
+    let n : length (take (keptWidth t) row) ≡ keptWidth t = kept-long t row e in
+    let good : badCell 1 (columnsOf t) (map decimal (take (keptWidth t) row) ++ absent t) ≡ Passes =
+    good-cells 1 (columnsOf t) (take (keptWidth t) row) (absent t) (rw n (kept-numeric t)) r (rw n (absent-good t)) in
+    rw (cut-plain t row e, cut-counted t row e, eq-eqb (length (plainHeader t)) (length (plainHeader t)) refl, contents-plain t row e, good, kept-values t row e, ← s)
+
+-- no line end in what is written ------------------------------------------------------------------------------------------
+
+unbroken-parted : (cs : List Bytes) → EachUnbroken cs → Unbroken (parted 59 cs)
+unfolding parted Unbroken EachUnbroken
+unbroken-parted [] h = tt
+unbroken-parted (c ∷ []) h = h .0
+unbroken-parted (c ∷ (e ∷ es)) h = unbroken-append c (59 ∷ parted 59 (e ∷ es)) (h .0) (refl, refl, unbroken-parted (e ∷ es) (h .1))
+
+unbroken-decimals : (row : Row) (rest : List Bytes) → EachUnbroken rest → EachUnbroken (map decimal row ++ rest)
+unfolding EachUnbroken
+unbroken-decimals [] rest h = h
+unbroken-decimals (n ∷ ns) rest h = (digits-unbroken (decimal n) (decimal-digits n), unbroken-decimals ns rest h)
+
+unbroken-behind : (t : Table) → EachUnbroken (behind t)
+unfolding EachUnbroken Unbroken
+unbroken-behind VehicleType = tt
+unbroken-behind Depot = tt
+unbroken-behind Stop = ((refl, refl, tt), tt)
+unbroken-behind Block = tt
+
+pub unbroken-line : (t : Table) (row : Row) → Unbroken (plainLine t row)
+unbroken-line t row = unbroken-parted (plainCells t row) (unbroken-decimals (take (keptWidth t) row) (behind t) (unbroken-behind t))
+
+unbroken-rows : (t : Table) (ys : List Row) → EachUnbroken (map (plainLine t) ys)
+unfolding EachUnbroken
+unbroken-rows t [] = tt
+unbroken-rows t (y ∷ ys) = (unbroken-line t y, unbroken-rows t ys)
+
+names-tested : (t : Table) → unbrokenTest (plainNames t) ≡ true
+unfolding computed requiredOf unbrokenTest
+names-tested VehicleType = refl
+names-tested Depot = refl
+names-tested Stop = refl
+names-tested Block = refl
+
+pub unbroken-plain : (t : Table) (ys : List Row) → EachUnbroken (plainNames t ∷ map (plainLine t) ys)
+unfolding EachUnbroken
+unbroken-plain t ys = (tested (plainNames t) (names-tested t), unbroken-rows t ys)
+
+-- the names ---------------------------------------------------------------------------------------------------------------
+
+pub names-good : (t : Table) → headerCheck t (plainNames t) ≡ Passes
+unfolding computed requiredOf
+names-good VehicleType = refl
+names-good Depot = refl
+names-good Stop = refl
+names-good Block = refl
+
+pub names-read : (t : Table) → header t (cellsOf (cut (plainNames t))) ≡ plainHeader t
+unfolding computed requiredOf
+names-read VehicleType = refl
+names-read Depot = refl
+names-read Stop = refl
+names-read Block = refl
+
+-- the size of what is written ---------------------------------------------------------------------------------------------
+
+-- the room that the first n columns take, with a byte behind each
+unfoldable room : ℕ → List Column → ℕ
+room zero xs = 0
+room (suc n) [] = 0
+room (suc n) (x ∷ xs) = x .rules .width + 1 + room n xs
+
+-- and that cells take
+unfoldable cellRoom : List Bytes → ℕ
+cellRoom [] = 0
+cellRoom (c ∷ cs) = length c + 1 + cellRoom cs
+
+parted-short : (cs : List Bytes) → length (parted 59 cs) ≤ cellRoom cs
+unfolding parted cellRoom
+parted-short [] = omega arith
+parted-short (c ∷ []) = omega arith
+parted-short (c ∷ (e ∷ es)) = rw length-append (omega (arith, parted-short (e ∷ es)))
+
+row-short : (xs : List Column) (row : Row) (rest : List Bytes) → Numeric (length row) xs → ranged xs row ≡ true → length row ≤ length xs →
+    cellRoom (map decimal row ++ rest) ≤ room (length row) xs + cellRoom rest
+unfolding cellRoom room Numeric ranged
+row-short xs [] rest h r n = omega arith
+row-short [] (m ∷ ms) rest h r n = absurd (omega arith)
+row-short (x ∷ xs) (m ∷ ms) rest h r n =
+    let high : m ≤ x .rules .high = leb-true m (x .rules .high) (and-right (leb (x .rules .low) m) (leb m (x .rules .high)) (and-left (inRange (x .rules) m) (ranged xs ms) r)) in
+    let within : m < 10 ^ suc (h .0 .0) = omega (arith, h .0 .4) in
+    let on = row-short xs ms rest (h .1) (and-right (inRange (x .rules) m) (ranged xs ms) r) (omega arith) in
+    omega (arith, decimal-width (h .0 .0) m within, h .0 .3, on)
+
+line-room : (t : Table) → room (keptWidth t) (columnsOf t) + cellRoom (behind t) ≤ 65
+unfolding room cellRoom columnsOf
+line-room VehicleType = omega arith
+line-room Depot = omega arith
+line-room Stop = omega arith
+line-room Block = omega arith
+
+pub line-short : (t : Table) (row : Row) → Eleven row → ranged (columnsOf t) (take (keptWidth t) row) ≡ true → length (plainLine t row) ≤ 65
+line-short t row e r =
+    let n : length (take (keptWidth t) row) ≡ keptWidth t = kept-long t row e in
+    let short : cellRoom (plainCells t row) ≤ room (keptWidth t) (columnsOf t) + cellRoom (behind t) =
+    rw n at (row-short (columnsOf t) (take (keptWidth t) row) (behind t) (rw n (kept-numeric t)) r (rw n (kept-columns t))) in
+    omega (arith, parted-short (plainCells t row), short, line-room t)
+
+pub names-short : (t : Table) → length (plainNames t) ≤ 144
+unfolding computed requiredOf
+names-short VehicleType = omega arith
+names-short Depot = omega arith
+names-short Stop = omega arith
+names-short Block = omega arith

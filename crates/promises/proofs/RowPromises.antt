@@ -1,0 +1,246 @@
+-- Demand 2: the book of an accepted delivery holds exactly the rows of its texts, and what is written is never too long. Assumes nothing.
+use Prim.Native.Nat.{ℕ, zero, suc, _+_, _≤_, _<_}
+use native.Mathlib.Omega.{arith}
+use mathlib.Core.Path.{_≡_, refl, ap, sym, subst, _∙_}
+use mathlib.Core.Bool.{Bool, true, false, _||_, not}
+use mathlib.Core.List.{List, [], _∷_, map}
+use lib.ListN.{length, getD}
+use Rattle.words.specs.Words.{Bytes, Row, if_then_else_, same}
+use Rattle.words.proofs.Lists.{same-refl, same-true}
+use Rattle.refusals.specs.Verdicts.{_when_, placed, place, nowhere, notThere}
+use Rattle.refusals.specs.declared.Check.{Check}
+use Rattle.refusals.specs.declared.Check.the-variants.{Passes, Fails}
+use Rattle.tables.specs.Columns.{number, keyWidth}
+use Rattle.tables.specs.declared.Table.{Table}
+use Rattle.tables.specs.declared.Table.the-variants.{VehicleType, Depot, Stop, Block}
+use Rattle.rows.specs.Rows.{keyOrder, sameKey, stands, found, inserted, rising}
+use Rattle.rows.specs.declared.Order.{Order}
+use Rattle.rows.specs.declared.Order.the-variants.{Less, Same, More}
+use Rattle.book.specs.Book.{Book, rows, entered}
+use Rattle.book.specs.Questions.{seconds, secondsOf, countOf, seven, total}
+use Rattle.book.specs.Calls.{typeAnswered, blockAnswered}
+use Rattle.book.specs.declared.TypeAnswer.{TypeAnswer}
+use Rattle.reading.specs.Header.{Header}
+use Rattle.reading.specs.Reading.{leaves, refused, unless, judged, rowRead, rowsRead, headerOf, topFaults, tableRead, Delivery, reading}
+use Rattle.promises.specs.Promises.{copies, rowLinesOf, rowsOf, textOf, RowsExactly, KeysExactly, TotalsExactly, TypesAnswered, BlocksAnswered, WrittenFits}
+use Rattle.promises.proofs.TestLaws.{going-on}
+use Rattle.rows.proofs.Keys.{order-refl, less-more}
+use Rattle.rows.proofs.Rising.{Above, Rising}
+use Rattle.rows.proofs.Changes.{stands-key, found-key, stands-inserted, found-inserted, other-stands-inserted, other-found-inserted, length-inserted}
+use Rattle.promises.proofs.HeldLaws.{Held, Taken, judged-taken, rows-with, plain-short}
+use Rattle.promises.proofs.RuleLaws.{type-asked, block-asked}
+use Rattle.promises.proofs.DeliveryLaws.{Standing, ReadTo, Accepted, left-by, written-plain}
+
+-- a row that is entered is one more
+copies-fresh : (k : ℕ) (r row : Row) (xs : List Row) → stands k row xs ≡ false → copies r (inserted k row xs) ≡ copies r (row ∷ xs)
+unfolding copies inserted stands
+copies-fresh k r row [] h = refl
+copies-fresh k r row (x ∷ xs) h = go (keyOrder k row x) refl (copies-fresh k r row xs)
+  where
+    go : (o : Order) → keyOrder k row x ≡ o → (stands k row xs ≡ false → copies r (inserted k row xs) ≡ copies r (row ∷ xs)) →
+        copies r (inserted k row (x ∷ xs)) ≡ copies r (row ∷ (x ∷ xs))
+    go Less e ih = rw e
+    go Same e ih = let t : true ≡ false = rw e at h in let z : _≡_ {A = ℕ} 0 1 = cc in let y : ⊥ = omega arith in absurd y
+    go More e ih = rw e (omega (arith, ih (rw e at h)))
+
+total-fresh : (weight : Row → ℕ) (v n k : ℕ) (row : Row) (xs : List Row) → stands k row xs ≡ false → total weight v n (inserted k row xs) ≡ total weight v n (row ∷ xs)
+unfolding total inserted stands
+total-fresh weight v n k row [] h = refl
+total-fresh weight v n k row (x ∷ xs) h = go (keyOrder k row x) refl (total-fresh weight v n k row xs)
+  where
+    go : (o : Order) → keyOrder k row x ≡ o → (stands k row xs ≡ false → total weight v n (inserted k row xs) ≡ total weight v n (row ∷ xs)) →
+        total weight v n (inserted k row (x ∷ xs)) ≡ total weight v n (row ∷ (x ∷ xs))
+    go Less e ih = rw e
+    go Same e ih = let t : true ≡ false = rw e at h in let z : _≡_ {A = ℕ} 0 1 = cc in let y : ⊥ = omega arith in absurd y
+    go More e ih = rw e (omega (arith, ih (rw e at h)))
+
+-- and is found by its key
+abbrev both-stand : ℕ → Row → List Row → List Row → Bool
+both-stand k key xs ys = stands k key xs || stands k key ys
+
+abbrev both-found : ℕ → Row → List Row → List Row → Row
+both-found k key xs ys = if stands k key xs then found k key xs else found k key ys
+
+find-fresh : (k : ℕ) (key row : Row) (xs ys : List Row) → stands k row xs ≡ false →
+    (both-stand k key (inserted k row xs) ys ≡ both-stand k key xs (row ∷ ys)) × (both-found k key (inserted k row xs) ys ≡ both-found k key xs (row ∷ ys))
+unfolding stands found
+find-fresh k key row xs ys h = go (sameKey k key row) refl (stands k key xs) refl
+  where
+    go : (q : Bool) → sameKey k key row ≡ q → (p : Bool) → stands k key xs ≡ p →
+        (both-stand k key (inserted k row xs) ys ≡ both-stand k key xs (row ∷ ys)) × (both-found k key (inserted k row xs) ys ≡ both-found k key xs (row ∷ ys))
+    go true q true p =
+        let f : stands k row xs ≡ true = sym (stands-key k key row q xs) ∙ p in
+        let z : _≡_ {A = ℕ} 0 1 = cc in let y : ⊥ = omega arith in absurd y
+    go true q false p =
+        let s : stands k key (inserted k row xs) ≡ true = stands-key k key row q (inserted k row xs) ∙ stands-inserted k row xs in
+        let f : found k key (inserted k row xs) ≡ row = found-key k key row q (inserted k row xs) ∙ found-inserted k row xs h in
+        (rw (s, p, q), rw (s, f, p, q))
+    go false q b p =
+        let f : stands k key (inserted k row xs) ≡ stands k key xs = other-stands-inserted k key row q xs in
+        let g : found k key (inserted k row xs) ≡ found k key xs = other-found-inserted k key row q xs in
+        (rw (f, q), rw (f, g, q))
+
+-- what the rows of a reading leave: those that stood, and those of the lines
+pub record Gained (t : Table) (before after : Book) (xs : List Row) : Type 0 where
+  pub many : length (rows t after) ≡ length xs + length (rows t before)
+  pub each : (row : Row) → copies row (rows t after) ≡ copies row xs + copies row (rows t before)
+  pub weighed : (weight : Row → ℕ) (v n : ℕ) → total weight v n (rows t after) ≡ total weight v n xs + total weight v n (rows t before)
+  pub standing : (key : Row) → stands (keyWidth t) key (rows t after) ≡ both-stand (keyWidth t) key (rows t before) xs
+  pub finding : (key : Row) → found (keyWidth t) key (rows t after) ≡ both-found (keyWidth t) key (rows t before) xs
+
+rows-gained : (t : Table) (h : Header) (i : ℕ) (ls : List Bytes) (b c : Book) → rowsRead t h i ls b ≡ leaves c → Gained t b c (map (rowRead t h) ls)
+unfolding rowsRead copies total stands found
+rows-gained t h i [] b c e =
+    let f : b ≡ c = cc in
+    let k = keyWidth t in
+    subst (λ (z : Book). Gained t b z []) f
+    (record {
+      many = omega arith;
+      each = λ row. omega arith;
+      weighed = λ weight v n. omega arith;
+      standing = λ key. sym (or-none (stands k key (rows t b)));
+      finding = λ key. sym (found-none k key (rows t b));
+    })
+  where
+    or-none : (p : Bool) → (p || false) ≡ p
+    or-none true = refl
+    or-none false = refl
+
+    found-none : (k : ℕ) (key : Row) (xs : List Row) → both-found k key xs [] ≡ found k key xs
+    found-none k key [] = refl
+    found-none k key (x ∷ xs) = go (sameKey k key x) refl (found-none k key xs)
+      where
+        go : (q : Bool) → sameKey k key x ≡ q → both-found k key xs [] ≡ found k key xs → both-found k key (x ∷ xs) [] ≡ found k key (x ∷ xs)
+        go true q ih = rw q
+        go false q ih = rw q ih
+rows-gained t h i (l ∷ ls) b c e = go (judged t h l b) refl (rows-gained t h (suc i) ls (entered t (rowRead t h l) b) c) e
+  where
+    go : (v : Check) → judged t h l b ≡ v →
+        (rowsRead t h (suc i) ls (entered t (rowRead t h l) b) ≡ leaves c → Gained t (entered t (rowRead t h l) b) c (map (rowRead t h) ls)) →
+        unless (placed (number t) i (judged t h l b)) (rowsRead t h (suc i) ls (entered t (rowRead t h l) b)) ≡ leaves c →
+        Gained t b c (map (rowRead t h) (l ∷ ls))
+    go Passes v ih f =
+        let g : Gained t (entered t (rowRead t h l) b) c (map (rowRead t h) ls) = ih (rw v at f) in
+        let a : Taken t b (rowRead t h l) = judged-taken t b h l v in
+        let own : rows t (entered t (rowRead t h l) b) ≡ inserted (keyWidth t) (rowRead t h l) (rows t b) =
+        rows-with t (inserted (keyWidth t) (rowRead t h l) (rows t b)) b in
+        record {
+          many = omega (arith, g .many, ap length own, length-inserted (keyWidth t) (rowRead t h l) (rows t b) (a .fresh));
+          each = λ row. omega (arith, g .each row, ap (copies row) own, copies-fresh (keyWidth t) row (rowRead t h l) (rows t b) (a .fresh));
+          weighed = λ weight v n. omega (arith, g .weighed weight v n, ap (total weight v n) own, total-fresh weight v n (keyWidth t) (rowRead t h l) (rows t b) (a .fresh));
+          standing = λ key.
+              g .standing key ∙ ap (λ (z : List Row). both-stand (keyWidth t) key z (map (rowRead t h) ls)) own
+              ∙ find-fresh (keyWidth t) key (rowRead t h l) (rows t b) (map (rowRead t h) ls) (a .fresh) .0;
+          finding = λ key.
+              g .finding key ∙ ap (λ (z : List Row). both-found (keyWidth t) key z (map (rowRead t h) ls)) own
+              ∙ find-fresh (keyWidth t) key (rowRead t h l) (rows t b) (map (rowRead t h) ls) (a .fresh) .1;
+        }
+    go (Fails n k) v ih f =
+        let x : refused (place n (number t) i k) ≡ leaves c = rw v at f in
+        let z : _≡_ {A = ℕ} 0 1 = cc in let y : ⊥ = omega arith in absurd y
+
+-- a table of the book by right
+pub table-held : (t : Table) (b : Book) → Standing b → Held t b (rows t b)
+table-held VehicleType b h = h .types
+table-held Depot b h = h .depots
+table-held Stop b h = h .stops
+table-held Block b h = h .blocks
+
+-- a table of an accepted delivery
+table-gained : (d : Delivery) (b : Book) (t : Table) (e : reading d ≡ leaves b) → let r = left-by d b e .tables t in Gained t (r .before) (r .after) (rowsOf t (textOf t d))
+unfolding tableRead
+table-gained d b t e =
+    let r : ReadTo t (textOf t d) b = left-by d b e .tables t in
+    let s : Bytes = textOf t d in
+    let h : Header = headerOf t s in
+    rows-gained t h 2 (rowLinesOf s) (r .before) (r .after) (going-on (topFaults t s) (rowsRead t h 2 (rowLinesOf s) (r .before)) (r .after) (r .read))
+
+pub rows-exactly : RowsExactly
+unfolding copies
+rows-exactly d b t e =
+    let a : Accepted d b = left-by d b e in
+    let r : ReadTo t (textOf t d) b = a .tables t in
+    let g : Gained t (r .before) (r .after) (rowsOf t (textOf t d)) = table-gained d b t e in (
+      table-held t b (a .standing) .rising,
+      omega (arith, ap length (r .same), g .many, ap length (r .bare)),
+      λ row. omega (arith, ap (copies row) (r .same), g .each row, ap (copies row) (r .bare)),
+    )
+
+pub keys-exactly : KeysExactly
+unfolding stands found
+keys-exactly d b t key e =
+    let r : ReadTo t (textOf t d) b = left-by d b e .tables t in
+    let g : Gained t (r .before) (r .after) (rowsOf t (textOf t d)) = table-gained d b t e in
+    let k = keyWidth t in (
+      ap (λ (z : List Row). stands k key z) (sym (r .same)) ∙ g .standing key ∙ ap (λ (z : List Row). both-stand k key z (rowsOf t (textOf t d))) (r .bare),
+      ap (λ (z : List Row). found k key z) (sym (r .same)) ∙ g .finding key ∙ ap (λ (z : List Row). both-found k key z (rowsOf t (textOf t d))) (r .bare),
+    )
+
+weighed-exactly : (d : Delivery) (b : Book) → reading d ≡ leaves b → (weight : Row → ℕ) (v n : ℕ) → total weight v n (b .blocks) ≡ total weight v n (rowsOf Block (d .blocks))
+unfolding total
+weighed-exactly d b e weight v n =
+    let r : ReadTo Block (d .blocks) b = left-by d b e .tables Block in
+    let g : Gained Block (r .before) (r .after) (rowsOf Block (d .blocks)) = table-gained d b Block e in
+    omega (arith, ap (total weight v n) (r .same), g .weighed weight v n, ap (total weight v n) (r .bare))
+
+pub totals-exactly : TotalsExactly
+totals-exactly d b version type e = (weighed-exactly d b e seconds version type, weighed-exactly d b e (λ x. 1) version type)
+
+pub types-answered : TypesAnswered
+types-answered d b version type e =
+    let key : Row = version ∷ type ∷ [] in
+    let said : Bool → ℕ → ℕ → TypeAnswer = λ there s c. typeAnswered (nowhere (notThere when not there)) s c in
+    let there = stands 2 key (rowsOf VehicleType (d .types)) in
+    let blocks = rowsOf Block (d .blocks) in
+    let x = totals-exactly d b version type e in
+    type-asked b (left-by d b e .standing) version type
+    ∙ ap (λ (z : Bool). said z (secondsOf version type (b .blocks)) (countOf version type (b .blocks))) (keys-exactly d b VehicleType key e .0)
+    ∙ ap (λ (z : ℕ). said there z (countOf version type (b .blocks))) (x .0)
+    ∙ ap (λ (z : ℕ). said there (secondsOf version type blocks) z) (x .1)
+
+pub blocks-answered : BlocksAnswered
+blocks-answered d b version day depot block e =
+    let key : Row = version ∷ day ∷ depot ∷ block ∷ [] in
+    let blocks = rowsOf Block (d .blocks) in
+    let x = keys-exactly d b Block key e in
+    block-asked b (left-by d b e .standing) version day depot block
+    ∙ ap (λ (z : Bool). blockAnswered (nowhere (notThere when not z)) (seven (found 4 key (b .blocks)))) (x .0)
+    ∙ ap (λ (z : Row). blockAnswered (nowhere (notThere when not (stands 4 key blocks))) (seven z)) (x .1)
+
+pub written-fits : WrittenFits
+written-fits b l =
+    let h : Held Block b (b .blocks) = left-by (l .0) b (l .1) .standing .blocks in
+    subst (λ (s : Bytes). length s ≤ 65536) (written-plain b (b .blocks) h) (plain-short Block b (b .blocks) h)
+
+-- a row that stands is found by its key ----------------------------------------------------------------------------------
+
+above-copy : (k : ℕ) (x row : Row) (xs : List Row) → Above k x xs → 1 ≤ copies row xs → keyOrder k x row ≡ Less
+unfolding Above copies
+above-copy k x row [] a h = absurd (omega arith)
+above-copy k x row (y ∷ ys) a h = go (same row y) refl (above-copy k x row ys (a .1))
+  where
+    go : (q : Bool) → same row y ≡ q → (1 ≤ copies row ys → keyOrder k x row ≡ Less) → keyOrder k x row ≡ Less
+    go true e ih = rw (same-true row y e) (a .0)
+    go false e ih = let in-rest : 1 ≤ 0 + copies row ys = rw e at h in ih (omega arith)
+
+pub found-copy : (k : ℕ) (row : Row) (xs : List Row) → Rising k xs → 1 ≤ copies row xs → found k row xs ≡ row
+unfolding Rising copies found
+found-copy k row [] u h = absurd (omega arith)
+found-copy k row (x ∷ xs) u h = go (same row x) refl (found-copy k row xs (u .1))
+  where
+    go : (q : Bool) → same row x ≡ q → (1 ≤ copies row xs → found k row xs ≡ row) → found k row (x ∷ xs) ≡ row
+    go true e ih =
+        let f : row ≡ x = same-true row x e in
+        let o : keyOrder k row x ≡ Same = ap (λ (z : Row). keyOrder k row z) (sym f) ∙ order-refl k 0 row in
+        rw o (sym f)
+    go false e ih =
+        let rest : 1 ≤ 0 + copies row xs = rw e at h in
+        let in-rest : 1 ≤ copies row xs = omega arith in
+        let o : keyOrder k row x ≡ More = less-more k x row (above-copy k x row xs (u .0) in-rest) in
+        rw o (ih in-rest)
+
+pub copy-at : (f : Bytes → Row) (ls : List Bytes) (i : ℕ) → i < length ls → 1 ≤ copies (f (getD ls i [])) (map f ls)
+unfolding copies
+copy-at f [] i h = absurd (omega arith)
+copy-at f (l ∷ ls) zero h = rw (same-refl (f l)) (omega arith)
+copy-at f (l ∷ ls) (suc i) h = omega (arith, copy-at f ls i (omega arith))

@@ -1,0 +1,181 @@
+-- The test of the book rule, and the book as it is laid out in its slice. Assumes nothing.
+use Prim.Native.Nat.{ℕ, _+_, _-_, _≤_}
+use native.Mathlib.Omega.{arith}
+use mathlib.Core.Path.{_≡_, refl, ap, sym, subst, _∙_}
+use mathlib.Core.Bool.{Bool, true, not, _&&_}
+use mathlib.Core.List.{List, [], _∷_, _++_}
+use lib.ListN.{length, take, drop, length-append}
+use lib.Seq.{take-at, drop-at, take-all, drop-drop}
+use lib.Dec.{leb, eqb}
+use borrow.Author.Tests.{leb-true, le-leb, eq-eqb, not-true}
+use Rattle.words.specs.Words.{Row, same}
+use Rattle.words.proofs.Lists.{same-refl, same-true, and-left, and-right}
+use Rattle.refusals.specs.Verdicts.{_when_, _before_, passes, nowhere, notThere, badLoan}
+use Rattle.tables.specs.Columns.{columnsOf, keyWidth, keptWidth}
+use Rattle.tables.specs.declared.Table.{Table}
+use Rattle.tables.specs.declared.Table.the-variants.{VehicleType, Depot, Stop, Block}
+use Rattle.rows.specs.Rows.{wide, column, rising, stands, found}
+use Rattle.rows.specs.Room.{filled, used, sameRows}
+use Rattle.book.specs.Book.{Book, rows, knows}
+use Rattle.book.specs.Questions.{secondsOf, countOf, seven}
+use Rattle.book.specs.Calls.{typeAnswered, typeCall, blockAnswered, blockCall}
+use Rattle.book.specs.declared.TypeAnswer.{TypeAnswer}
+use Rattle.book.specs.declared.BlockAnswer.{BlockAnswer}
+use Rattle.book.specs.Rules.{timeFault, unknown}
+use Rattle.book.specs.Room.{laid, part, bookOf}
+use Rattle.book.specs.Keeping.{ranged, all, lawful, lawfulTable, lawfulBook, keepsRule}
+use Rattle.promises.proofs.TestLaws.{and-both, and-three, and-four, passed}
+use Rattle.rows.proofs.Room.{Versioned, used-filled, length-filled, sameRows-refl}
+use Rattle.promises.proofs.PlainLaws.{Eleven, eleven}
+use Rattle.promises.proofs.HeldLaws.{Good, EachGood, Held, good-eleven}
+use Rattle.promises.proofs.DeliveryLaws.{Standing}
+
+-- lawful rows stand by right ---------------------------------------------------------------------------------------------
+
+module _ (t : Table) (b : Book) where
+  lawful-good : (row : Row) → lawful t b row ≡ true → Good t b row
+  lawful-good row h =
+      let k = and-four (same row (wide (take (keptWidth t) row))) (ranged (columnsOf t) (take (keptWidth t) row)) (not (timeFault t row)) (passes (unknown t row b)) h in
+      record {
+        shape = same-true row (wide (take (keptWidth t) row)) (k .0);
+        inside = k .1;
+        timed = not-true (timeFault t row) (k .2);
+        known = passed (unknown t row b) (k .3);
+      }
+
+  good-lawful : (row : Row) → Good t b row → lawful t b row ≡ true
+  good-lawful row g =
+      let w : same row (wide (take (keptWidth t) row)) ≡ true = subst (λ (z : Row). same row z ≡ true) (g .shape) (same-refl row) in
+      rw (w, g .inside, g .timed, g .known)
+
+  all-good : (xs : List Row) → all (lawful t b) xs ≡ true → EachGood t b xs
+  unfolding all EachGood
+  all-good [] h = tt
+  all-good (x ∷ xs) h = (lawful-good x (and-left (lawful t b x) (all (lawful t b) xs) h), all-good xs (and-right (lawful t b x) (all (lawful t b) xs) h))
+
+  good-all : (xs : List Row) → EachGood t b xs → all (lawful t b) xs ≡ true
+  unfolding all EachGood
+  good-all [] h = refl
+  good-all (x ∷ xs) h = and-both (lawful t b x) (all (lawful t b) xs) (good-lawful x (h .0)) (good-all xs (h .1))
+
+  table-held : lawfulTable t b ≡ true → Held t b (rows t b)
+  table-held h =
+      let xs = rows t b in
+      let k = and-three (leb (length xs) 512) (rising (keyWidth t) xs) (all (lawful t b) xs) h in
+      record { rising = k .1; good = all-good xs (k .2); size = leb-true (length xs) 512 (k .0) }
+
+  held-table : Held t b (rows t b) → lawfulTable t b ≡ true
+  held-table h = rw (le-leb (length (rows t b)) 512 (h .size), h .rising, good-all (rows t b) (h .good))
+
+pub lawful-standing : (b : Book) → lawfulBook b ≡ true → Standing b
+lawful-standing b h =
+    let k = and-four (lawfulTable VehicleType b) (lawfulTable Depot b) (lawfulTable Stop b) (lawfulTable Block b) h in
+    record {
+      types = table-held VehicleType b (k .0);
+      depots = table-held Depot b (k .1);
+      stops = table-held Stop b (k .2);
+      blocks = table-held Block b (k .3);
+    }
+
+pub standing-lawful : (b : Book) → Standing b → lawfulBook b ≡ true
+standing-lawful b h =
+    all-four (lawfulTable VehicleType b) (lawfulTable Depot b) (lawfulTable Stop b) (lawfulTable Block b)
+    (held-table VehicleType b (h .types)) (held-table Depot b (h .depots)) (held-table Stop b (h .stops)) (held-table Block b (h .blocks))
+  where
+    all-four : (p q r s : Bool) → p ≡ true → q ≡ true → r ≡ true → s ≡ true → (p && q && r && s) ≡ true
+    all-four p q r s e f g i = rw (e, f, g, i)
+
+-- the slice --------------------------------------------------------------------------------------------------------------
+
+-- VERSION is at least 1
+first-versioned : (t : Table) (row : Row) → Eleven row → ranged (columnsOf t) (take (keptWidth t) row) ≡ true → 1 ≤ column 1 row
+unfolding columnsOf ranged
+first-versioned VehicleType row (eleven a b c d e f g h i j k) r = leb-true 1 a (and-left (leb 1 a) (leb a 99) (and-left (leb 1 a && leb a 99) _ r))
+first-versioned Depot row (eleven a b c d e f g h i j k) r = leb-true 1 a (and-left (leb 1 a) (leb a 99) (and-left (leb 1 a && leb a 99) _ r))
+first-versioned Stop row (eleven a b c d e f g h i j k) r = leb-true 1 a (and-left (leb 1 a) (leb a 99) (and-left (leb 1 a && leb a 99) _ r))
+first-versioned Block row (eleven a b c d e f g h i j k) r = leb-true 1 a (and-left (leb 1 a) (leb a 99) (and-left (leb 1 a && leb a 99) _ r))
+
+versioned : (t : Table) (b : Book) (xs : List Row) → EachGood t b xs → Versioned xs
+unfolding Versioned EachGood
+versioned t b [] h = tt
+versioned t b (x ∷ xs) h = let g : Good t b x = h .0 in (first-versioned t x (good-eleven t x (g .shape)) (g .inside), versioned t b xs (h .1))
+
+module _ (b : Book) (h : Standing b) where
+  one : length (filled 512 (b .types)) ≡ 512
+  one = length-filled 512 (b .types) (h .types .size)
+
+  two : length (filled 512 (b .depots)) ≡ 512
+  two = length-filled 512 (b .depots) (h .depots .size)
+
+  three : length (filled 512 (b .stops)) ≡ 512
+  three = length-filled 512 (b .stops) (h .stops .size)
+
+  four : length (filled 512 (b .blocks)) ≡ 512
+  four = length-filled 512 (b .blocks) (h .blocks .size)
+
+  abbrev from-two : List Row
+  from-two = filled 512 (b .depots) ++ (filled 512 (b .stops) ++ filled 512 (b .blocks))
+
+  abbrev from-three : List Row
+  from-three = filled 512 (b .stops) ++ filled 512 (b .blocks)
+
+  pub laid-long : length (laid b) ≡ 2048
+  laid-long =
+      length-append (filled 512 (b .types)) from-two
+      ∙ omega (arith, one, two, three, four, length-append (filled 512 (b .depots)) from-three, length-append (filled 512 (b .stops)) (filled 512 (b .blocks)))
+
+  behind-one : drop 512 (laid b) ≡ from-two
+  behind-one = drop-at (filled 512 (b .types)) from-two 512 one
+
+  behind-two : drop 1024 (laid b) ≡ from-three
+  behind-two = sym (drop-drop 512 512 (laid b)) ∙ ap (λ (l : List Row). drop 512 l) behind-one ∙ drop-at (filled 512 (b .depots)) from-three 512 two
+
+  behind-three : drop 1536 (laid b) ≡ filled 512 (b .blocks)
+  behind-three = sym (drop-drop 512 1024 (laid b)) ∙ ap (λ (l : List Row). drop 512 l) behind-two ∙ drop-at (filled 512 (b .stops)) (filled 512 (b .blocks)) 512 three
+
+  part-one : part 0 (laid b) ≡ filled 512 (b .types)
+  part-one = take-at (filled 512 (b .types)) from-two 512 one
+
+  part-two : part 1 (laid b) ≡ filled 512 (b .depots)
+  part-two = ap (λ (l : List Row). take 512 l) behind-one ∙ take-at (filled 512 (b .depots)) from-three 512 two
+
+  part-three : part 2 (laid b) ≡ filled 512 (b .stops)
+  part-three = ap (λ (l : List Row). take 512 l) behind-two ∙ take-at (filled 512 (b .stops)) (filled 512 (b .blocks)) 512 three
+
+  part-four : part 3 (laid b) ≡ filled 512 (b .blocks)
+  part-four = ap (λ (l : List Row). take 512 l) behind-three ∙ take-all 512 (filled 512 (b .blocks)) (omega (arith, four))
+
+  pub book-laid : bookOf (laid b) ≡ b
+  book-laid =
+      let u1 : used (part 0 (laid b)) ≡ b .types = ap used part-one ∙ used-filled 512 (b .types) (versioned VehicleType b (b .types) (h .types .good)) in
+      let u2 : used (part 1 (laid b)) ≡ b .depots = ap used part-two ∙ used-filled 512 (b .depots) (versioned Depot b (b .depots) (h .depots .good)) in
+      let u3 : used (part 2 (laid b)) ≡ b .stops = ap used part-three ∙ used-filled 512 (b .stops) (versioned Stop b (b .stops) (h .stops .good)) in
+      let u4 : used (part 3 (laid b)) ≡ b .blocks = ap used part-four ∙ used-filled 512 (b .blocks) (versioned Block b (b .blocks) (h .blocks .good)) in
+      rw (u1, u2, u3, u4)
+
+  pub laid-keeps : keepsRule (laid b) ≡ true
+  laid-keeps =
+      and-both (eqb (length (laid b)) 2048 && lawfulBook (bookOf (laid b))) (sameRows (laid b) (laid (bookOf (laid b))))
+      (and-both (eqb (length (laid b)) 2048) (lawfulBook (bookOf (laid b))) (eq-eqb (length (laid b)) 2048 laid-long)
+      (subst (λ (z : Book). lawfulBook z ≡ true) (sym book-laid) (standing-lawful b h)))
+      (subst (λ (z : Book). sameRows (laid b) (laid z) ≡ true) (sym book-laid) (sameRows-refl (laid b)))
+
+-- the questions on a book that keeps the rule ------------------------------------------------------------------------------
+
+pub type-asked : (b : Book) → Standing b → (version type : ℕ) →
+    typeCall (laid b) version type
+    ≡ typeAnswered (nowhere (notThere when not (stands 2 (version ∷ type ∷ []) (b .types)))) (secondsOf version type (b .blocks)) (countOf version type (b .blocks))
+type-asked b h version type =
+    let answer : Bool → Book → TypeAnswer =
+    λ q z. typeAnswered (nowhere (badLoan when not q) before nowhere (notThere when not (knows VehicleType (version ∷ type ∷ []) z)))
+    (secondsOf version type (z .blocks)) (countOf version type (z .blocks)) in
+    ap (λ (q : Bool). answer q (bookOf (laid b))) (laid-keeps b h) ∙ ap (λ (z : Book). answer true z) (book-laid b h)
+
+pub block-asked : (b : Book) → Standing b → (version day depot block : ℕ) →
+    let key = version ∷ day ∷ depot ∷ block ∷ [] in
+    blockCall (laid b) version day depot block ≡ blockAnswered (nowhere (notThere when not (stands 4 key (b .blocks)))) (seven (found 4 key (b .blocks)))
+block-asked b h version day depot block =
+    let key : Row = version ∷ day ∷ depot ∷ block ∷ [] in
+    let answer : Bool → Book → BlockAnswer =
+    λ q z. blockAnswered (nowhere (badLoan when not q) before nowhere (notThere when not (knows Block key z))) (seven (found 4 key (z .blocks))) in
+    ap (λ (q : Bool). answer q (bookOf (laid b))) (laid-keeps b h) ∙ ap (λ (z : Book). answer true z) (book-laid b h)

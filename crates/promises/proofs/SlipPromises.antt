@@ -1,0 +1,262 @@
+-- Demand 3: after any run of slips the book is the one read afresh, a slip line is refused exactly where a reading would refuse its row, and
+-- what no accepted slip touches keeps its answers. Assumes nothing.
+use Prim.Native.Nat.{ℕ, suc, _+_, _<_}
+use native.Mathlib.Omega.{arith}
+use mathlib.Core.Path.{_≡_, refl, ap, sym, subst, _∙_}
+use mathlib.Core.Bool.{Bool, true, false, _&&_, not}
+use mathlib.Core.List.{List, [], _∷_, _++_, map}
+use lib.ListN.{length}
+use borrow.Author.Tests.{lt-leb}
+use Rattle.words.specs.Words.{Bytes, Row}
+use Rattle.refusals.specs.Verdicts.{_⊳_, _when_, passes, place, placed, nowhere, notThere, inText, textTooLong, tooManyRows, endsEarly, noBlock}
+use Rattle.refusals.specs.declared.Check.{Check}
+use Rattle.refusals.specs.declared.Check.the-variants.{Passes, Fails}
+use Rattle.refusals.specs.declared.Place.{Place}
+use Rattle.text.specs.Numbers.{value}
+use Rattle.text.specs.Lines.{slipLines, overlong}
+use Rattle.text.specs.Fields.{fields}
+use Rattle.tables.specs.declared.Table.the-variants.{Block}
+use Rattle.rows.specs.Rows.{keyOrder, sameKey, stands, found, inserted, replaced, removed}
+use Rattle.rows.specs.declared.Order.{Order}
+use Rattle.rows.specs.declared.Order.the-variants.{Less, Same, More}
+use Rattle.book.specs.Book.{Book, with-rows, entered, full}
+use Rattle.book.specs.Rules.{timeFault, unknown, unknownOf, ruled}
+use Rattle.book.specs.Questions.{seconds, ofType, seven, total}
+use Rattle.book.specs.Calls.{typeAnswered, blockAnswered}
+use Rattle.reading.specs.Reading.{Result, leaves, refused, unless, _▹_, tableRead, Delivery, reading, Left}
+use Rattle.slips.specs.Slips.{numbers, wish, badField, lineJudged, granted, rowIn, slipCheck, slipLeaves, linesPosted, posting, kept, posted}
+use Rattle.slips.specs.declared.Wish.{Wish}
+use Rattle.slips.specs.declared.Wish.the-variants.{Add, Replace, Delete, Unknown}
+use Rattle.writer.specs.Writing.{linesWritten, written}
+use Rattle.promises.specs.Promises.{run, with-blocks, writtenWith, readThere, admissible, known, accepted, someLine, someSlip, names, changes, touches, RunReadsAfresh, RuleKept, RefusedExactly, RefusedAlike, BlocksKept, TypesKept, OtherTablesKept}
+use Rattle.words.proofs.Lists.{and-left, and-right}
+use Rattle.promises.proofs.TestLaws.{or-left, or-right, passed, going-on}
+use Rattle.rows.proofs.Changes.{stands-removed, stands-replaced, length-removed, other-stands-inserted, other-stands-removed, other-found-inserted, other-found-replaced, other-found-removed}
+use Rattle.promises.proofs.PlainLaws.{plainNames, plainLine, plain-names-block, plain-line-block, row-read, row-judged}
+use Rattle.promises.proofs.HeldLaws.{Held, table-more}
+use Rattle.promises.proofs.DeliveryLaws.{Accepted, left-by, lines-plain, blocks-back}
+use Rattle.promises.proofs.RuleLaws.{type-asked, block-asked}
+use Rattle.promises.proofs.RulePromises.{left-standing}
+use Rattle.promises.proofs.SlipLaws.{Kept, Fielded, fielded, elevenWished, wish-eleven, held-removed, kept-run}
+
+pub run-reads-afresh : RunReadsAfresh
+unfolding reading
+run-reads-afresh d b ss e =
+    let a : Accepted d b = left-by d b e in
+    let c : Book = run ss b in
+    let k : Kept b c = kept-run b ss b (record { apart = refl; blocks = a .standing .blocks }) in
+    ap (λ (r : Result). r ▹ tableRead Block (written c)) (a .before-blocks)
+    ∙ blocks-back b (c .blocks) (k .blocks)
+    ∙ ap (λ (z : Book). leaves z) (sym (k .apart))
+
+pub rule-kept : RuleKept
+unfolding run
+rule-kept b s l = (with-blocks (written (posted s b)) (l .0), run-reads-afresh (l .0) b (s ∷ []) (l .1))
+
+-- refused exactly --------------------------------------------------------------------------------------------------------
+
+-- the row behind other blocks meets 5, and the rules of a row
+read-there : (d : Delivery) (b : Book) (ys : List Row) (row : Row) → reading d ≡ leaves b → Held Block b ys → Fielded row →
+    reading (with-blocks (writtenWith row ys) d)
+    ≡ unless (placed 4 (2 + length ys) (tooManyRows when full Block (with-rows Block ys b) ⊳ ruled Block row (with-rows Block ys b))) (leaves (entered Block row (with-rows Block ys b)))
+unfolding reading
+read-there d b ys row e h n =
+    let text : writtenWith row ys ≡ linesWritten (plainNames Block ∷ (map (plainLine Block) ys ++ (plainLine Block row ∷ []))) =
+    rw (plain-names-block, lines-plain b ys (h .good), plain-line-block row (n .numbers)) in
+    ap (λ (r : Result). r ▹ tableRead Block (writtenWith row ys)) (left-by d b e .before-blocks)
+    ∙ ap (λ (s : Bytes). tableRead Block s (with-rows Block [] b)) text
+    ∙ table-more Block b ys row h (n .numbers) (n .inside)
+    ∙ rw (row-judged Block row (with-rows Block ys b) (n .numbers) (n .shape) (n .inside), row-read Block row (n .numbers) (n .shape))
+
+accepted-placed : (i : ℕ) (c : Check) (x : Book) → accepted (unless (placed 4 i c) (leaves x)) ≡ passes c
+accepted-placed i Passes x = refl
+accepted-placed i (Fails n k) x = refl
+
+module _ (d : Delivery) (b : Book) (e : reading d ≡ leaves b) where
+  blocks-held : Held Block b (b .blocks)
+  blocks-held = left-by d b e .standing .blocks
+
+  there : (ys : List Row) (row : Row) → Held Block b ys → Fielded row →
+      readThere d ys row ≡ passes (tooManyRows when full Block (with-rows Block ys b) ⊳ ruled Block row (with-rows Block ys b))
+  there ys row h n = ap accepted (read-there d b ys row e h n) ∙ accepted-placed (2 + length ys) (tooManyRows when full Block (with-rows Block ys b) ⊳ ruled Block row (with-rows Block ys b)) (entered Block row (with-rows Block ys b))
+
+  exactly : (ss : List Bytes) (w : Wish) → wish ss ≡ w → known w ≡ true → badField (numbers ss) ≡ Passes →
+      passes (lineJudged w (numbers ss) (map value (numbers ss)) b) ≡ admissible w d (map value (numbers ss)) b
+  unfolding unknownOf elevenWished
+  exactly ss Unknown f u g = let z : _≡_ {A = ℕ} 0 1 = cc in let y : ⊥ = omega arith in absurd y
+  exactly ss Add f u g =
+      let row = map value (numbers ss) in
+      rw g (sym (there (b .blocks) row blocks-held (fielded (numbers ss) (wish-eleven ss (ap elevenWished f)) g)))
+  exactly ss Replace f u g = go (stands 4 row (b .blocks)) refl
+    where
+      row : Row
+      row = map value (numbers ss)
+
+      without : List Row
+      without = removed 4 row (b .blocks)
+
+      late : (t : Bool) (c : Check) → passes (endsEarly when t ⊳ noBlock when true ⊳ c) ≡ false
+      late true c = refl
+      late false c = refl
+
+      go : (k : Bool) → stands 4 row (b .blocks) ≡ k → passes (lineJudged Replace (numbers ss) row b) ≡ admissible Replace d row b
+      go false s = rw (g, s) (late (timeFault Block row) (unknown Block row b))
+      go true s =
+          let short : length without < 512 = omega (arith, length-removed 4 row (b .blocks) s, blocks-held .size) in
+          rw (
+            g,
+            s,
+            there without row (held-removed b row (b .blocks) blocks-held) (fielded (numbers ss) (wish-eleven ss (ap elevenWished f)) g),
+            lt-leb 512 (length without) short,
+            stands-removed 4 row (b .blocks) (blocks-held .rising),
+          )
+  exactly ss Delete f u g = go (stands 4 (map value (numbers ss)) (b .blocks)) refl
+    where
+      go : (k : Bool) → stands 4 (map value (numbers ss)) (b .blocks) ≡ k → passes (lineJudged Delete (numbers ss) (map value (numbers ss)) b) ≡ admissible Delete d (map value (numbers ss)) b
+      go true s = rw (g, s)
+      go false s = rw (g, s)
+
+pub refused-exactly : RefusedExactly
+refused-exactly d b line e h =
+    let ss = fields line in
+    let formed = and-left (known (wish ss)) (passes (badField (numbers ss))) h in
+    let good = passed (badField (numbers ss)) (and-right (known (wish ss)) (passes (badField (numbers ss))) h) in
+    exactly d b e ss (wish ss) refl formed good
+
+placed-refused : (t i : ℕ) (c : Check) (x : Book) (p : Place) → unless (placed t i c) (leaves x) ≡ refused p → (c ≡ Fails (p .number) (p .column)) × (p .table ≡ t) × (p .line ≡ i)
+placed-refused t i Passes x p h = let z : _≡_ {A = ℕ} 0 1 = cc in let y : ⊥ = omega arith in absurd y
+placed-refused t i (Fails n k) x p h =
+    let q : place n t i k ≡ p = cc in
+    subst (λ (z : Place). (Fails n k ≡ Fails (z .number) (z .column)) × (z .table ≡ t) × (z .line ≡ i)) q (refl, refl, refl)
+
+pub refused-alike : RefusedAlike
+unfolding elevenWished
+refused-alike d b line p e h f r =
+    let ss = fields line in
+    let row = rowIn line in
+    let good : badField (numbers ss) ≡ Passes = passed (badField (numbers ss)) (and-right (known (wish ss)) (passes (badField (numbers ss))) h) in
+    let n : Fielded row = fielded (numbers ss) (wish-eleven ss (ap elevenWished f)) good in
+    let c : Check = tooManyRows when full Block b ⊳ ruled Block row b in
+    let q = placed-refused 4 (2 + length (b .blocks)) c (entered Block row b) p (sym (read-there d b (b .blocks) row e (left-by d b e .standing .blocks) n) ∙ r) in
+    let slip : slipCheck line b ≡ c = ap (λ (w : Wish). lineJudged w (numbers ss) row b) f ∙ rw good in
+    (slip ∙ q .0, q .1, q .2)
+
+-- what no accepted slip touches --------------------------------------------------------------------------------------------
+
+-- said once of anything about the blocks that a line keeps unless it does this
+module _ {X : Type 0} (f : List Row → X) (does : Bytes → Book → Bool)
+    (keeps : (l : Bytes) (b : Book) → does l b ≡ false → f (slipLeaves l b .blocks) ≡ f (b .blocks)) where
+  kept-lines : (i : ℕ) (ls : List Bytes) (b c : Book) → linesPosted i ls b ≡ leaves c → someLine does ls b ≡ false → f (c .blocks) ≡ f (b .blocks)
+  unfolding linesPosted someLine
+  kept-lines i [] b c e h = let g : c ≡ b = cc in ap (λ (x : Book). f (x .blocks)) g
+  kept-lines i (l ∷ ls) b c e h =
+      kept-lines (suc i) ls (slipLeaves l b) c (going-on (placed 5 i (slipCheck l b)) (linesPosted (suc i) ls (slipLeaves l b)) c e)
+      (or-right (does l b) (someLine does ls (slipLeaves l b)) h)
+      ∙ keeps l b (or-left (does l b) (someLine does ls (slipLeaves l b)) h)
+
+  kept-slip : (s : Bytes) (b : Book) → (accepted (posting s b) && someLine does (slipLines s) b) ≡ false → f (posted s b .blocks) ≡ f (b .blocks)
+  unfolding posting
+  kept-slip s b = go (posting s b) refl
+    where
+      go : (r : Result) → posting s b ≡ r → (accepted r && someLine does (slipLines s) b) ≡ false → f (kept b r .blocks) ≡ f (b .blocks)
+      go (refused p) e h = refl
+      go (leaves c) e h = kept-lines 1 (slipLines s) b c (going-on (inText 5 (textTooLong when overlong s)) (linesPosted 1 (slipLines s) b) c e) h
+
+  kept-slips : (ss : List Bytes) (b : Book) → someSlip does ss b ≡ false → f (run ss b .blocks) ≡ f (b .blocks)
+  unfolding run someSlip
+  kept-slips [] b h = refl
+  kept-slips (s ∷ ss) b h =
+      let here = accepted (posting s b) && someLine does (slipLines s) b in
+      let later = someSlip does ss (posted s b) in
+      kept-slips ss (posted s b) (or-right here later h) ∙ kept-slip s b (or-left here later h)
+
+-- the row of another key, and whether it stands
+module _ (key row : Row) (apart : sameKey 4 key row ≡ false) where
+  found-granted : (w : Wish) (b : Book) → found 4 key (granted w row b .blocks) ≡ found 4 key (b .blocks)
+  found-granted Unknown b = refl
+  found-granted Add b = other-found-inserted 4 key row apart (b .blocks)
+  found-granted Replace b = other-found-replaced 4 key row apart (b .blocks)
+  found-granted Delete b = other-found-removed 4 key row apart (b .blocks)
+
+  stands-granted : (w : Wish) (b : Book) → stands 4 key (granted w row b .blocks) ≡ stands 4 key (b .blocks)
+  stands-granted Unknown b = refl
+  stands-granted Add b = other-stands-inserted 4 key row apart (b .blocks)
+  stands-granted Replace b = stands-replaced 4 key row (b .blocks)
+  stands-granted Delete b = other-stands-removed 4 key row apart (b .blocks)
+
+-- what the blocks of another type weigh
+module _ (weight : Row → ℕ) (v n : ℕ) (row : Row) where
+  total-inserted : (xs : List Row) → ofType v n row ≡ false → total weight v n (inserted 4 row xs) ≡ total weight v n xs
+  unfolding total inserted
+  total-inserted [] h = rw h
+  total-inserted (x ∷ xs) h = go (keyOrder 4 row x) refl (total-inserted xs h)
+    where
+      go : (o : Order) → keyOrder 4 row x ≡ o → total weight v n (inserted 4 row xs) ≡ total weight v n xs → total weight v n (inserted 4 row (x ∷ xs)) ≡ total weight v n (x ∷ xs)
+      go Less e ih = rw (e, h) (omega arith)
+      go Same e ih = rw e
+      go More e ih = rw (e, ih)
+
+  total-replaced : (xs : List Row) → ofType v n row ≡ false → ofType v n (found 4 row xs) ≡ false → total weight v n (replaced 4 row xs) ≡ total weight v n xs
+  unfolding total replaced found
+  total-replaced [] h k = refl
+  total-replaced (x ∷ xs) h k = go (keyOrder 4 row x) refl (total-replaced xs h)
+    where
+      go : (o : Order) → keyOrder 4 row x ≡ o → (ofType v n (found 4 row xs) ≡ false → total weight v n (replaced 4 row xs) ≡ total weight v n xs) →
+          total weight v n (replaced 4 row (x ∷ xs)) ≡ total weight v n (x ∷ xs)
+      go Less e ih = rw (e, ih (rw e at k))
+      go Same e ih = let m : ofType v n x ≡ false = rw e at k in rw (e, h, m)
+      go More e ih = rw (e, ih (rw e at k))
+
+  total-removed : (xs : List Row) → ofType v n (found 4 row xs) ≡ false → total weight v n (removed 4 row xs) ≡ total weight v n xs
+  unfolding total removed found
+  total-removed [] k = refl
+  total-removed (x ∷ xs) k = go (keyOrder 4 row x) refl (total-removed xs)
+    where
+      go : (o : Order) → keyOrder 4 row x ≡ o → (ofType v n (found 4 row xs) ≡ false → total weight v n (removed 4 row xs) ≡ total weight v n xs) →
+          total weight v n (removed 4 row (x ∷ xs)) ≡ total weight v n (x ∷ xs)
+      go Less e ih = rw (e, ih (rw e at k))
+      go Same e ih = let m : ofType v n x ≡ false = rw e at k in rw (e, m) (omega arith)
+      go More e ih = rw (e, ih (rw e at k))
+
+  total-granted : (w : Wish) (b : Book) → changes w v n row b ≡ false → total weight v n (granted w row b .blocks) ≡ total weight v n (b .blocks)
+  total-granted Unknown b h = refl
+  total-granted Add b h = total-inserted (b .blocks) h
+  total-granted Replace b h =
+      total-replaced (b .blocks) (or-left (ofType v n row) (ofType v n (found 4 row (b .blocks))) h) (or-right (ofType v n row) (ofType v n (found 4 row (b .blocks))) h)
+  total-granted Delete b h = total-removed (b .blocks) h
+
+run-left : (b : Book) (ss : List Bytes) → Left b → Left (run ss b)
+run-left b ss l = (with-blocks (written (run ss b)) (l .0), run-reads-afresh (l .0) b ss (l .1))
+
+-- the other tables ---------------------------------------------------------------------------------------------------------
+
+pub other-tables-kept : OtherTablesKept
+other-tables-kept b ss l =
+    let c : Book = run ss b in
+    let k : Kept b c = kept-run b ss b (record { apart = refl; blocks = left-by (l .0) b (l .1) .standing .blocks }) in
+    (ap (λ (z : Book). z .types) (k .apart), ap (λ (z : Book). z .depots) (k .apart), ap (λ (z : Book). z .stops) (k .apart))
+
+-- so the questions keep their answers
+pub blocks-kept : BlocksKept
+blocks-kept b ss version day depot block l h =
+    let key : Row = version ∷ day ∷ depot ∷ block ∷ [] in
+    let f : found 4 key (run ss b .blocks) ≡ found 4 key (b .blocks) =
+    kept-slips (found 4 key) (names key) (λ x z e. found-granted key (rowIn x) e (wish (fields x)) z) ss b h in
+    let s : stands 4 key (run ss b .blocks) ≡ stands 4 key (b .blocks) =
+    kept-slips (stands 4 key) (names key) (λ x z e. stands-granted key (rowIn x) e (wish (fields x)) z) ss b h in
+    block-asked (run ss b) (left-standing (run ss b) (run-left b ss l)) version day depot block
+    ∙ ap (λ (z : Bool). blockAnswered (nowhere (notThere when not z)) (seven (found 4 key (run ss b .blocks)))) s
+    ∙ ap (λ (z : Row). blockAnswered (nowhere (notThere when not (stands 4 key (b .blocks)))) (seven z)) f
+    ∙ sym (block-asked b (left-standing b l) version day depot block)
+
+pub types-kept : TypesKept
+types-kept b ss version type l h =
+    let key : Row = version ∷ type ∷ [] in
+    let total-kept : (weight : Row → ℕ) → total weight version type (run ss b .blocks) ≡ total weight version type (b .blocks) =
+    λ weight. kept-slips (total weight version type) (touches version type) (λ x z e. total-granted weight version type (rowIn x) (wish (fields x)) z e) ss b h in
+    type-asked (run ss b) (left-standing (run ss b) (run-left b ss l)) version type
+    ∙ ap (λ (z : List Row). typeAnswered (nowhere (notThere when not (stands 2 key z))) (total seconds version type (run ss b .blocks)) (total (λ x. 1) version type (run ss b .blocks)))
+    (other-tables-kept b ss l .0)
+    ∙ ap (λ (z : ℕ). typeAnswered (nowhere (notThere when not (stands 2 key (b .types)))) z (total (λ x. 1) version type (run ss b .blocks))) (total-kept seconds)
+    ∙ ap (λ (z : ℕ). typeAnswered (nowhere (notThere when not (stands 2 key (b .types)))) (total seconds version type (b .blocks)) z) (total-kept (λ x. 1))
+    ∙ sym (type-asked b (left-standing b l) version type)

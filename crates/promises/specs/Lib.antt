@@ -1,0 +1,6 @@
+-- The demands, to be read in this order.
+pub mod Sheet
+pub mod Run
+pub mod Promises
+pub mod Edges
+pub mod WholeCase

@@ -1,0 +1,395 @@
+-- The three demands, as statements over the definitions. Each is a type; whoever has an element of it has a proof.
+use mathlib.Core.Path.{_≡_}
+use mathlib.Core.List.{List, [], _∷_, _++_, map}
+use mathlib.Core.Logic.{_↔_, _⊎_}
+use mathlib.Core.Bool.{Bool, true, false, _&&_, _||_, not}
+use Prim.Native.Nat.{ℕ, _+_, _-_, _≤_, _<_}
+use lib.ListN.{length, getD, take, drop, replicate}
+use Rattle.words.specs.Words.{Bytes, Row, if_then_else_, same}
+use Rattle.refusals.specs.Verdicts.{_when_, passes, place, placed, nowhere, notThere}
+use Rattle.refusals.specs.declared.Place.{Place}
+use Rattle.refusals.specs.declared.Check.{Check}
+use Rattle.refusals.specs.declared.Check.the-variants.{Passes, Fails}
+use Rattle.refusals.specs.declared.Verdict.{Verdict}
+use Rattle.refusals.specs.declared.Verdict.the-variants.{Accepted, Refused}
+use Rattle.refusals.specs.declared.Cell.the-variants.{Number}
+use Rattle.text.specs.Lines.{lines, rowLines, slipLines, overlong}
+use Rattle.text.specs.Cells.{stretch}
+use Rattle.text.specs.Fields.{fields}
+use Rattle.tables.specs.Columns.{columnsOf, columnAt, number, keyWidth, keptWidth}
+use Rattle.tables.specs.declared.Sort.the-variants as sort-is
+use Rattle.tables.specs.declared.Table.{Table}
+use Rattle.tables.specs.declared.Table.the-variants.{VehicleType, Depot, Stop, Block}
+use Rattle.rows.specs.Rows.{column, sameKey, stands, found, removed, rising}
+use Rattle.rows.specs.Room.{zeros}
+use Rattle.book.specs.Book.{Book, empty, rows, entered, knows}
+use Rattle.book.specs.Questions.{secondsOf, countOf, seven, ofType}
+use Rattle.book.specs.Calls.{typeAnswered, typeCall, blockAnswered, blockCall}
+use Rattle.book.specs.Room.{laid}
+use Rattle.book.specs.Keeping.{keepsRule}
+use Rattle.reading.specs.Reading.{Delivery, Result, leaves, refused, reading, tableRead, judged, rowRead, headerOf, topFaults, Left}
+use Rattle.reading.specs.CellQuestion.{answered, cellAt, cellAsked, stretchOf}
+use Rattle.reading.specs.Calls.{readCall}
+use Rattle.slips.specs.Slips.{wish, numbers, badField, rowIn, slipCheck, slipLeaves, posting, posted}
+use Rattle.slips.specs.Calls.{slipCall, slipOutcome}
+use Rattle.slips.specs.declared.Wish.{Wish}
+use Rattle.slips.specs.declared.Wish.the-variants.{Add, Replace, Delete, Unknown}
+use Rattle.writer.specs.Writing.{linesWritten, namesLine, rowLine, written}
+use Rattle.writer.specs.Calls.{writeCall}
+use Rattle.writer.specs.Calls as write-call
+use Rattle.sheet.specs.Calls.{sheetCall}
+
+-- Demand 1 ----------------------------------------------------------------------------------------------------------------
+
+-- "Every call takes every input and comes back." Each call's answer, and what all that is lent holds behind it, is a function of what it is
+-- handed: `readCall`, `cellAsked`, `typeCall`, `blockCall`, `slipCall`, `writeCall`, `sheetCall`, with nothing required.
+-- Each public function's contract is one equation with its call, so two outcomes that it permits are the same
+abbrev pub Determined : Type 1
+Determined = (A : Type 0) (call one other : A) → one ≡ call → other ≡ call → one ≡ other
+
+-- "A fault gets one number and a place, by a fixed order": the order is that of the tables (`DeliveryRefused`), of the lines of each
+-- (`RefusedAtFirst`, `SlipRefusedAtFirst`), and on a line that of the checks (`headerCheck`, `judged`, `lineJudged`). Of a delivery the number is
+-- one from 1 to 11, in one of its four tables
+abbrev pub ReadingNumbered : Type 0
+ReadingNumbered = (d : Delivery) (p : Place) → reading d ≡ refused p →
+    (1 ≤ p .number) × (p .number ≤ 11) × (1 ≤ p .table) × (p .table ≤ 4)
+
+-- and of a slip 1 to 13, in table 5
+abbrev pub SlipNumbered : Type 0
+SlipNumbered = (s : Bytes) (b : Book) (p : Place) → posting s b ≡ refused p → (1 ≤ p .number) × (p .number ≤ 13) × (p .table ≡ 5)
+
+-- "A refused reading leaves an empty book"
+abbrev pub RefusedReadingEmpties : Type 0
+RefusedReadingEmpties = (d : Delivery) (slice : List Row) (p : Place) → length slice ≡ 2048 → readCall d slice .verdict ≡ Refused p →
+    readCall d slice .book ≡ laid empty
+
+-- "a refused slip the book untouched"; the working area ends all zero
+abbrev pub RefusedSlipKeeps : Type 0
+RefusedSlipKeeps = (s : Bytes) (book work : List Row) (p : Place) → slipCall s book work .verdict ≡ Refused p → slipCall s book work .book ≡ book
+
+abbrev pub WorkCleared : Type 0
+WorkCleared = (s : Bytes) (book work : List Row) → length work ≡ 512 → slipCall s book work .work ≡ replicate 512 zeros
+
+-- "a refused writing the output untouched"
+abbrev pub RefusedWritingKeeps : Type 0
+RefusedWritingKeeps = (book : List Row) (out : Bytes) (p : Place) → writeCall book out .verdict ≡ Refused p →
+    (writeCall book out .size ≡ 0) × (writeCall book out .out ≡ out)
+
+-- nor does a refused sheet touch it
+abbrev pub RefusedSheetKeeps : Type 0
+RefusedSheetKeeps = (v : Verdict) (book : List Row) (out : Bytes) (p : Place) → sheetCall v book out .verdict ≡ Refused p →
+    (sheetCall v book out .size ≡ 0) × (sheetCall v book out .out ≡ out)
+
+-- what is lent at another length is 16 and stays as it came
+abbrev pub WrongBookStays : Type 0
+WrongBookStays = (d : Delivery) (slice : List Row) → (length slice ≡ 2048 → ⊥) →
+    (readCall d slice .verdict ≡ Refused (place 16 0 0 0)) × (readCall d slice .book ≡ slice)
+
+abbrev pub WrongWorkStays : Type 0
+WrongWorkStays = (s : Bytes) (book work : List Row) → (length work ≡ 512 → ⊥) →
+    (slipCall s book work .verdict ≡ Refused (place 16 0 0 0)) × (slipCall s book work .book ≡ book) × (slipCall s book work .work ≡ work)
+
+-- 16 is the answer too to a book that no accepted delivery leaves
+abbrev pub BadBookRefused : Type 0
+BadBookRefused = (book : List Row) → ((b : Book) → Left b → book ≡ laid b → ⊥) →
+    ((s : Bytes) (work : List Row) → slipCall s book work .verdict ≡ Refused (place 16 0 0 0))
+    × ((out : Bytes) → writeCall book out .verdict ≡ Refused (place 16 0 0 0))
+    × ((version type : ℕ) → typeCall book version type ≡ typeAnswered (Refused (place 16 0 0 0)) 0 0)
+    × ((version day depot block : ℕ) → blockCall book version day depot block ≡ blockAnswered (Refused (place 16 0 0 0)) [])
+
+-- and every lent slice ends as long as it came
+abbrev pub LengthsKept : Type 0
+LengthsKept = ((d : Delivery) (slice : List Row) → length (readCall d slice .book) ≡ length slice)
+    × ((s : Bytes) (book work : List Row) → (length (slipCall s book work .book) ≡ length book) × (length (slipCall s book work .work) ≡ length work))
+    × ((book : List Row) (out : Bytes) → length (writeCall book out .out) ≡ length out)
+
+-- Demand 2 ----------------------------------------------------------------------------------------------------------------
+
+-- "accepted if no row breaks a rule, else the first fault": said of lines that are judged in turn, each on the book as those above leave it.
+-- `check` is the judgement of a line, `step` what a line leaves
+
+-- the book that lines leave
+unfoldable pub onward : (Bytes → Book → Book) → List Bytes → Book → Book
+onward step [] b = b
+onward step (l ∷ ls) b = onward step ls (step l b)
+
+-- line i, counted from 0, judged on the book that the lines above it leave
+abbrev pub checkAt : (Bytes → Book → Check) → (Bytes → Book → Book) → List Bytes → ℕ → Book → Check
+checkAt check step ls i b = check (getD ls i []) (onward step (take i ls) b)
+
+-- no line breaks a rule, and the book is what they leave
+pub record Faultless (check : Bytes → Book → Check) (step : Bytes → Book → Book) (ls : List Bytes) (b c : Book) : Type 0 where
+  pub passing : (i : ℕ) → i < length ls → checkAt check step ls i b ≡ Passes
+  pub left : c ≡ onward step ls b
+
+-- the first fault: it has the place, and every line above it passes. `first` is the number of the first line
+pub record FirstFault (check : Bytes → Book → Check) (step : Bytes → Book → Book) (table first : ℕ) (ls : List Bytes) (b : Book) (p : Place) : Type 0 where
+  pub at : ℕ
+  pub inside : at < length ls
+  pub fault : placed table (first + at) (checkAt check step ls at b) ≡ Refused p
+  pub above : (i : ℕ) → i < at → checkAt check step ls i b ≡ Passes
+
+-- the row lines of a text, from line 2 on, and the rows that they say
+abbrev pub rowLinesOf : Bytes → List Bytes
+rowLinesOf s = rowLines (lines s)
+
+abbrev pub rowsOf : Table → Bytes → List Row
+rowsOf t s = map (rowRead t (headerOf t s)) (rowLinesOf s)
+
+-- what a row line leaves
+abbrev pub rowStep : Table → Bytes → Bytes → Book → Book
+rowStep t s l b = entered t (rowRead t (headerOf t s) l) b
+
+-- a table is accepted exactly if nothing is wrong before its rows, and no row breaks a rule
+abbrev pub AcceptedExactly : Type 0
+AcceptedExactly = (t : Table) (s : Bytes) (b c : Book) →
+    (tableRead t s b ≡ leaves c) ↔ ((topFaults t s ≡ Accepted) × Faultless (judged t (headerOf t s)) (rowStep t s) (rowLinesOf s) b c)
+
+-- and refused exactly at the first fault
+abbrev pub RefusedAtFirst : Type 0
+RefusedAtFirst = (t : Table) (s : Bytes) (b : Book) (p : Place) →
+    (tableRead t s b ≡ refused p)
+    ↔ ((topFaults t s ≡ Refused p) ⊎ ((topFaults t s ≡ Accepted) × FirstFault (judged t (headerOf t s)) (rowStep t s) (number t) 2 (rowLinesOf s) b p))
+
+-- a slip likewise, of at most 65,536 bytes
+abbrev pub SlipAcceptedExactly : Type 0
+SlipAcceptedExactly = (s : Bytes) (b c : Book) → (posting s b ≡ leaves c) ↔ ((overlong s ≡ false) × Faultless slipCheck slipLeaves (slipLines s) b c)
+
+abbrev pub SlipRefusedAtFirst : Type 0
+SlipRefusedAtFirst = (s : Bytes) (b : Book) (p : Place) →
+    (posting s b ≡ refused p)
+    ↔ (((overlong s ≡ true) × (p ≡ place 1 5 0 0)) ⊎ ((overlong s ≡ false) × FirstFault slipCheck slipLeaves 5 1 (slipLines s) b p))
+
+-- the four tables in order: each is read on the book that the ones before it leave
+pub record InOrder (d : Delivery) (b : Book) : Type 0 where
+  pub behind-types : Book
+  pub behind-depots : Book
+  pub behind-stops : Book
+  pub types : tableRead VehicleType (d .types) empty ≡ leaves behind-types
+  pub depots : tableRead Depot (d .depots) behind-types ≡ leaves behind-depots
+  pub stops : tableRead Stop (d .stops) behind-depots ≡ leaves behind-stops
+  pub blocks : tableRead Block (d .blocks) behind-stops ≡ leaves b
+
+abbrev pub DeliveryInOrder : Type 0
+DeliveryInOrder = (d : Delivery) (b : Book) → (reading d ≡ leaves b) ↔ InOrder d b
+
+-- and the first table that is refused ends the reading
+pub data FaultyTable (d : Delivery) (p : Place) : Type 0 where
+  in-types : tableRead VehicleType (d .types) empty ≡ refused p → FaultyTable d p
+  in-depots : (b : Book) → tableRead VehicleType (d .types) empty ≡ leaves b → tableRead Depot (d .depots) b ≡ refused p → FaultyTable d p
+  in-stops : (b c : Book) → tableRead VehicleType (d .types) empty ≡ leaves b → tableRead Depot (d .depots) b ≡ leaves c →
+      tableRead Stop (d .stops) c ≡ refused p → FaultyTable d p
+  in-blocks : (b c e : Book) → tableRead VehicleType (d .types) empty ≡ leaves b → tableRead Depot (d .depots) b ≡ leaves c →
+      tableRead Stop (d .stops) c ≡ leaves e → tableRead Block (d .blocks) e ≡ refused p → FaultyTable d p
+
+abbrev pub DeliveryRefused : Type 0
+DeliveryRefused = (d : Delivery) (p : Place) → (reading d ≡ refused p) ↔ FaultyTable d p
+
+-- the text of a table
+abbrev pub textOf : Table → Delivery → Bytes
+textOf VehicleType d = d .types
+textOf Depot d = d .depots
+textOf Stop d = d .stops
+textOf Block d = d .blocks
+
+-- how many of the rows are this row
+unfoldable pub copies : Row → List Row → ℕ
+copies row [] = 0
+copies row (x ∷ xs) = (if same row x then 1 else 0) + copies row xs
+
+-- the book of an accepted delivery holds exactly the rows of its texts, by rising key
+abbrev pub RowsExactly : Type 0
+RowsExactly = (d : Delivery) (b : Book) (t : Table) → reading d ≡ leaves b →
+    (rising (keyWidth t) (rows t b) ≡ true)
+    × (length (rows t b) ≡ length (rowsOf t (textOf t d)))
+    × ((row : Row) → copies row (rows t b) ≡ copies row (rowsOf t (textOf t d)))
+
+-- and so a key stands, and has a row, in the book as it does in its text
+abbrev pub KeysExactly : Type 0
+KeysExactly = (d : Delivery) (b : Book) (t : Table) (key : Row) → reading d ≡ leaves b →
+    (stands (keyWidth t) key (rows t b) ≡ stands (keyWidth t) key (rowsOf t (textOf t d)))
+    × (found (keyWidth t) key (rows t b) ≡ found (keyWidth t) key (rowsOf t (textOf t d)))
+
+-- and a type has the seconds and the count of the text's rows
+abbrev pub TotalsExactly : Type 0
+TotalsExactly = (d : Delivery) (b : Book) (version type : ℕ) → reading d ≡ leaves b →
+    (secondsOf version type (b .blocks) ≡ secondsOf version type (rowsOf Block (d .blocks)))
+    × (countOf version type (b .blocks) ≡ countOf version type (rowsOf Block (d .blocks)))
+
+-- so the questions on the lent book answer from the rows of the texts. Type: 15, or seconds and count
+abbrev pub TypesAnswered : Type 0
+TypesAnswered = (d : Delivery) (b : Book) (version type : ℕ) → reading d ≡ leaves b →
+    let there = stands 2 (version ∷ type ∷ []) (rowsOf VehicleType (d .types)) in
+    let blocks = rowsOf Block (d .blocks) in
+    typeCall (laid b) version type ≡ typeAnswered (nowhere (notThere when not there)) (secondsOf version type blocks) (countOf version type blocks)
+
+-- Block: 15, or its seven non-key numbers
+abbrev pub BlocksAnswered : Type 0
+BlocksAnswered = (d : Delivery) (b : Book) (version day depot block : ℕ) → reading d ≡ leaves b →
+    let key = version ∷ day ∷ depot ∷ block ∷ [] in
+    let blocks = rowsOf Block (d .blocks) in
+    blockCall (laid b) version day depot block ≡ blockAnswered (nowhere (notThere when not (stands 4 key blocks))) (seven (found 4 key blocks))
+
+-- the row of row line i, counted from 0
+abbrev pub rowAt : Table → Bytes → ℕ → Row
+rowAt t s i = rowRead t (headerOf t s) (getD (rowLinesOf s) i [])
+
+-- "cells .. exactly those of document 01": no cell of an accepted table is refused, on any of its row lines and in any column
+abbrev pub CellsAccepted : Type 0
+CellsAccepted = (d : Delivery) (b : Book) (t : Table) (i k : ℕ) → reading d ≡ leaves b → i < length (rowLinesOf (textOf t d)) → 1 ≤ k → k ≤ length (columnsOf t) →
+    cellAsked (textOf t d) (number t) (2 + i) k .verdict ≡ Accepted
+
+-- and in a column that the book keeps the answer is the number in that line's row, which stands in the book
+abbrev pub CellsAgree : Type 0
+CellsAgree = (d : Delivery) (b : Book) (t : Table) (i k : ℕ) → reading d ≡ leaves b → i < length (rowLinesOf (textOf t d)) → 1 ≤ k → k ≤ keptWidth t →
+    (cellAsked (textOf t d) (number t) (2 + i) k ≡ answered Accepted (Number (column k (rowAt t (textOf t d) i))))
+    × (found (keyWidth t) (rowAt t (textOf t d) i) (rows t b) ≡ rowAt t (textOf t d) i)
+
+-- "The stretch is the caller's own bytes between the quotes, or the whole cell where unquoted": it stands in the text where the answer says
+abbrev pub StretchesAgree : Type 0
+StretchesAgree = (t : Table) (s : Bytes) (line k : ℕ) → columnAt t (k - 1) .rules .sort ≡ sort-is.Text → cellAsked s (number t) line k .verdict ≡ Accepted →
+    stretchOf s (cellAsked s (number t) line k .cell) ≡ stretch (cellAt t s line k)
+
+-- the delivery with another text of blocks
+abbrev pub with-blocks : Bytes → Delivery → Delivery
+with-blocks s d = record { types = d .types; depots = d .depots; stops = d .stops; blocks = s }
+
+-- "Blocks written out and read back give the same book": with the same other tables
+abbrev pub ReadsBack : Type 0
+ReadsBack = (d : Delivery) (b : Book) → reading d ≡ leaves b → reading (with-blocks (written b) d) ≡ leaves b
+
+-- "and written again the same text": whatever delivery came first
+abbrev pub WritesAgain : Type 0
+WritesAgain = (d : Delivery) (b c : Book) → reading d ≡ leaves b → reading (with-blocks (written b) d) ≡ leaves c → written c ≡ written b
+
+-- what is written is never too long to be read
+abbrev pub WrittenFits : Type 0
+WrittenFits = (b : Book) → Left b → length (written b) ≤ 65536
+
+-- a write call answers the text's length and puts the text at the head of the output, or is 14 where there is no room for it
+abbrev pub WriteCallAnswers : Type 0
+WriteCallAnswers = (b : Book) (out : Bytes) → Left b →
+    (length (written b) ≤ length out → writeCall (laid b) out ≡ write-call.outcome Accepted (length (written b)) (written b ++ drop (length (written b)) out))
+    × (length out < length (written b) → writeCall (laid b) out ≡ write-call.outcome (Refused (place 14 0 0 0)) 0 out)
+
+-- reading, writing and reading by the calls: the same book again, whatever was lent
+abbrev pub CallsReadBack : Type 0
+CallsReadBack = (d : Delivery) (b : Book) (book : List Row) (out : Bytes) → reading d ≡ leaves b → length book ≡ 2048 → length (written b) ≤ length out →
+    let w = writeCall (readCall d book .book) out in
+    readCall (with-blocks (take (w .size) (w .out)) d) book ≡ readCall d book
+
+-- "The book rule: it is a book that some accepted delivery leaves." The test of the rule holds exactly of these books
+abbrev pub RuleTested : Type 0
+RuleTested = (slice : List Row) → (keepsRule slice ≡ true) ↔ ((b : Book) × Left b × (slice ≡ laid b))
+
+-- Demand 3 ----------------------------------------------------------------------------------------------------------------
+
+-- the book behind a run of slips, accepted or not
+unfoldable pub run : List Bytes → Book → Book
+run [] b = b
+run (s ∷ ss) b = run ss (posted s b)
+
+-- "After any run of slips, some refused, every answer equals the one got by reading afresh the delivery with its block rows, in the
+-- writer's form, as the accepted slips leave them": the whole book does, and every answer is one about the book
+abbrev pub RunReadsAfresh : Type 0
+RunReadsAfresh = (d : Delivery) (b : Book) (ss : List Bytes) → reading d ≡ leaves b → reading (with-blocks (written (run ss b)) d) ≡ leaves (run ss b)
+
+abbrev pub accepted : Result → Bool
+accepted (refused p) = false
+accepted (leaves b) = true
+
+-- the blocks in the writer's form, and one more row behind them
+abbrev pub writtenWith : Row → List Row → Bytes
+writtenWith row blocks = linesWritten (namesLine ∷ (map rowLine blocks ++ (rowLine row ∷ [])))
+
+-- a reading takes the row there: behind these blocks, with the other tables of the delivery
+abbrev pub readThere : Delivery → List Row → Row → Bool
+readThere d blocks row = accepted (reading (with-blocks (writtenWith row blocks) d))
+
+-- what a well-formed line must meet: the row that it adds or replaces would be read there, and the block that it names stands
+abbrev pub admissible : Wish → Delivery → Row → Book → Bool
+admissible Unknown d row b = false
+admissible Add d row b = readThere d (b .blocks) row
+admissible Replace d row b = knows Block row b && readThere d (removed 4 row (b .blocks)) row
+admissible Delete d row b = knows Block row b
+
+abbrev pub known : Wish → Bool
+known Unknown = false
+known Add = true
+known Replace = true
+known Delete = true
+
+-- "A line is well formed if neither 12 nor 8 holds of it."
+abbrev pub wellFormed : Bytes → Bool
+wellFormed line = known (wish (fields line)) && passes (badField (numbers (fields line)))
+
+-- "A well-formed slip line is refused exactly if its row would be refused by a reading there, or its block is missing."
+abbrev pub RefusedExactly : Type 0
+RefusedExactly = (d : Delivery) (b : Book) (line : Bytes) → reading d ≡ leaves b → wellFormed line ≡ true →
+    passes (slipCheck line b) ≡ admissible (wish (fields line)) d (rowIn line) b
+
+-- and where both refuse, they name the same number and column: the row's line comes behind the header and the blocks
+abbrev pub RefusedAlike : Type 0
+RefusedAlike = (d : Delivery) (b : Book) (line : Bytes) (p : Place) → reading d ≡ leaves b → wellFormed line ≡ true → wish (fields line) ≡ Add →
+    reading (with-blocks (writtenWith (rowIn line) (b .blocks)) d) ≡ refused p →
+    (slipCheck line b ≡ Fails (p .number) (p .column)) × (p .table ≡ 4) × (p .line ≡ 2 + length (b .blocks))
+
+-- some line of a slip does this, as the book stands before that line
+unfoldable pub someLine : (Bytes → Book → Bool) → List Bytes → Book → Bool
+someLine does [] b = false
+someLine does (l ∷ ls) b = does l b || someLine does ls (slipLeaves l b)
+
+-- some accepted slip of a run has such a line
+unfoldable pub someSlip : (Bytes → Book → Bool) → List Bytes → Book → Bool
+someSlip does [] b = false
+someSlip does (s ∷ ss) b = accepted (posting s b) && someLine does (slipLines s) b || someSlip does ss (posted s b)
+
+-- a line names the key
+abbrev pub names : Row → Bytes → Book → Bool
+names key l b = sameKey 4 key (rowIn l)
+
+-- a line changes a block of the type: the one that it brings, or the one that it takes away
+abbrev pub changes : Wish → ℕ → ℕ → Row → Book → Bool
+changes Unknown v n row b = false
+changes Add v n row b = ofType v n row
+changes Replace v n row b = ofType v n row || ofType v n (found 4 row (b .blocks))
+changes Delete v n row b = ofType v n (found 4 row (b .blocks))
+
+abbrev pub touches : ℕ → ℕ → Bytes → Book → Bool
+touches v n l b = changes (wish (fields l)) v n (rowIn l) b
+
+-- "What no accepted slip touches keeps its answers": blocks
+abbrev pub BlocksKept : Type 0
+BlocksKept = (b : Book) (ss : List Bytes) (version day depot block : ℕ) → Left b → someSlip (names (version ∷ day ∷ depot ∷ block ∷ [])) ss b ≡ false →
+    blockCall (laid (run ss b)) version day depot block ≡ blockCall (laid b) version day depot block
+
+-- types
+abbrev pub TypesKept : Type 0
+TypesKept = (b : Book) (ss : List Bytes) (version type : ℕ) → Left b → someSlip (touches version type) ss b ≡ false →
+    typeCall (laid (run ss b)) version type ≡ typeCall (laid b) version type
+
+-- and the other tables, which no slip touches
+abbrev pub OtherTablesKept : Type 0
+OtherTablesKept = (b : Book) (ss : List Bytes) → Left b →
+    (run ss b .types ≡ b .types) × (run ss b .depots ≡ b .depots) × (run ss b .stops ≡ b .stops)
+
+-- "The book rule: it is a book that some accepted delivery leaves." A slip, accepted or not, leaves a book that keeps the rule
+abbrev pub RuleKept : Type 0
+RuleKept = (b : Book) (s : Bytes) → Left b → Left (posted s b)
+
+-- the same of the calls: the lent book behind a reading and a run of slip calls, each with the working area as the last one left it
+unfoldable pub slipsCalled : List Bytes → List Row → List Row → List Row
+slipsCalled [] book work = book
+slipsCalled (s ∷ ss) book work = slipsCalled ss (slipCall s book work .book) (slipCall s book work .work)
+
+-- it is the book that a reading afresh lends, row for row, and so is every answer got from it
+abbrev pub CallsReadAfresh : Type 0
+CallsReadAfresh = (d : Delivery) (b : Book) (ss : List Bytes) (book work : List Row) →
+    reading d ≡ leaves b → length book ≡ 2048 → length work ≡ 512 →
+    (slipsCalled ss (readCall d book .book) work ≡ laid (run ss b))
+    × (slipsCalled ss (readCall d book .book) work ≡ readCall (with-blocks (written (run ss b)) d) book .book)
+
+-- a slip call answers as the slip is judged on the book that it is handed
+abbrev pub SlipCallAnswers : Type 0
+SlipCallAnswers = (s : Bytes) (b : Book) (work : List Row) → Left b → length work ≡ 512 →
+    slipCall s (laid b) work ≡ slipOutcome (posting s b) (laid b) work
