@@ -1,0 +1,64 @@
+-- `reading_cases::append` is safe and ends. Assumes nothing.
+use Prim.Native.Nat.{_-_}
+use mathlib.Core.Path.{_≡_}
+use lib.ListN.{length}
+use borrow.Author.Needs.{needs}
+use Rattle.reading_cases.proofs.append.Statement.{statement}
+use Rattle.reading_cases.proofs.append.Tie as tie
+
+abbrev Inv-bytes : tie.InvT-bytes
+Inv-bytes out₀ from bytes at₀ i₀ out at i = length out ≡ length out₀
+
+abbrev μ-bytes : tie.MeasureT-bytes
+μ-bytes out₀ from bytes at₀ i₀ out at i = length bytes - i
+
+bytes-holds : tie.Need-bytes-holds Inv-bytes μ-bytes
+bytes-holds c = search needs
+
+same-length : tie.Need-same-length Inv-bytes μ-bytes
+same-length c = search needs
+
+returns : tie.Need-returns Inv-bytes μ-bytes
+returns c = search needs
+
+shared-slice-read-out : tie.Need-shared-slice-read-out Inv-bytes μ-bytes
+shared-slice-read-out c = search needs
+
+slice-write-out : tie.Need-slice-write-out Inv-bytes μ-bytes
+slice-write-out c = search needs
+
+add-at : tie.Need-add-at Inv-bytes μ-bytes
+add-at c = search needs
+
+add-i : tie.Need-add-i Inv-bytes μ-bytes
+add-i c = search needs
+
+bytes-less : tie.Need-bytes-less Inv-bytes μ-bytes
+bytes-less c = search needs
+
+bytes-again : tie.Need-bytes-again Inv-bytes μ-bytes
+bytes-again c = search needs
+
+same-length-2 : tie.Need-same-length-2 Inv-bytes μ-bytes
+same-length-2 c = search needs
+
+returns-2 : tie.Need-returns-2 Inv-bytes μ-bytes
+returns-2 c = search needs
+
+pub append-spec : {M : Type 1} → statement M
+append-spec =
+    tie.close
+    (tie.spec
+    Inv-bytes
+    μ-bytes
+    bytes-holds
+    same-length
+    returns
+    shared-slice-read-out
+    slice-write-out
+    add-at
+    add-i
+    bytes-less
+    bytes-again
+    same-length-2
+    returns-2)
