@@ -1,0 +1,461 @@
+/* The benchmark: the library and the plain reader do the same work by turns in one process, and each time both must give
+ * the same answers. Printed are medians of many turns: times, their ratio, bytes per second, and how the time grows as the
+ * number of rows doubles. */
+#include "plain.h"
+#include "../second/dice.h"
+#include "../second/sides.h"
+
+#include <inttypes.h>
+#include <stdio.h>
+#include <stdlib.h>
+#include <string.h>
+#include <time.h>
+
+enum { SIZES = 4, SMALLEST = 64, MOST_SAMPLES = 2001, DEFAULT_SAMPLES = 201, TEXT_ROOM = 65536, WRITTEN_ROOM = 34000 };
+
+enum { LIBRARY, PLAIN_C, SIDES };
+
+static const struct side plain_side = {"the plain reader", plain_read, plain_slip, plain_cell, plain_type, plain_block,
+    plain_write};
+
+static const struct side *sides[SIDES] = {&library_side, &plain_side};
+
+/* ---- Time */
+
+static uint64_t now(void)
+{
+    struct timespec t;
+
+    clock_gettime(CLOCK_MONOTONIC, &t);
+    return (uint64_t)t.tv_sec * 1000000000u + (uint64_t)t.tv_nsec;
+}
+
+static int compare_times(const void *one, const void *other)
+{
+    uint64_t a = *(const uint64_t *)one;
+    uint64_t b = *(const uint64_t *)other;
+
+    return a < b ? -1 : a > b;
+}
+
+static double median(uint64_t *times, size_t count)
+{
+    qsort(times, count, sizeof times[0], compare_times);
+    return (double)times[count / 2];
+}
+
+/* ---- A delivery of n rows in each table */
+
+struct growing {
+    uint8_t bytes[TEXT_ROOM];
+    size_t length;
+};
+
+enum order { RISING, FALLING, SHUFFLED, ORDERS };
+
+static struct {
+    size_t rows;
+    row types[TABLE_ROWS], depots[TABLE_ROWS], stops[TABLE_ROWS], blocks[TABLE_ROWS];
+    struct growing texts[ORDERS][4];
+    struct growing replacing, renewing; /* slips */
+    row book[BOOK_ROWS];
+} work_load;
+
+static uint64_t dice;
+
+static uint64_t roll(void)
+{
+    return dice_roll(&dice);
+}
+
+static void put(struct growing *text, const char *words)
+{
+    size_t length = strlen(words);
+
+    if (text->length + length > TEXT_ROOM) {
+        puts("the benchmark's own texts are too long");
+        exit(2);
+    }
+    memcpy(text->bytes + text->length, words, length);
+    text->length += length;
+}
+
+static void put_number(struct growing *text, uint64_t number)
+{
+    char digits[21];
+    size_t at = sizeof digits - 1;
+
+    digits[at] = 0;
+    do {
+        digits[--at] = (char)('0' + number % 10);
+        number /= 10;
+    } while (number > 0);
+    put(text, digits + at);
+}
+
+/* Row i of 512: 64 rows to a version, since a block can name no more than 100 types of its own. Numbers rise with i, so that
+ * the rows are in key order as they are made. */
+static void make_rows(size_t n)
+{
+    size_t i;
+
+    work_load.rows = n;
+    for (i = 0; i < n; i++) {
+        uint64_t version = 1 + i / 64;
+        size_t first = i / 64 * 64;
+        uint64_t *block = work_load.blocks[i];
+
+        work_load.types[i][0] = work_load.depots[i][0] = work_load.stops[i][0] = block[0] = version;
+        work_load.types[i][1] = i % 64 + 10;
+        work_load.depots[i][1] = 10000 + i * 150;
+        work_load.stops[i][1] = 20000 + i * 150;
+        block[1] = 100000000 + i % 64 / 8;
+        block[2] = work_load.depots[first + i % 64 / 8 * 8][1];
+        block[3] = 10000000 + i * 1000;
+        block[4] = work_load.types[first + roll() % (i % 64 + 1)][1];
+        block[5] = work_load.stops[first + roll() % (i % 64 + 1)][1];
+        block[6] = 1 + roll() % 9;
+        block[7] = 10000 + roll() % 40000;
+        block[8] = work_load.stops[first + roll() % (i % 64 + 1)][1];
+        block[9] = 1 + roll() % 9;
+        block[10] = block[7] + roll() % 40000;
+    }
+}
+
+static void make_order(size_t *order, size_t n, enum order way)
+{
+    size_t i;
+
+    for (i = 0; i < n; i++)
+        order[i] = way == FALLING ? n - 1 - i : i;
+    if (way != SHUFFLED)
+        return;
+    for (i = n; i > 1; i--) {
+        size_t other = (size_t)(roll() % i);
+        size_t kept = order[i - 1];
+
+        order[i - 1] = order[other];
+        order[other] = kept;
+    }
+}
+
+static void print_type(struct growing *text, const row numbers)
+{
+    put_number(text, numbers[0]);
+    put(text, ";");
+    put_number(text, numbers[1]);
+    put(text, ";44;61;2;\"articulated; low floor\";ART;1250;2550;3020;2\n");
+}
+
+static void print_key(struct growing *text, const row numbers, const char *rest)
+{
+    put_number(text, numbers[0]);
+    put(text, ";");
+    put_number(text, numbers[1]);
+    put(text, rest);
+}
+
+static void print_numbers(struct growing *text, const row numbers, size_t count, const char *between)
+{
+    size_t c;
+
+    for (c = 0; c < count; c++) {
+        if (c > 0)
+            put(text, between);
+        put_number(text, numbers[c]);
+    }
+    put(text, "\n");
+}
+
+static void make_texts(enum order way)
+{
+    struct growing *texts = work_load.texts[way];
+    size_t order[TABLE_ROWS];
+    size_t n = work_load.rows;
+    size_t t, i;
+
+    for (t = 0; t < 4; t++)
+        texts[t].length = 0;
+    put(&texts[0], "VERSION;VEH_TYPE_NR;VEH_TYPE_SEATS;VEH_TYPE_STRAPS;PLACES_FOR_DISABLED_PERSONS;VEH_TYPE_TEXT;STR_VEH_TYPE;"
+                   "VEH_TYPE_DOOR_WIDTH;VEH_TYPE_WIDTH;VEH_TYPE_HEIGHT;VEH_TYPE_ACCESS_EQUIP\n");
+    put(&texts[1], "VERSION;DEPOT_NR\n");
+    put(&texts[2], "VERSION;STOP_NR;STOP_NAME\n");
+    put(&texts[3], "VERSION;DAY_TYPE_NR;DEPOT_NR;BLOCK_NR;VEH_TYP_NR;DEP_STOP_NR;DEP_STOPPING_POINT_NR;BEGIN_OF_BLOCK;"
+                   "ARR_STOP_NR;ARR_STOPPING_POINT_NR;END_OF_BLOCK\n");
+    make_order(order, n, way);
+    for (i = 0; i < n; i++) {
+        print_type(&texts[0], work_load.types[order[i]]);
+        print_key(&texts[1], work_load.depots[order[i]], "\n");
+        print_key(&texts[2], work_load.stops[order[i]], ";Market place, town hall\n");
+        print_numbers(&texts[3], work_load.blocks[order[i]], NUMBERS, ";");
+    }
+}
+
+/* One slip replaces every block, another deletes all and adds them again, both in no order. */
+static void make_slips(void)
+{
+    size_t order[TABLE_ROWS];
+    size_t n = work_load.rows;
+    size_t i;
+
+    work_load.replacing.length = 0;
+    work_load.renewing.length = 0;
+    make_order(order, n, SHUFFLED);
+    for (i = 0; i < n; i++) {
+        row numbers;
+
+        memcpy(numbers, work_load.blocks[order[i]], sizeof numbers);
+        numbers[10] += 1;
+        put(&work_load.replacing, "R\t");
+        print_numbers(&work_load.replacing, numbers, NUMBERS, "\t");
+        put(&work_load.renewing, "D\t");
+        print_numbers(&work_load.renewing, numbers, 4, "\t");
+    }
+    make_order(order, n, SHUFFLED);
+    for (i = 0; i < n; i++) {
+        put(&work_load.renewing, "A\t");
+        print_numbers(&work_load.renewing, work_load.blocks[order[i]], NUMBERS, "\t");
+    }
+}
+
+static void make_load(size_t n)
+{
+    uint64_t place[4];
+    struct text texts[4];
+    size_t t;
+    int way;
+
+    dice = n;
+    make_rows(n);
+    for (way = 0; way < ORDERS; way++)
+        make_texts((enum order)way);
+    make_slips();
+    for (t = 0; t < 4; t++) {
+        texts[t].bytes = work_load.texts[RISING][t].bytes;
+        texts[t].length = work_load.texts[RISING][t].length;
+    }
+    if (side_read(&plain_side, texts, work_load.book, BOOK_ROWS, place) != 0) {
+        puts("the benchmark's own delivery is refused");
+        exit(2);
+    }
+}
+
+/* ---- One turn of an operation */
+
+/* What a side holds and answers. */
+static struct {
+    row book[BOOK_ROWS];
+    row work[WORK_ROWS];
+    uint8_t out[WRITTEN_ROOM];
+    uint64_t returned, place[4], numbers[2];
+} held[SIDES];
+
+struct operation {
+    const char *words;
+    void (*turn)(int s, const struct operation *operation);
+    enum order order;
+    size_t calls; /* in one turn: the short ones are called some times, so that the clock's steps do not matter */
+    size_t (*bytes)(const struct operation *operation);
+};
+
+static void turn_read(int s, const struct operation *operation)
+{
+    const struct growing *t = work_load.texts[operation->order];
+
+    held[s].returned = sides[s]->read(t[0].bytes, t[0].length, t[1].bytes, t[1].length, t[2].bytes, t[2].length, t[3].bytes,
+        t[3].length, held[s].book, BOOK_ROWS, held[s].place);
+}
+
+static size_t bytes_read(const struct operation *operation)
+{
+    const struct growing *t = work_load.texts[operation->order];
+
+    return t[0].length + t[1].length + t[2].length + t[3].length;
+}
+
+static void slip(int s, const struct growing *text)
+{
+    held[s].returned = sides[s]->slip(text->bytes, text->length, held[s].book, BOOK_ROWS, held[s].work, WORK_ROWS,
+        held[s].place);
+}
+
+static void turn_replace(int s, const struct operation *operation)
+{
+    (void)operation;
+    slip(s, &work_load.replacing);
+}
+
+static size_t bytes_replaced(const struct operation *operation)
+{
+    (void)operation;
+    return work_load.replacing.length;
+}
+
+static void turn_renew(int s, const struct operation *operation)
+{
+    (void)operation;
+    slip(s, &work_load.renewing);
+}
+
+static size_t bytes_renewed(const struct operation *operation)
+{
+    (void)operation;
+    return work_load.renewing.length;
+}
+
+static void turn_type(int s, const struct operation *operation)
+{
+    size_t i;
+
+    for (i = 0; i < operation->calls; i++)
+        held[s].returned = sides[s]->type((const row *)held[s].book, BOOK_ROWS, 1, 10 + i, held[s].numbers, held[s].place);
+}
+
+/* A question looks at the whole book. */
+static size_t bytes_of_book(const struct operation *operation)
+{
+    (void)operation;
+    return sizeof work_load.book;
+}
+
+static void turn_write(int s, const struct operation *operation)
+{
+    size_t i;
+
+    for (i = 0; i < operation->calls; i++)
+        held[s].returned = sides[s]->write((const row *)held[s].book, BOOK_ROWS, held[s].out, WRITTEN_ROOM, held[s].numbers,
+            held[s].place);
+}
+
+static size_t bytes_written(const struct operation *operation)
+{
+    (void)operation;
+    return (size_t)held[PLAIN_C].numbers[0];
+}
+
+static const struct operation operations[] = {
+    {"read, in key order", turn_read, RISING, 1, bytes_read},
+    {"read, reversed", turn_read, FALLING, 1, bytes_read},
+    {"read, shuffled", turn_read, SHUFFLED, 1, bytes_read},
+    {"slip, replace all", turn_replace, RISING, 1, bytes_replaced},
+    {"slip, delete and add all", turn_renew, RISING, 1, bytes_renewed},
+    {"type question", turn_type, RISING, 8, bytes_of_book},
+    {"write", turn_write, RISING, 8, bytes_written},
+};
+
+enum { OPERATIONS = sizeof operations / sizeof operations[0] };
+
+/* Both sides start a turn from the same; this is not timed. */
+static void prepare(int s)
+{
+    memcpy(held[s].book, work_load.book, sizeof held[s].book);
+    memset(held[s].place, 0xAB, sizeof held[s].place);
+    memset(held[s].numbers, 0, sizeof held[s].numbers);
+}
+
+static void want_same(const struct operation *operation)
+{
+    if (memcmp(&held[LIBRARY], &held[PLAIN_C], sizeof held[0]) == 0 && held[LIBRARY].returned == 0)
+        return;
+    printf("FAILED: %s, %" PRIu64 " rows: the sides differ, or refuse (%" PRIu64 ", %" PRIu64 ")\n", operation->words,
+        (uint64_t)work_load.rows, held[LIBRARY].returned, held[PLAIN_C].returned);
+    exit(1);
+}
+
+/* ---- Measuring */
+
+struct result {
+    double time[SIDES]; /* nanoseconds a call */
+    size_t bytes;
+};
+
+static struct result results[OPERATIONS][SIZES];
+
+static void measure(const struct operation *operation, size_t samples, struct result *result)
+{
+    static uint64_t times[SIDES][MOST_SAMPLES];
+    size_t i;
+    int s, turn;
+
+    memset(held, 0, sizeof held);
+    for (i = 0; i < samples; i++) {
+        for (turn = 0; turn < SIDES; turn++) {
+            uint64_t began;
+
+            s = (turn + (int)(i & 1)) % SIDES; /* neither is always the first */
+            prepare(s);
+            began = now();
+            operation->turn(s, operation);
+            times[s][i] = now() - began;
+        }
+        want_same(operation);
+    }
+    for (s = 0; s < SIDES; s++)
+        result->time[s] = median(times[s], samples) / (double)operation->calls;
+    result->bytes = operation->bytes(operation);
+}
+
+static void print_result(const struct operation *operation, size_t size)
+{
+    const struct result *result = &results[operation - operations][size];
+    const struct result *half = result - 1;
+    int s;
+
+    printf("%-26s %4" PRIu64 " %7" PRIu64 " %9.1f %9.1f %6.2f", operation->words, (uint64_t)SMALLEST << size,
+        (uint64_t)result->bytes, result->time[LIBRARY] / 1000, result->time[PLAIN_C] / 1000,
+        result->time[LIBRARY] / result->time[PLAIN_C]);
+    for (s = 0; s < SIDES; s++)
+        printf(" %9.1f", (double)result->bytes * 1000 / result->time[s]);
+    for (s = 0; s < SIDES && size > 0; s++)
+        printf(" %6.2f", result->time[s] / half->time[s]);
+    putchar('\n');
+}
+
+/* The ratios of the full size, the worst of each kind of operation: what the targets are set for. */
+static void print_worst(const char *words, size_t first, size_t last)
+{
+    double worst = 0;
+    size_t o;
+
+    for (o = first; o <= last; o++) {
+        const struct result *result = &results[o][SIZES - 1];
+        double ratio = result->time[LIBRARY] / result->time[PLAIN_C];
+
+        if (ratio > worst)
+            worst = ratio;
+    }
+    printf("  %-8s %6.2f\n", words, worst);
+}
+
+int main(int words, char **word)
+{
+    size_t samples = DEFAULT_SAMPLES;
+    size_t size, o;
+
+    if (words == 3 && strcmp(word[1], "--samples") == 0)
+        samples = (size_t)strtoull(word[2], NULL, 10);
+    else if (words != 1)
+        samples = 0;
+    if (samples < 1 || samples > MOST_SAMPLES) {
+        printf("bench [--samples N]   N from 1 to %d\n", MOST_SAMPLES);
+        return 2;
+    }
+    for (size = 0; size < SIZES; size++) {
+        make_load((size_t)SMALLEST << size);
+        for (o = 0; o < OPERATIONS; o++)
+            measure(&operations[o], samples, &results[o][size]);
+    }
+    printf("library: %s; plain: a plain C reader; medians of %" PRIu64 " turns\n", library_side.name, (uint64_t)samples);
+    printf("%-26s %4s %7s %9s %9s %6s %9s %9s %13s\n", "", "rows", "bytes", "library", "plain", "ratio", "library", "plain",
+        "growth from");
+    printf("%-26s %4s %7s %9s %9s %6s %9s %9s %13s\n", "", "", "", "us", "us", "", "MB/s", "MB/s", "half the rows");
+    for (o = 0; o < OPERATIONS; o++)
+        for (size = 0; size < SIZES; size++)
+            print_result(&operations[o], size);
+    printf("worst ratio at %d rows:\n", SMALLEST << (SIZES - 1));
+    print_worst("reading", 0, 2);
+    print_worst("slip", 3, 4);
+    print_worst("question", 5, 5);
+    print_worst("writing", 6, 6);
+    return 0;
+}

@@ -1,0 +1,893 @@
+/* The plain reader. It takes each text in one pass, keeps keys packed in sorted arrays that are searched by halving, and
+ * moves two-byte positions where a row is put among others, not rows. Its columns are its own: the same facts as in
+ * second/columns.c, in the shape that this reader walks. */
+#include "plain.h"
+
+#include <string.h>
+
+enum { ROWS = 512, BOOK_ROWS = 2048, TEXT_BYTES = 65536, HEADER_CELLS = 32, SLIP = 5 };
+
+typedef uint64_t row[11];
+
+/* ---- Columns */
+
+/* A column: its name, how wide it is, and which numbers it takes; least > most marks a text. */
+struct col {
+    const char *name;
+    uint8_t name_length, width, required;
+    uint32_t least, most;
+};
+
+#define NAME(n) n, sizeof(n) - 1
+#define TEXT_OF(width, required) width, required, 1, 0
+#define NUMBER(width, required, least, most) width, required, least, most
+
+static const struct col types_cols[] = {
+    {NAME("VERSION"), NUMBER(2, 1, 1, 99)},
+    {NAME("VEH_TYPE_NR"), NUMBER(8, 1, 0, 99999999)},
+    {NAME("VEH_TYPE_SEATS"), NUMBER(3, 0, 0, 999)},
+    {NAME("VEH_TYPE_STRAPS"), NUMBER(3, 0, 0, 999)},
+    {NAME("PLACES_FOR_DISABLED_PERSONS"), NUMBER(3, 0, 0, 999)},
+    {NAME("VEH_TYPE_TEXT"), TEXT_OF(40, 0)},
+    {NAME("STR_VEH_TYPE"), TEXT_OF(4, 0)},
+    {NAME("VEH_TYPE_DOOR_WIDTH"), NUMBER(4, 0, 0, 9999)},
+    {NAME("VEH_TYPE_WIDTH"), NUMBER(4, 0, 0, 9999)},
+    {NAME("VEH_TYPE_HEIGHT"), NUMBER(4, 0, 0, 9999)},
+    {NAME("VEH_TYPE_ACCESS_EQUIP"), NUMBER(1, 0, 0, 2)},
+};
+
+static const struct col depots_cols[] = {
+    {NAME("VERSION"), NUMBER(2, 1, 1, 99)},
+    {NAME("DEPOT_NR"), NUMBER(5, 1, 0, 99999)},
+};
+
+static const struct col stops_cols[] = {
+    {NAME("VERSION"), NUMBER(2, 1, 1, 99)},
+    {NAME("STOP_NR"), NUMBER(5, 1, 1, 99999)},
+    {NAME("STOP_NAME"), TEXT_OF(50, 1)},
+};
+
+static const struct col blocks_cols[] = {
+    {NAME("VERSION"), NUMBER(2, 1, 1, 99)},
+    {NAME("DAY_TYPE_NR"), NUMBER(9, 1, 0, 999999999)},
+    {NAME("DEPOT_NR"), NUMBER(5, 1, 0, 99999)},
+    {NAME("BLOCK_NR"), NUMBER(8, 1, 0, 99999999)},
+    {NAME("VEH_TYP_NR"), NUMBER(2, 1, 0, 99)},
+    {NAME("DEP_STOP_NR"), NUMBER(6, 1, 0, 999999)},
+    {NAME("DEP_STOPPING_POINT_NR"), NUMBER(2, 1, 0, 99)},
+    {NAME("BEGIN_OF_BLOCK"), NUMBER(6, 1, 0, 999999)},
+    {NAME("ARR_STOP_NR"), NUMBER(6, 1, 0, 999999)},
+    {NAME("ARR_STOPPING_POINT_NR"), NUMBER(2, 1, 0, 99)},
+    {NAME("END_OF_BLOCK"), NUMBER(6, 1, 0, 999999)},
+};
+
+/* The fifth column of vehicle_type and of vehicle_block has a second spelling. */
+static const struct tab {
+    const struct col *cols;
+    unsigned count;
+    const char *other;
+    size_t other_length;
+} tabs[5] = {
+    {NULL, 0, NULL, 0},
+    {types_cols, 11, NAME("HANDICAP_PLACES")},
+    {depots_cols, 2, NULL, 0},
+    {stops_cols, 3, NULL, 0},
+    {blocks_cols, 11, NAME("VEH_TYPE_NR")},
+};
+
+static uint64_t refuse(uint64_t place[4], uint64_t number, uint64_t table, uint64_t line, uint64_t column)
+{
+    place[0] = number;
+    place[1] = table;
+    place[2] = line;
+    place[3] = column;
+    return number;
+}
+
+/* ---- Cells */
+
+/* What a byte is in a cell. */
+enum { ORDINARY, SEMICOLON, QUOTE, FAULT };
+
+static const uint8_t class_of[256] = {
+    FAULT, FAULT, FAULT, FAULT, FAULT, FAULT, FAULT, FAULT, FAULT, FAULT, FAULT, FAULT, FAULT, FAULT, FAULT, FAULT,
+    FAULT, FAULT, FAULT, FAULT, FAULT, FAULT, FAULT, FAULT, FAULT, FAULT, FAULT, FAULT, FAULT, FAULT, FAULT, FAULT,
+    [';'] = SEMICOLON, ['"'] = QUOTE, [127] = FAULT,
+};
+
+/* A reader's place in a text. */
+struct reader {
+    const uint8_t *at, *end;
+};
+
+struct cell {
+    const uint8_t *start;
+    size_t length; /* of the raw content */
+    size_t pairs;  /* doubled quotes in it */
+};
+
+/* What stands behind a cell. */
+enum { NEXT_CELL, LINE_END, BROKEN };
+
+/* At a line's end, with or without its carriage return, or at the text's: steps over it. Otherwise the cell is broken. */
+static int end_line(struct reader *r)
+{
+    if (r->at == r->end)
+        return LINE_END;
+    if (*r->at == '\n') {
+        r->at++;
+        return LINE_END;
+    }
+    if (*r->at == '\r' && r->at + 1 < r->end && r->at[1] == '\n') {
+        r->at += 2;
+        return LINE_END;
+    }
+    return BROKEN;
+}
+
+/* Takes one cell and what stands behind it. */
+static inline int take_cell(struct reader *r, struct cell *cell)
+{
+    const uint8_t *p = r->at;
+    const uint8_t *end = r->end;
+    int quoted = p < end && *p == '"';
+
+    cell->pairs = 0;
+    if (quoted) {
+        cell->start = ++p;
+        for (;;) {
+            while (p < end && (class_of[*p] & ~SEMICOLON) == ORDINARY)
+                p++;
+            if (p == end || class_of[*p] == FAULT)
+                return BROKEN;
+            if (p + 1 < end && p[1] == '"') {
+                cell->pairs++;
+                p += 2;
+                continue;
+            }
+            break;
+        }
+        cell->length = (size_t)(p - cell->start);
+        p++;
+    } else {
+        cell->start = p;
+        while (p < end && class_of[*p] == ORDINARY)
+            p++;
+        cell->length = (size_t)(p - cell->start);
+    }
+    r->at = p;
+    if (p < end && *p == ';') {
+        r->at++;
+        return NEXT_CELL;
+    }
+    return end_line(r);
+}
+
+/* Digits to a number in the column's range; the bytes are no more than nine. */
+static inline int take_number(const uint8_t *p, size_t length, const struct col *col, uint64_t *value)
+{
+    uint32_t sum = 0;
+    size_t i;
+
+    if (length - 1 >= col->width)
+        return 0;
+    for (i = 0; i < length; i++) {
+        uint32_t digit = (uint32_t)p[i] - '0';
+
+        if (digit > 9)
+            return 0;
+        sum = sum * 10 + digit;
+    }
+    *value = sum;
+    return sum >= col->least && sum <= col->most;
+}
+
+/* Whether the column takes the cell; the value of a text or an empty cell is 0. */
+static inline int judge(const struct cell *cell, const struct col *col, uint64_t *value)
+{
+    *value = 0;
+    if (cell->length == 0)
+        return !col->required;
+    if (col->least > col->most)
+        return cell->length - cell->pairs <= col->width;
+    return take_number(cell->start, cell->length, col, value);
+}
+
+/* ---- The header */
+
+struct header {
+    unsigned cells;
+    uint8_t col_of[HEADER_CELLS]; /* for each cell its column from 1, or 0 */
+    uint32_t present;             /* bit c - 1: column c is there */
+};
+
+static unsigned named(const struct tab *tab, const struct cell *cell)
+{
+    unsigned c;
+
+    for (c = 1; c <= tab->count; c++)
+        if (tab->cols[c - 1].name_length == cell->length && memcmp(tab->cols[c - 1].name, cell->start, cell->length) == 0)
+            return c;
+    if (tab->other_length == cell->length && tab->other && memcmp(tab->other, cell->start, cell->length) == 0)
+        return 5;
+    return 0;
+}
+
+static uint64_t take_header(unsigned t, struct reader *r, struct header *header, uint64_t place[4])
+{
+    const struct tab *tab = &tabs[t];
+    unsigned twice = 0;
+    unsigned count = 0;
+    unsigned c;
+    int behind;
+
+    header->present = 0;
+    do {
+        struct cell cell;
+
+        behind = take_cell(r, &cell);
+        count++;
+        if (behind == BROKEN)
+            return refuse(place, 6, t, 1, count);
+        if (count > HEADER_CELLS)
+            continue;
+        c = named(tab, &cell);
+        header->col_of[count - 1] = (uint8_t)c;
+        if (c && (header->present >> (c - 1) & 1) && !twice)
+            twice = c;
+        if (c)
+            header->present |= (uint32_t)1 << (c - 1);
+    } while (behind == NEXT_CELL);
+    header->cells = count;
+    if (count > HEADER_CELLS)
+        return refuse(place, 4, t, 1, 0);
+    if (twice)
+        return refuse(place, 3, t, 1, twice);
+    for (c = 1; c <= tab->count; c++)
+        if (tab->cols[c - 1].required && !(header->present >> (c - 1) & 1))
+            return refuse(place, 2, t, 1, c);
+    return 0;
+}
+
+/* ---- Rows */
+
+/* Takes a line: its numbers by column, or its 6, 7 or 8. A bad cell is only noted, as a later cell's 6 or the line's 7 come
+ * first, and the lowest column's 8. */
+static inline uint64_t take_row(unsigned t, struct reader *r, uint64_t line, const struct header *header, row numbers,
+    uint64_t place[4])
+{
+    const struct col *cols = tabs[t].cols;
+    uint32_t bad = 0;
+    unsigned count = 0;
+    int behind;
+
+    do {
+        struct cell cell;
+
+        behind = take_cell(r, &cell);
+        count++;
+        if (behind == BROKEN)
+            return refuse(place, 6, t, line, count);
+        if (count <= header->cells) {
+            unsigned c = header->col_of[count - 1];
+
+            if (c && !judge(&cell, &cols[c - 1], &numbers[c - 1]))
+                bad |= (uint32_t)1 << (c - 1);
+        }
+    } while (behind == NEXT_CELL);
+    if (count != header->cells)
+        return refuse(place, 7, t, line, 0);
+    if (bad) {
+        unsigned c = 1;
+
+        while (!(bad & 1)) {
+            bad >>= 1;
+            c++;
+        }
+        return refuse(place, 8, t, line, c);
+    }
+    return 0;
+}
+
+/* ---- Keys */
+
+/* The keys of a table of types, depots or stops, packed and rising. */
+struct keys {
+    uint64_t key[ROWS];
+    size_t count;
+};
+
+static inline uint64_t pack(uint64_t version, uint64_t number)
+{
+    return version << 32 | number;
+}
+
+/* The first place whose key is not below this one. */
+static inline size_t place_of(const struct keys *keys, uint64_t key)
+{
+    const uint64_t *base = keys->key;
+    size_t n = keys->count;
+
+    if (n == 0)
+        return 0;
+    while (n > 1) {
+        size_t half = n / 2;
+
+        base += base[half - 1] < key ? half : 0;
+        n -= half;
+    }
+    return (size_t)(base - keys->key) + (*base < key);
+}
+
+static inline int has(const struct keys *keys, uint64_t key)
+{
+    size_t at = place_of(keys, key);
+
+    return at < keys->count && keys->key[at] == key;
+}
+
+struct book_keys {
+    struct keys of[4]; /* by table number */
+};
+
+/* The column of a block whose reference finds no row, or 0. */
+static inline unsigned lost(const struct book_keys *keys, const uint64_t *block)
+{
+    uint64_t version = block[0];
+
+    if (!has(&keys->of[2], pack(version, block[2])))
+        return 3;
+    if (!has(&keys->of[1], pack(version, block[4])))
+        return 5;
+    if (!has(&keys->of[3], pack(version, block[5])))
+        return 6;
+    if (!has(&keys->of[3], pack(version, block[8])))
+        return 9;
+    return 0;
+}
+
+static inline int key_below(const uint64_t *one, const uint64_t *other)
+{
+    if (one[0] != other[0])
+        return one[0] < other[0];
+    if (one[1] != other[1])
+        return one[1] < other[1];
+    if (one[2] != other[2])
+        return one[2] < other[2];
+    return one[3] < other[3];
+}
+
+static inline int key_equal(const uint64_t *one, const uint64_t *other)
+{
+    return one[0] == other[0] && one[1] == other[1] && one[2] == other[2] && one[3] == other[3];
+}
+
+/* Blocks in slots that do not move, and their positions by rising key. */
+struct order {
+    uint16_t slot[ROWS];
+    size_t count;
+};
+
+static inline size_t place_of_block(const struct order *order, const row *rows, const uint64_t *key)
+{
+    size_t low = 0;
+    size_t high = order->count;
+
+    /* deliveries mostly come in key order */
+    if (high > 0 && key_below(rows[order->slot[high - 1]], key))
+        return high;
+    while (low < high) {
+        size_t middle = (low + high) / 2;
+
+        if (key_below(rows[order->slot[middle]], key))
+            low = middle + 1;
+        else
+            high = middle;
+    }
+    return low;
+}
+
+static inline int stands(const struct order *order, const row *rows, const uint64_t *key, size_t at)
+{
+    return at < order->count && key_equal(rows[order->slot[at]], key);
+}
+
+static void put_slot(struct order *order, size_t at, size_t slot)
+{
+    memmove(order->slot + at + 1, order->slot + at, (order->count - at) * sizeof order->slot[0]);
+    order->slot[at] = (uint16_t)slot;
+    order->count++;
+}
+
+/* Copies the blocks by rising key into a book's rows and clears the rest. */
+static void lay_out(const struct order *order, const row *rows, row *blocks)
+{
+    size_t i;
+
+    for (i = 0; i < order->count; i++)
+        memcpy(blocks[i], rows[order->slot[i]], sizeof(row));
+    memset(blocks[order->count], 0, (ROWS - order->count) * sizeof(row));
+}
+
+/* ---- Reading */
+
+static uint64_t read_keys(unsigned t, const uint8_t *text, size_t length, struct keys *keys, uint64_t place[4])
+{
+    struct reader r = {text, text + length};
+    struct header header;
+    uint64_t line, number;
+    row numbers;
+
+    keys->count = 0;
+    if (length > TEXT_BYTES)
+        return refuse(place, 1, t, 0, 0);
+    number = take_header(t, &r, &header, place);
+    if (number)
+        return number;
+    for (line = 2; r.at < r.end; line++) {
+        uint64_t key;
+        size_t at;
+
+        if (line > ROWS + 1)
+            return refuse(place, 5, t, line, 0);
+        number = take_row(t, &r, line, &header, numbers, place);
+        if (number)
+            return number;
+        key = pack(numbers[0], numbers[1]);
+        at = keys->count > 0 && keys->key[keys->count - 1] < key ? keys->count : place_of(keys, key);
+        if (at < keys->count && keys->key[at] == key)
+            return refuse(place, 9, t, line, 0);
+        memmove(keys->key + at + 1, keys->key + at, (keys->count - at) * sizeof keys->key[0]);
+        keys->key[at] = key;
+        keys->count++;
+    }
+    return 0;
+}
+
+static uint64_t read_blocks(const uint8_t *text, size_t length, const struct book_keys *keys, struct order *order,
+    row rows[ROWS], uint64_t place[4])
+{
+    struct reader r = {text, text + length};
+    struct header header;
+    uint64_t line, number;
+
+    order->count = 0;
+    if (length > TEXT_BYTES)
+        return refuse(place, 1, 4, 0, 0);
+    number = take_header(4, &r, &header, place);
+    if (number)
+        return number;
+    for (line = 2; r.at < r.end; line++) {
+        size_t slot = order->count;
+        uint64_t *numbers = rows[slot];
+        unsigned column;
+        size_t at;
+
+        if (line > ROWS + 1)
+            return refuse(place, 5, 4, line, 0);
+        number = take_row(4, &r, line, &header, numbers, place);
+        if (number)
+            return number;
+        if (numbers[10] < numbers[7])
+            return refuse(place, 11, 4, line, 11);
+        at = place_of_block(order, (const row *)rows, numbers);
+        if (stands(order, (const row *)rows, numbers, at))
+            return refuse(place, 9, 4, line, 0);
+        column = lost(keys, numbers);
+        if (column)
+            return refuse(place, 10, 4, line, column);
+        put_slot(order, at, slot);
+    }
+    return 0;
+}
+
+static void lay_out_keys(const struct keys *keys, row *rows)
+{
+    size_t i;
+
+    memset(rows, 0, ROWS * sizeof(row));
+    for (i = 0; i < keys->count; i++) {
+        rows[i][0] = keys->key[i] >> 32;
+        rows[i][1] = keys->key[i] & 0xFFFFFFFFu;
+    }
+}
+
+uint64_t plain_read(const uint8_t *vehicle_type, size_t vehicle_type_length, const uint8_t *depot, size_t depot_length,
+    const uint8_t *stop, size_t stop_length, const uint8_t *vehicle_block, size_t vehicle_block_length,
+    uint64_t (*book)[11], size_t rows, uint64_t place[4])
+{
+    struct book_keys keys;
+    struct order order;
+    row blocks[ROWS];
+    uint64_t number;
+
+    if (rows != BOOK_ROWS)
+        return refuse(place, 16, 0, 0, 0);
+    number = read_keys(1, vehicle_type, vehicle_type_length, &keys.of[1], place);
+    if (!number)
+        number = read_keys(2, depot, depot_length, &keys.of[2], place);
+    if (!number)
+        number = read_keys(3, stop, stop_length, &keys.of[3], place);
+    if (!number)
+        number = read_blocks(vehicle_block, vehicle_block_length, &keys, &order, blocks, place);
+    if (number) {
+        memset(book, 0, BOOK_ROWS * sizeof(row));
+        return number;
+    }
+    lay_out_keys(&keys.of[1], book);
+    lay_out_keys(&keys.of[2], book + ROWS);
+    lay_out_keys(&keys.of[3], book + 2 * ROWS);
+    lay_out(&order, (const row *)blocks, book + 3 * ROWS);
+    return refuse(place, 0, 0, 0, 0);
+}
+
+/* ---- The book rule */
+
+/* Whether all numbers of some rows are 0. */
+static int all_zero(const row *rows, size_t count)
+{
+    const uint64_t *p = rows[0];
+    size_t n = count * 11;
+    uint64_t sum = 0;
+    size_t i;
+
+    for (i = 0; i < n; i++)
+        sum |= p[i];
+    return sum == 0;
+}
+
+/* One of the first three tables; its keys, packed, are kept for the references. */
+static int check_keys(const row *rows, const struct col *col, struct keys *keys)
+{
+    size_t n;
+
+    for (n = 0; n < ROWS && rows[n][0] != 0; n++) {
+        uint64_t rest = rows[n][2] | rows[n][3] | rows[n][4] | rows[n][5] | rows[n][6] | rows[n][7] | rows[n][8] | rows[n][9]
+            | rows[n][10];
+        uint64_t key;
+
+        if (rows[n][0] > 99 || rows[n][1] < col->least || rows[n][1] > col->most || rest)
+            return 0;
+        key = pack(rows[n][0], rows[n][1]);
+        if (n > 0 && keys->key[n - 1] >= key)
+            return 0;
+        keys->key[n] = key;
+    }
+    keys->count = n;
+    return n == ROWS || all_zero(rows + n, ROWS - n);
+}
+
+static int check_blocks(const row *rows, const struct book_keys *keys, size_t *count)
+{
+    size_t n;
+    unsigned c;
+
+    for (n = 0; n < ROWS && rows[n][0] != 0; n++) {
+        int over = 0;
+
+        for (c = 0; c < 11; c++)
+            over |= rows[n][c] > blocks_cols[c].most;
+        if (over || rows[n][10] < rows[n][7] || (n > 0 && !key_below(rows[n - 1], rows[n])) || lost(keys, rows[n]))
+            return 0;
+    }
+    *count = n;
+    return n == ROWS || all_zero(rows + n, ROWS - n);
+}
+
+/* Whether the rows are a book; its keys and how many blocks it has. */
+static int check_book(const row *book, size_t rows, struct book_keys *keys, size_t *blocks)
+{
+    return rows == BOOK_ROWS && check_keys(book, &types_cols[1], &keys->of[1])
+        && check_keys(book + ROWS, &depots_cols[1], &keys->of[2]) && check_keys(book + 2 * ROWS, &stops_cols[1], &keys->of[3])
+        && check_blocks(book + 3 * ROWS, keys, blocks);
+}
+
+/* ---- Questions */
+
+uint64_t plain_cell(const uint8_t *text, size_t length, uint64_t table, uint64_t line, uint64_t column, uint64_t answer[4],
+    uint64_t place[4])
+{
+    struct reader r = {text, text + length};
+    struct header header;
+    struct cell asked = {text, 0, 0};
+    uint64_t number, value;
+    unsigned t = (unsigned)table;
+    unsigned count = 0;
+    int behind;
+
+    memset(answer, 0, 4 * sizeof answer[0]);
+    if (table < 1 || table > 4 || column < 1 || column > tabs[t].count)
+        return refuse(place, 15, 0, 0, 0);
+    if (length > TEXT_BYTES)
+        return refuse(place, 1, t, 0, 0);
+    number = take_header(t, &r, &header, place);
+    if (number)
+        return number;
+    /* lines above are passed over to their line feeds, whatever stands in them */
+    for (number = 2; number < line && r.at < r.end; number++)
+        while (r.at < r.end && *r.at++ != '\n')
+            ;
+    if (line < 2 || r.at == r.end)
+        return refuse(place, 15, 0, 0, 0);
+    do {
+        struct cell cell;
+
+        behind = take_cell(&r, &cell);
+        count++;
+        if (behind == BROKEN)
+            return refuse(place, 6, t, line, count);
+        if (count <= header.cells && header.col_of[count - 1] == column)
+            asked = cell;
+    } while (behind == NEXT_CELL);
+    if (count != header.cells)
+        return refuse(place, 7, t, line, 0);
+    if (!(header.present >> (column - 1) & 1))
+        return refuse(place, 0, 0, 0, 0);
+    if (!judge(&asked, &tabs[t].cols[column - 1], &value))
+        return refuse(place, 8, t, line, column);
+    if (asked.length > 0 && tabs[t].cols[column - 1].least > tabs[t].cols[column - 1].most) {
+        answer[0] = 2;
+        answer[2] = (uint64_t)(asked.start - text);
+        answer[3] = asked.length;
+    } else if (asked.length > 0) {
+        answer[0] = 1;
+        answer[1] = value;
+    }
+    return refuse(place, 0, 0, 0, 0);
+}
+
+uint64_t plain_type(const uint64_t (*book)[11], size_t rows, uint64_t version, uint64_t number, uint64_t answer[2],
+    uint64_t place[4])
+{
+    struct book_keys keys;
+    uint64_t seconds = 0;
+    uint64_t blocks = 0;
+    size_t count, i;
+
+    answer[0] = 0;
+    answer[1] = 0;
+    if (!check_book(book, rows, &keys, &count))
+        return refuse(place, 16, 0, 0, 0);
+    if (version > 99 || number > 99999999 || !has(&keys.of[1], pack(version, number)))
+        return refuse(place, 15, 0, 0, 0);
+    for (i = 3 * ROWS; i < 3 * ROWS + count; i++) {
+        uint64_t of_type = book[i][0] == version && book[i][4] == number;
+
+        seconds += of_type * (book[i][10] - book[i][7]);
+        blocks += of_type;
+    }
+    answer[0] = seconds;
+    answer[1] = blocks;
+    return refuse(place, 0, 0, 0, 0);
+}
+
+uint64_t plain_block(const uint64_t (*book)[11], size_t rows, uint64_t version, uint64_t day_type, uint64_t depot,
+    uint64_t block, uint64_t answer[7], uint64_t place[4])
+{
+    struct book_keys keys;
+    const uint64_t key[4] = {version, day_type, depot, block};
+    size_t low, high, count;
+
+    memset(answer, 0, 7 * sizeof answer[0]);
+    if (!check_book(book, rows, &keys, &count))
+        return refuse(place, 16, 0, 0, 0);
+    low = 3 * ROWS;
+    high = low + count;
+    while (low < high) {
+        size_t middle = (low + high) / 2;
+
+        if (key_below(book[middle], key))
+            low = middle + 1;
+        else
+            high = middle;
+    }
+    if (low == 3 * ROWS + count || !key_equal(book[low], key))
+        return refuse(place, 15, 0, 0, 0);
+    memcpy(answer, book[low] + 4, 7 * sizeof answer[0]);
+    return refuse(place, 0, 0, 0, 0);
+}
+
+/* ---- Slips */
+
+/* Blocks in slots of the working area, and the slots that are free below the first that was never used. */
+struct stock {
+    row *rows;
+    struct order order;
+    uint16_t free[ROWS];
+    size_t free_count, next;
+};
+
+/* Takes the tab and the number behind it. 8 is noted in *bad; a wrong field count shows at the end. */
+static inline int take_field(struct reader *r, const struct col *col, uint64_t *value, int *good)
+{
+    const uint8_t *start;
+
+    if (r->at == r->end || *r->at != '\t')
+        return 0;
+    start = ++r->at;
+    while (r->at < r->end && *r->at != '\t' && *r->at != '\n')
+        r->at++;
+    *good = take_number(start, (size_t)(r->at - start), col, value);
+    return 1;
+}
+
+/* Takes `count` fields and the line's end: 0 if the count is another one. *bad is the first column with an 8, or 0. */
+static inline int take_fields(struct reader *r, unsigned count, row numbers, unsigned *bad)
+{
+    unsigned c;
+
+    *bad = 0;
+    for (c = 0; c < count; c++) {
+        int good;
+
+        if (!take_field(r, &blocks_cols[c], &numbers[c], &good))
+            return 0;
+        if (!good && !*bad)
+            *bad = c + 1;
+    }
+    if (r->at == r->end)
+        return 1;
+    return *r->at++ == '\n';
+}
+
+static void add(struct stock *stock, size_t at, const row numbers)
+{
+    size_t slot = stock->free_count > 0 ? stock->free[--stock->free_count] : stock->next++;
+
+    memcpy(stock->rows[slot], numbers, sizeof(row));
+    put_slot(&stock->order, at, slot);
+}
+
+static void take_out(struct stock *stock, size_t at)
+{
+    struct order *order = &stock->order;
+
+    stock->free[stock->free_count++] = order->slot[at];
+    memmove(order->slot + at, order->slot + at + 1, (order->count - at - 1) * sizeof order->slot[0]);
+    order->count--;
+}
+
+static uint64_t slip_line(struct reader *r, uint64_t line, const struct book_keys *keys, struct stock *stock,
+    uint64_t place[4])
+{
+    row numbers;
+    uint8_t kind = *r->at++;
+    unsigned bad, column;
+    size_t at;
+    int known;
+
+    if ((kind != 'A' && kind != 'R' && kind != 'D') || !take_fields(r, kind == 'D' ? 4 : 11, numbers, &bad))
+        return refuse(place, 12, SLIP, line, 0);
+    if (kind == 'A' && stock->order.count == ROWS)
+        return refuse(place, 5, SLIP, line, 0);
+    if (bad)
+        return refuse(place, 8, SLIP, line, bad);
+    if (kind != 'D' && numbers[10] < numbers[7])
+        return refuse(place, 11, SLIP, line, 11);
+    at = place_of_block(&stock->order, (const row *)stock->rows, numbers);
+    known = stands(&stock->order, (const row *)stock->rows, numbers, at);
+    if (known == (kind == 'A'))
+        return refuse(place, known ? 9 : 13, SLIP, line, 0);
+    if (kind == 'D') {
+        take_out(stock, at);
+        return 0;
+    }
+    column = lost(keys, numbers);
+    if (column)
+        return refuse(place, 10, SLIP, line, column);
+    if (kind == 'A')
+        add(stock, at, numbers);
+    else
+        memcpy(stock->rows[stock->order.slot[at]], numbers, sizeof(row));
+    return 0;
+}
+
+static uint64_t slip_lines(const uint8_t *slip, size_t length, const struct book_keys *keys, struct stock *stock,
+    uint64_t place[4])
+{
+    struct reader r = {slip, slip + length};
+    uint64_t line;
+
+    if (length > TEXT_BYTES)
+        return refuse(place, 1, SLIP, 0, 0);
+    for (line = 1; r.at < r.end; line++) {
+        uint64_t number = slip_line(&r, line, keys, stock, place);
+
+        if (number)
+            return number;
+    }
+    return refuse(place, 0, 0, 0, 0);
+}
+
+uint64_t plain_slip(const uint8_t *slip, size_t slip_length, uint64_t (*book)[11], size_t book_rows, uint64_t (*work)[11],
+    size_t work_rows, uint64_t place[4])
+{
+    struct book_keys keys;
+    struct stock stock;
+    uint64_t number = 16;
+    size_t count, i;
+
+    if (work_rows != ROWS)
+        return refuse(place, 16, 0, 0, 0);
+    if (check_book((const row *)book, book_rows, &keys, &count)) {
+        memcpy(work, book + 3 * ROWS, count * sizeof(row));
+        for (i = 0; i < count; i++)
+            stock.order.slot[i] = (uint16_t)i;
+        stock.rows = work;
+        stock.order.count = stock.next = count;
+        stock.free_count = 0;
+        number = slip_lines(slip, slip_length, &keys, &stock, place);
+        if (number == 0)
+            lay_out(&stock.order, (const row *)work, book + 3 * ROWS);
+    } else {
+        refuse(place, 16, 0, 0, 0);
+    }
+    memset(work, 0, ROWS * sizeof(row));
+    return number;
+}
+
+/* ---- The writer */
+
+static const char written_header[] = "VERSION;DAY_TYPE_NR;DEPOT_NR;BLOCK_NR;VEH_TYP_NR;DEP_STOP_NR;DEP_STOPPING_POINT_NR;"
+                                     "BEGIN_OF_BLOCK;ARR_STOP_NR;ARR_STOPPING_POINT_NR;END_OF_BLOCK\n";
+
+static inline size_t digits_of(uint32_t number)
+{
+    size_t n = 1;
+
+    while (number >= 10) {
+        number /= 10;
+        n++;
+    }
+    return n;
+}
+
+static size_t written_length(const row *blocks, size_t count)
+{
+    size_t length = sizeof written_header - 1 + count * 11;
+    size_t i, c;
+
+    for (i = 0; i < count; i++)
+        for (c = 0; c < 11; c++)
+            length += digits_of((uint32_t)blocks[i][c]);
+    return length;
+}
+
+static inline uint8_t *write_number(uint8_t *out, uint32_t number)
+{
+    uint8_t digits[10];
+    size_t n = 0;
+
+    do {
+        digits[n++] = (uint8_t)('0' + number % 10);
+        number /= 10;
+    } while (number > 0);
+    while (n > 0)
+        *out++ = digits[--n];
+    return out;
+}
+
+uint64_t plain_write(const uint64_t (*book)[11], size_t rows, uint8_t *out, size_t out_length, uint64_t length[1],
+    uint64_t place[4])
+{
+    const row *blocks = book + 3 * ROWS;
+    struct book_keys keys;
+    uint8_t *at = out;
+    size_t count, i, c;
+
+    length[0] = 0;
+    if (!check_book(book, rows, &keys, &count))
+        return refuse(place, 16, 0, 0, 0);
+    /* no book needs as many as 34,000 bytes: then there is nothing to count in advance */
+    if (out_length < 34000 && out_length < written_length(blocks, count))
+        return refuse(place, 14, 0, 0, 0);
+    memcpy(at, written_header, sizeof written_header - 1);
+    at += sizeof written_header - 1;
+    for (i = 0; i < count; i++)
+        for (c = 0; c < 11; c++) {
+            at = write_number(at, (uint32_t)blocks[i][c]);
+            *at++ = c < 10 ? ';' : '\n';
+        }
+    length[0] = (uint64_t)(at - out);
+    return refuse(place, 0, 0, 0, 0);
+}

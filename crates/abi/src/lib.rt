@@ -1,0 +1,139 @@
+// The library for C, as include/workshop.h says it: each function tells its verdict by the returned number and the place.
+ghost use mathlib.Core.Path.{_≡_};
+ghost use mathlib.Core.List.{[], _∷_};
+ghost use Rattle.refusals.specs.Verdicts.{paper, values};
+ghost use Rattle.book.specs.Calls.{typeCall, blockCall};
+ghost use Rattle.reading.specs.Calls.{readCall, delivery};
+ghost use Rattle.reading.specs.CellQuestion.{cellAsked};
+ghost use Rattle.slips.specs.Calls.{slipCall};
+ghost use Rattle.writer.specs.Calls.{writeCall};
+ghost use Rattle.abi.specs.Telling.{Tells};
+use refusals::Cell;
+use refusals::Verdict;
+use rows::Row;
+
+fn on_paper(verdict: Verdict) -> [u64; 4]
+    ensures { λ r. ⌜ r ≡ paper verdict ⌝ }
+{
+    match verdict {
+        Verdict::Accepted => [0, 0, 0, 0],
+        Verdict::Refused(p) => [p.number, p.table, p.line, p.column],
+    }
+}
+
+fn cell_on_paper(cell: Cell) -> [u64; 4]
+    ensures { λ r. ⌜ r ≡ values cell ⌝ }
+{
+    match cell {
+        Cell::Number(n) => [1, n, 0, 0],
+        Cell::Text { start, len } => [2, 0, start, len],
+        Cell::Empty => [0, 0, 0, 0],
+    }
+}
+
+#[no_mangle]
+pub extern "C" fn workshop_read(
+    vehicle_type: &[u8],
+    depot: &[u8],
+    stop: &[u8],
+    vehicle_block: &[u8],
+    book: &mut [Row],
+    place: &mut [u64; 4],
+) -> u64
+    ensures { λ r. ⌜ Tells r (now (place .exit)) (readCall (delivery (now («vehicle_type» .entry)) (now (depot .entry)) (now (stop .entry)) (now («vehicle_block» .entry))) (now (book .entry)) .verdict) × (now (book .exit) ≡ readCall (delivery (now («vehicle_type» .entry)) (now (depot .entry)) (now (stop .entry)) (now («vehicle_block» .entry))) (now (book .entry)) .book) ⌝ }
+{
+    let told = on_paper(reading::read(vehicle_type, depot, stop, vehicle_block, book));
+    *place = told;
+    told[0]
+}
+
+#[no_mangle]
+pub extern "C" fn workshop_slip(
+    slip: &[u8],
+    book: &mut [Row],
+    work: &mut [Row],
+    place: &mut [u64; 4],
+) -> u64
+    ensures { λ r. ⌜ Tells r (now (place .exit)) (slipCall (now (slip .entry)) (now (book .entry)) (now (work .entry)) .verdict) × (now (book .exit) ≡ slipCall (now (slip .entry)) (now (book .entry)) (now (work .entry)) .book) × (now (work .exit) ≡ slipCall (now (slip .entry)) (now (book .entry)) (now (work .entry)) .work) ⌝ }
+{
+    let told = on_paper(slips::slip(slip, book, work));
+    *place = told;
+    told[0]
+}
+
+#[no_mangle]
+pub extern "C" fn workshop_cell(
+    text: &[u8],
+    table: u64,
+    line: u64,
+    column: u64,
+    answer: &mut [u64; 4],
+    place: &mut [u64; 4],
+) -> u64
+    ensures { λ r. ⌜ Tells r (now (place .exit)) (cellAsked (now (text .entry)) table line column .verdict) × (now (answer .exit) ≡ values (cellAsked (now (text .entry)) table line column .cell)) ⌝ }
+{
+    let asked = reading::cell(text, table, line, column);
+    let verdict = asked.verdict;
+    let told = on_paper(verdict);
+    let cell = asked.cell;
+    let shown = cell_on_paper(cell);
+    *answer = shown;
+    *place = told;
+    told[0]
+}
+
+#[no_mangle]
+pub extern "C" fn workshop_type(
+    book: &[Row],
+    version: u64,
+    number: u64,
+    answer: &mut [u64; 2],
+    place: &mut [u64; 4],
+) -> u64
+    ensures { λ r. ⌜ Tells r (now (place .exit)) (typeCall (now (book .entry)) version number .verdict) × (now (answer .exit) ≡ typeCall (now (book .entry)) version number .seconds ∷ typeCall (now (book .entry)) version number .count ∷ []) ⌝ }
+{
+    let found = book::type_answer(book, version, number);
+    let verdict = found.verdict;
+    let told = on_paper(verdict);
+    *answer = [found.seconds, found.count];
+    *place = told;
+    told[0]
+}
+
+#[no_mangle]
+pub extern "C" fn workshop_block(
+    book: &[Row],
+    version: u64,
+    day_type: u64,
+    depot: u64,
+    block: u64,
+    answer: &mut [u64; 7],
+    place: &mut [u64; 4],
+) -> u64
+    ensures { λ r. ⌜ Tells r (now (place .exit)) (blockCall (now (book .entry)) version «day_type» depot block .verdict) × (now (answer .exit) ≡ blockCall (now (book .entry)) version «day_type» depot block .numbers) ⌝ }
+{
+    let found = book::block_answer(book, version, day_type, depot, block);
+    let verdict = found.verdict;
+    let told = on_paper(verdict);
+    let numbers = found.numbers;
+    *answer = numbers;
+    *place = told;
+    told[0]
+}
+
+#[no_mangle]
+pub extern "C" fn workshop_write(
+    book: &[Row],
+    out: &mut [u8],
+    length: &mut [u64; 1],
+    place: &mut [u64; 4],
+) -> u64
+    ensures { λ r. ⌜ Tells r (now (place .exit)) (writeCall (now (book .entry)) (now (out .entry)) .verdict) × (now (length .exit) ≡ writeCall (now (book .entry)) (now (out .entry)) .size ∷ []) × (now (out .exit) ≡ writeCall (now (book .entry)) (now (out .entry)) .out) ⌝ }
+{
+    let written = writer::write(book, out);
+    let verdict = written.verdict;
+    let told = on_paper(verdict);
+    *length = [written.size as u64];
+    *place = told;
+    told[0]
+}

@@ -1,0 +1,114 @@
+/* workshop.h: the workshop's functions for C.
+ *
+ * A table text is the bytes of one DINO 2.1 table: 1 vehicle_type, 2 depot, 3 stop, 4 vehicle_block. A slip is the bytes
+ * of one correction slip. Both are handed in as a pointer and the number of bytes; neither needs a byte 0 behind it.
+ *
+ * THE BOOK is an array of WORKSHOP_BOOK_ROWS rows of WORKSHOP_NUMBERS numbers that the caller owns:
+ *
+ *     uint64_t book[WORKSHOP_BOOK_ROWS][WORKSHOP_NUMBERS];
+ *
+ * Rows 512 * t to 512 * t + 511 belong to one table: t is 0 for vehicle types, 1 for depots, 2 for stops, 3 for blocks.
+ * The used rows stand first, by rising key; the others are all zero, and as no VERSION is 0, the first row of a table
+ * that begins with 0 ends it. A vehicle type, depot or stop keeps its key (VERSION, number) and nine zeros. A block keeps
+ * its 11 numbers in the order of the vehicle_block columns: VERSION, DAY_TYPE_NR, DEPOT_NR, BLOCK_NR (the key),
+ * VEH_TYP_NR, DEP_STOP_NR, DEP_STOPPING_POINT_NR, BEGIN_OF_BLOCK, ARR_STOP_NR, ARR_STOPPING_POINT_NR, END_OF_BLOCK.
+ * A book that workshop_read filled may be kept, copied and handed in again later. One that no accepted delivery can leave
+ * (a wrong order, a number out of range, a missing reference, an END below its BEGIN, something in the unused room) is
+ * refused with 16 by every function that looks at a book.
+ *
+ * LENGTHS of books and working areas are counted in rows. A book must be lent with exactly WORKSHOP_BOOK_ROWS rows and a
+ * working area with exactly WORKSHOP_WORK_ROWS; any other true length is safe to hand in, and is 16.
+ *
+ * EVERY FUNCTION returns the number of refusal, 0 for accepted, and fills place:
+ *
+ *     place[0] the number of refusal, the same as returned
+ *     place[1] the table: 1 to 4, or 5 for a slip; 0 for the numbers 0, 14, 15 and 16
+ *     place[2] the line, counted from 1 (line 1 of a table is its header), or 0
+ *     place[3] the column by its number, for 6 the cell counted from 1 on its line, or 0
+ *
+ *     0 accepted                                        9 key stands in an earlier row (slip: in the book)
+ *     1 text over 65,536 bytes                         10 reference finds no row
+ *     2 required column missing                        11 END_OF_BLOCK below BEGIN_OF_BLOCK
+ *     3 known column twice                             12 slip line of unknown kind or field count
+ *     4 more than 32 header cells                      13 slip names a block that is not in the book
+ *     5 more than 512 rows                             14 output shorter than the text to write
+ *     6 quote or byte fault                            15 asked table, column, line, type or block does not exist
+ *     7 cell count differs from the header             16 book breaks the book rule, or a lent length is wrong
+ *     8 cell empty where required, not digits,
+ *       too long or out of range
+ *
+ * Only the first fault is told. Numbers may be added later; a caller treats one that it does not know as a refusal.
+ *
+ * POINTERS: each points to at least as many elements as the length beside it says, is not null (not even for length 0),
+ * and is aligned for its type. No array that is written to may overlap another argument. Nothing is kept after a call, and no
+ * function has state of its own, so calls on different arrays may run at the same time.
+ *
+ * In C before C23 an array of rows that is not const needs a cast where rows of const are asked for:
+ *
+ *     workshop_type((const uint64_t (*)[WORKSHOP_NUMBERS])book, WORKSHOP_BOOK_ROWS, 1, 4, answer, place);
+ */
+#ifndef WORKSHOP_H
+#define WORKSHOP_H
+
+#include <stddef.h>
+#include <stdint.h>
+
+#define WORKSHOP_NUMBERS 11   /* numbers in a row */
+#define WORKSHOP_BOOK_ROWS 2048 /* rows in a book */
+#define WORKSHOP_WORK_ROWS 512  /* rows in a working area */
+
+#ifdef __cplusplus
+extern "C" {
+#endif
+
+/* Reads a delivery, the four table texts, into the book. What the book held before does not matter.
+ *
+ * Accepted: the book holds the delivery. Refused: the book is the empty one, all zero; only where `rows` is not
+ * WORKSHOP_BOOK_ROWS (16) it stays as it was. Can refuse with 16, then 1 to 11. */
+uint64_t workshop_read(const uint8_t *vehicle_type, size_t vehicle_type_length, const uint8_t *depot, size_t depot_length,
+    const uint8_t *stop, size_t stop_length, const uint8_t *vehicle_block, size_t vehicle_block_length,
+    uint64_t (*book)[11], size_t rows, uint64_t place[4]);
+
+/* Carries out a correction slip on the book: lines A (add), R (replace) and D (delete), whole or not at all.
+ *
+ * `work` is room that the function works in: WORKSHOP_WORK_ROWS rows of any content, all zero afterwards, whatever the
+ * answer. Accepted: the book is the corrected one. Refused: the book stays as it was. Where a length is wrong (16), what
+ * was lent at that length stays as it was. Can refuse with 16, then 1, then 5, 8 to 13 at a line of the slip (table 5). */
+uint64_t workshop_slip(const uint8_t *slip, size_t slip_length, uint64_t (*book)[11], size_t book_rows,
+    uint64_t (*work)[11], size_t work_rows, uint64_t place[4]);
+
+/* Looks up one cell of one table text: `table` 1 to 4, `line` from 2 on, `column` by its number (not by its place on the
+ * line). Only the header and that line are judged, so a text that workshop_read refuses may still have answers.
+ *
+ *     answer[0] 0 nothing (the cell is empty, or its optional column is missing), 1 a number, 2 a text
+ *     answer[1] the number's value, otherwise 0
+ *     answer[2] where a text starts: text + answer[2]; otherwise 0
+ *     answer[3] a text's length in bytes, otherwise 0
+ *
+ * A text is the bytes of `text` itself between the quotes, or the whole cell where it has none; doubled quotes inside are
+ * still doubled. Refused: four zeros. Can refuse with 15, 1, 6, 4, 3, 2, 15, 6, 7, 8, in this order. */
+uint64_t workshop_cell(const uint8_t *text, size_t length, uint64_t table, uint64_t line, uint64_t column,
+    uint64_t answer[4], uint64_t place[4]);
+
+/* Sums up the blocks of one vehicle type: answer[0] their seconds (END_OF_BLOCK minus BEGIN_OF_BLOCK) and answer[1] their
+ * count. Refused: two zeros; 16 for the book, 15 if no such type is in it. A type without blocks is accepted: 0 and 0. */
+uint64_t workshop_type(const uint64_t (*book)[11], size_t rows, uint64_t version, uint64_t number, uint64_t answer[2],
+    uint64_t place[4]);
+
+/* Looks up one block by its key. The answer is its other seven numbers, VEH_TYP_NR to END_OF_BLOCK. Refused: seven
+ * zeros; 16 for the book, 15 if no such block is in it. */
+uint64_t workshop_block(const uint64_t (*book)[11], size_t rows, uint64_t version, uint64_t day_type, uint64_t depot,
+    uint64_t block, uint64_t answer[7], uint64_t place[4]);
+
+/* Writes the book's blocks as a vehicle_block table: the header and a line for each block by rising key, no quotes, no
+ * leading zeros, each line ended by a line feed. length[0] is the number of bytes written; the bytes of `out` behind them
+ * stay. No book needs more than 34,000 bytes. Refused: `out` stays as it was and length[0] is 0; 16 for the book, 14 if
+ * `out_length` is too small. */
+uint64_t workshop_write(const uint64_t (*book)[11], size_t rows, uint8_t *out, size_t out_length, uint64_t length[1],
+    uint64_t place[4]);
+
+#ifdef __cplusplus
+}
+#endif
+
+#endif

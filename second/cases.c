@@ -1,0 +1,1905 @@
+#include "cases.h"
+
+#include "columns.h"
+#include "dice.h"
+
+#include <stdlib.h>
+#include <string.h>
+
+/* The places of a block's numbers in its row. */
+enum { B_VERSION, B_DAY_TYPE, B_DEPOT, B_BLOCK, B_TYPE, B_DEP_STOP, B_DEP_POINT, B_BEGIN, B_ARR_STOP, B_ARR_POINT, B_END };
+
+enum {
+    MOST_ROWS = 720,  /* of a table text: past 512, so that 5 can come and a line behind it can be asked for */
+    MOST_CELLS = 48,  /* of a line: past 32 */
+    MOST_BYTES = 140000,
+    TEXT_LIMIT = 65536
+};
+
+/* ---- Dice */
+
+/* C does not say in which order the arguments of a call, or the two sides of an assignment, are worked out. So that a case is
+ * the same whoever compiles it, no expression rolls in two such places. */
+
+static uint64_t dice;
+
+static uint64_t roll(void)
+{
+    return dice_roll(&dice);
+}
+
+/* 0 to n - 1. */
+static size_t below(size_t n)
+{
+    return (size_t)(roll() % n);
+}
+
+static size_t between(size_t least, size_t most)
+{
+    return least + below(most - least + 1);
+}
+
+static int chance(unsigned percent)
+{
+    return below(100) < percent;
+}
+
+/* ---- Texts that grow */
+
+struct growing {
+    uint8_t *bytes;
+    size_t length, room;
+};
+
+/* A byte that finds no room is left out: a text at its room's end is long enough to be refused anyway. */
+static void put_byte(struct growing *text, uint8_t byte)
+{
+    if (text->length < text->room)
+        text->bytes[text->length++] = byte;
+}
+
+static void put_bytes(struct growing *text, const uint8_t *bytes, size_t length)
+{
+    size_t i;
+
+    for (i = 0; i < length; i++)
+        put_byte(text, bytes[i]);
+}
+
+static void put(struct growing *text, const char *words)
+{
+    put_bytes(text, (const uint8_t *)words, strlen(words));
+}
+
+static size_t digits_of(uint64_t number)
+{
+    size_t n = 1;
+
+    while (number >= 10) {
+        number /= 10;
+        n++;
+    }
+    return n;
+}
+
+/* A number with leading zeros up to a width. */
+static void put_number(struct growing *text, uint64_t number, size_t width)
+{
+    uint8_t digits[20];
+    size_t n = digits_of(number);
+    size_t i;
+
+    for (i = n; i < width; i++)
+        put_byte(text, '0');
+    for (i = n; i > 0; i--) {
+        digits[i - 1] = (uint8_t)('0' + number % 10);
+        number /= 10;
+    }
+    put_bytes(text, digits, n);
+}
+
+/* Makes a text exactly that long. */
+static void set_length(struct growing *text, size_t length)
+{
+    if (text->length > length)
+        text->length = length;
+    while (text->length < length)
+        put_byte(text, 'x');
+}
+
+static struct text text_of(const struct growing *text)
+{
+    struct text t;
+
+    t.bytes = text->bytes;
+    t.length = text->length;
+    return t;
+}
+
+/* ---- Damage by the byte */
+
+static uint8_t any_byte(void)
+{
+    static const uint8_t telling[] = {'"', '"', ';', ';', '\n', '\n', '\r', '\t', 0, 31, 32, 127, 128, 255, '0', '9', 'A', '-'};
+
+    return chance(80) ? telling[below(sizeof telling)] : (uint8_t)below(256);
+}
+
+static void change_byte(struct growing *text)
+{
+    uint8_t byte = any_byte();
+
+    if (text->length > 0)
+        text->bytes[below(text->length)] = byte;
+}
+
+static void insert_byte(struct growing *text)
+{
+    size_t at = below(text->length + 1);
+
+    if (text->length == text->room)
+        return;
+    memmove(text->bytes + at + 1, text->bytes + at, text->length - at);
+    text->bytes[at] = any_byte();
+    text->length++;
+}
+
+static void take_stretch(struct growing *text, size_t most)
+{
+    size_t at, length;
+
+    if (text->length == 0)
+        return;
+    at = below(text->length);
+    length = between(1, most);
+    if (length > text->length - at)
+        length = text->length - at;
+    memmove(text->bytes + at, text->bytes + at + length, text->length - at - length);
+    text->length -= length;
+}
+
+static void double_stretch(struct growing *text)
+{
+    size_t at, length;
+
+    if (text->length == 0)
+        return;
+    at = below(text->length);
+    length = between(1, text->length - at < 60 ? text->length - at : 60);
+    if (text->length + length > text->room)
+        return;
+    memmove(text->bytes + at + length, text->bytes + at, text->length - at);
+    text->length += length;
+}
+
+static void cut_short(struct growing *text)
+{
+    text->length = below(text->length + 1);
+}
+
+static void damage_bytes(struct growing *text)
+{
+    size_t times = between(1, 3);
+
+    for (; times > 0; times--)
+        switch (below(6)) {
+        case 0: insert_byte(text); break;
+        case 1: take_stretch(text, 1); break;
+        case 2: take_stretch(text, 40); break;
+        case 3: double_stretch(text); break;
+        case 4: if (chance(40)) cut_short(text); else change_byte(text); break;
+        default: change_byte(text); break;
+        }
+}
+
+/* ---- A delivery in numbers */
+
+static struct {
+    size_t count[TABLES + 1];
+    row rows[TABLES + 1][MOST_ROWS];
+} delivery;
+
+static int same_key(const uint64_t *one, const uint64_t *other, unsigned width)
+{
+    return memcmp(one, other, width * sizeof one[0]) == 0;
+}
+
+/* Where a key stands among n rows, or n. */
+static size_t find_key(const row *rows, size_t n, const uint64_t *key, unsigned width)
+{
+    size_t i;
+
+    for (i = 0; i < n; i++)
+        if (same_key(rows[i], key, width))
+            return i;
+    return n;
+}
+
+/* Most rows of a case share one version: blocks find what they refer to only within a version. */
+static uint64_t main_version;
+
+static uint64_t any_version(void)
+{
+    static const uint64_t common[] = {1, 2, 9, 10, 99};
+
+    return chance(75) ? main_version : chance(90) ? common[below(5)] : between(1, 99);
+}
+
+/* A number from zero up to the column's greatest: often small, at times the greatest. */
+static uint64_t any_number(const struct column *column, uint64_t small)
+{
+    uint64_t number;
+
+    if (small > column->most)
+        small = column->most;
+    number = chance(75) ? roll() % (small + 1) : chance(20) ? column->most : roll() % (column->most + 1);
+    return number < column->least ? column->least : number;
+}
+
+/* Rows of tables 1 to 3: two numbers each, no key twice. `small` is how far numbers mostly go. */
+static void make_keys(unsigned t, size_t n)
+{
+    size_t tries;
+
+    delivery.count[t] = 0;
+    for (tries = 0; delivery.count[t] < n && tries < 20 * n; tries++) {
+        uint64_t *fresh = delivery.rows[t][delivery.count[t]];
+
+        memset(fresh, 0, sizeof(row));
+        fresh[0] = any_version();
+        fresh[1] = any_number(&tables[t].columns[1], n < 60 ? 30 : 99);
+        if (find_key((const row *)delivery.rows[t], delivery.count[t], fresh, 2) == delivery.count[t])
+            delivery.count[t]++;
+    }
+}
+
+/* A row of a table whose VERSION is this one and whose number is not above `most`, or NULL. */
+static const uint64_t *any_row_of(const row *rows, size_t n, uint64_t version, uint64_t most)
+{
+    size_t start, i;
+
+    if (n == 0)
+        return NULL;
+    start = below(n);
+    for (i = 0; i < n; i++) {
+        const uint64_t *found = rows[(start + i) % n];
+
+        if (found[0] == version && found[1] <= most)
+            return found;
+    }
+    return NULL;
+}
+
+/* Three tables that a block can refer to. */
+struct others {
+    const row *rows[4];
+    size_t count[4];
+};
+
+static void any_times(uint64_t *block)
+{
+    block[B_BEGIN] = chance(90) ? roll() % 90000 : roll() % 1000000;
+    block[B_END] = block[B_BEGIN] + (chance(15) ? 0 : roll() % 40000);
+    if (chance(3))
+        block[B_END] = 999999;
+    if (block[B_END] > 999999)
+        block[B_END] = block[B_BEGIN];
+}
+
+/* A block whose references are there. It fails where no version has all three. */
+static int any_block(const struct others *others, uint64_t *block)
+{
+    const struct column *columns = tables[VEHICLE_BLOCK].columns;
+    const uint64_t *depot, *type, *dep_stop, *arr_stop;
+
+    if (others->count[DEPOT] == 0)
+        return 0;
+    depot = others->rows[DEPOT][below(others->count[DEPOT])];
+    type = any_row_of(others->rows[VEHICLE_TYPE], others->count[VEHICLE_TYPE], depot[0], 99);
+    dep_stop = any_row_of(others->rows[STOP], others->count[STOP], depot[0], 99999);
+    arr_stop = any_row_of(others->rows[STOP], others->count[STOP], depot[0], 99999);
+    if (!type || !dep_stop || !arr_stop)
+        return 0;
+    block[B_VERSION] = depot[0];
+    block[B_DAY_TYPE] = any_number(&columns[B_DAY_TYPE], 6);
+    block[B_DEPOT] = depot[1];
+    block[B_BLOCK] = any_number(&columns[B_BLOCK], 200);
+    block[B_TYPE] = type[1];
+    block[B_DEP_STOP] = dep_stop[1];
+    block[B_DEP_POINT] = roll() % 100;
+    block[B_ARR_STOP] = arr_stop[1];
+    block[B_ARR_POINT] = roll() % 100;
+    any_times(block);
+    return 1;
+}
+
+static struct others others_of_delivery(void)
+{
+    struct others others;
+    unsigned t;
+
+    for (t = 0; t < TABLES; t++) {
+        others.rows[t] = (const row *)delivery.rows[t];
+        others.count[t] = delivery.count[t];
+    }
+    return others;
+}
+
+static void make_blocks(size_t n)
+{
+    struct others others = others_of_delivery();
+    row *blocks = delivery.rows[VEHICLE_BLOCK];
+    size_t count = 0;
+    size_t tries;
+
+    for (tries = 0; count < n && tries < 20 * n; tries++)
+        if (any_block(&others, blocks[count]) && find_key((const row *)blocks, count, blocks[count], 4) == count)
+            count++;
+    delivery.count[VEHICLE_BLOCK] = count;
+}
+
+static size_t any_size(void)
+{
+    size_t dial = below(100);
+
+    return dial < 4 ? 0 : dial < 25 ? between(1, 3) : dial < 90 ? between(4, 14) : between(15, 60);
+}
+
+static void make_delivery(size_t types, size_t depots, size_t stops, size_t blocks)
+{
+    make_keys(VEHICLE_TYPE, types);
+    make_keys(DEPOT, depots);
+    make_keys(STOP, stops);
+    make_blocks(blocks);
+}
+
+static void make_any_delivery(void)
+{
+    size_t types = any_size();
+    size_t depots = any_size();
+    size_t stops = any_size();
+
+    make_delivery(types, depots, stops, any_size());
+}
+
+static void make_full_delivery(void)
+{
+    make_delivery(512, 512, 512, 512);
+}
+
+/* ---- Rows in key order */
+
+static int compare_rows(const void *one, const void *other)
+{
+    const uint64_t *a = one;
+    const uint64_t *b = other;
+    size_t i;
+
+    for (i = 0; i < NUMBERS; i++)
+        if (a[i] != b[i])
+            return a[i] < b[i] ? -1 : 1;
+    return 0;
+}
+
+static void sort_rows(row *rows, size_t n)
+{
+    qsort(rows, n, sizeof rows[0], compare_rows);
+}
+
+static void swap_rows(row *rows, size_t a, size_t b)
+{
+    row kept;
+
+    memcpy(kept, rows[a], sizeof kept);
+    memcpy(rows[a], rows[b], sizeof kept);
+    memcpy(rows[b], kept, sizeof kept);
+}
+
+/* The delivery's rows come in any order: mostly as they were made, at times rising or falling. */
+static void order_rows(unsigned t)
+{
+    size_t n = delivery.count[t];
+    size_t i;
+    size_t way = below(4);
+
+    if (way > 1)
+        return;
+    sort_rows(delivery.rows[t], n);
+    if (way == 1)
+        for (i = 0; i < n / 2; i++)
+            swap_rows(delivery.rows[t], i, n - 1 - i);
+}
+
+/* ---- A table as cells */
+
+/* One cell as it stands in the text, quotes and all. */
+struct raw {
+    uint32_t start, length;
+};
+
+static uint8_t pool_bytes[400000];
+
+/* Line 0 is the header. A cell of the header has in column_of the number of its column, 0 for an unknown one. */
+static struct {
+    unsigned table;
+    unsigned column_of[MOST_CELLS];
+    size_t lines;
+    size_t cells[MOST_ROWS + 1];
+    struct raw cell[MOST_ROWS + 1][MOST_CELLS];
+    uint8_t returns[MOST_ROWS + 1]; /* whether a carriage return stands before the line feed */
+    int last_lacks;                 /* whether the last line lacks its line feed */
+    struct growing pool;
+} sheet;
+
+static struct raw open_raw(void)
+{
+    struct raw raw;
+
+    raw.start = (uint32_t)sheet.pool.length;
+    raw.length = 0;
+    return raw;
+}
+
+static struct raw close_raw(struct raw raw)
+{
+    raw.length = (uint32_t)sheet.pool.length - raw.start;
+    return raw;
+}
+
+static struct raw raw_words(const char *words)
+{
+    struct raw raw = open_raw();
+
+    put(&sheet.pool, words);
+    return close_raw(raw);
+}
+
+/* Content in quotes, those inside doubled. */
+static struct raw raw_quoted(const uint8_t *content, size_t length)
+{
+    struct raw raw = open_raw();
+    size_t i;
+
+    put_byte(&sheet.pool, '"');
+    for (i = 0; i < length; i++) {
+        put_byte(&sheet.pool, content[i]);
+        if (content[i] == '"')
+            put_byte(&sheet.pool, '"');
+    }
+    put_byte(&sheet.pool, '"');
+    return close_raw(raw);
+}
+
+static int needs_quotes(const uint8_t *content, size_t length)
+{
+    size_t i;
+
+    for (i = 0; i < length; i++)
+        if (content[i] == ';' || content[i] == '"')
+            return 1;
+    return 0;
+}
+
+static struct raw raw_content(const uint8_t *content, size_t length, unsigned quoted_percent)
+{
+    struct raw raw;
+
+    if (needs_quotes(content, length) || chance(quoted_percent))
+        return raw_quoted(content, length);
+    raw = open_raw();
+    put_bytes(&sheet.pool, content, length);
+    return close_raw(raw);
+}
+
+static struct raw raw_empty(void)
+{
+    return raw_words(chance(70) ? "" : "\"\"");
+}
+
+/* A number as a d column may have it: leading zeros, quotes. */
+static struct raw raw_number(uint64_t number, unsigned width)
+{
+    uint8_t bytes[24];
+    struct growing digits = {bytes, 0, sizeof bytes};
+
+    put_number(&digits, number, chance(20) ? between(1, width) : 1);
+    return raw_content(bytes, digits.length, 12);
+}
+
+static uint8_t any_letter(void)
+{
+    static const uint8_t letters[] = "abcxyzABC 0159.,-_'/";
+    static const uint8_t rare[] = {';', '"', '"', 0xC3, 0xA4, 0x80, 0xFF, ' ', '~', '!'};
+
+    return chance(75) ? letters[below(sizeof letters - 1)] : rare[below(sizeof rare)];
+}
+
+static struct raw raw_text(size_t length)
+{
+    uint8_t content[256];
+    size_t i;
+
+    for (i = 0; i < length; i++)
+        content[i] = any_letter();
+    return raw_content(content, length, 25);
+}
+
+/* The number of a named column in this row, 0 where the delivery has none. */
+static struct raw raw_value(const struct column *column, uint64_t number)
+{
+    if (column->kind == 'd')
+        return raw_number(number, column->width);
+    return raw_text(chance(20) ? column->width : between(1, column->width));
+}
+
+/* An optional column's cell: the delivery has no number for it. */
+static struct raw raw_optional(const struct column *column)
+{
+    if (chance(35))
+        return raw_empty();
+    return raw_value(column, column->most ? roll() % (column->most + 1) : 0);
+}
+
+static struct raw raw_unknown(void)
+{
+    return chance(30) ? raw_empty() : raw_text(between(1, chance(95) ? 12 : 120));
+}
+
+/* Names that are no column's here, though some look like one. */
+static struct raw raw_unknown_name(void)
+{
+    static const char *const names[] = {"", "\"\"", "X", "X", "version", "VERSION ", " VERSION", "\"VERSION \"", "STOP_AREA_NR",
+        "VEH_DELFI_TYPE", "\"a;b\"", "\"\"\"\"", "VERSIO", "VERSIONS", "DAY_TEXT", "BLOCK", "\xC3\x84"};
+
+    return raw_words(names[below(sizeof names / sizeof names[0])]);
+}
+
+/* A name of another table is unknown too, but not the block's second spelling of its type. */
+static struct raw raw_foreign_name(void)
+{
+    if (sheet.table == DEPOT)
+        return raw_words(chance(50) ? "HANDICAP_PLACES" : "STOP_NAME");
+    if (sheet.table == VEHICLE_BLOCK)
+        return raw_words(chance(50) ? "STOP_NR" : "VEH_TYPE_SEATS");
+    return raw_words(chance(50) ? "VEH_TYP_NR" : "DEPOT_NR");
+}
+
+static struct raw raw_name(unsigned c)
+{
+    const struct column *column = &tables[sheet.table].columns[c - 1];
+    const char *name = column->other_name && chance(40) ? column->other_name : column->name;
+
+    return raw_content((const uint8_t *)name, strlen(name), 8);
+}
+
+/* ---- Columns of a sheet */
+
+static void insert_cell(size_t line, size_t at, struct raw raw)
+{
+    size_t n = sheet.cells[line];
+
+    if (n == MOST_CELLS)
+        return;
+    memmove(&sheet.cell[line][at + 1], &sheet.cell[line][at], (n - at) * sizeof raw);
+    sheet.cell[line][at] = raw;
+    sheet.cells[line]++;
+}
+
+static void remove_cell(size_t line, size_t at)
+{
+    size_t n = sheet.cells[line];
+
+    memmove(&sheet.cell[line][at], &sheet.cell[line][at + 1], (n - at - 1) * sizeof(struct raw));
+    sheet.cells[line]--;
+}
+
+/* A column more, before cell `at`: known, or unknown with column 0. The rows' cells are what an unknown column may have, or
+ * a number where it is known. */
+static void insert_column(size_t at, unsigned column, struct raw name)
+{
+    size_t n = sheet.cells[0];
+    size_t line;
+
+    if (n == MOST_CELLS)
+        return;
+    memmove(&sheet.column_of[at + 1], &sheet.column_of[at], (n - at) * sizeof sheet.column_of[0]);
+    sheet.column_of[at] = column;
+    insert_cell(0, at, name);
+    for (line = 1; line < sheet.lines; line++)
+        if (at <= sheet.cells[line])
+            insert_cell(line, at, column ? raw_words("1") : raw_unknown());
+}
+
+/* Somewhere among the others. */
+static void insert_column_anywhere(unsigned column, struct raw name)
+{
+    insert_column(below(sheet.cells[0] + 1), column, name);
+}
+
+static void remove_column(size_t at)
+{
+    size_t n = sheet.cells[0];
+    size_t line;
+
+    memmove(&sheet.column_of[at], &sheet.column_of[at + 1], (n - at - 1) * sizeof sheet.column_of[0]);
+    for (line = 0; line < sheet.lines; line++)
+        if (at < sheet.cells[line])
+            remove_cell(line, at);
+}
+
+/* The cell of a column, or MOST_CELLS where the header lacks it. */
+static size_t cell_of(unsigned column)
+{
+    size_t i;
+
+    for (i = 0; i < sheet.cells[0]; i++)
+        if (sheet.column_of[i] == column)
+            return i;
+    return MOST_CELLS;
+}
+
+/* ---- Making a sheet of the delivery's rows */
+
+static void choose_columns(unsigned t)
+{
+    unsigned optional = chance(30) ? 0 : chance(30) ? 100 : 50;
+    size_t n = 0;
+    unsigned c;
+
+    for (c = 1; c <= tables[t].column_count; c++)
+        if (tables[t].columns[c - 1].required || chance(optional))
+            sheet.column_of[n++] = c;
+    sheet.cells[0] = n;
+}
+
+static void shuffle_columns(void)
+{
+    size_t i;
+
+    for (i = sheet.cells[0]; i > 1; i--) {
+        size_t other = below(i);
+        unsigned kept = sheet.column_of[i - 1];
+
+        sheet.column_of[i - 1] = sheet.column_of[other];
+        sheet.column_of[other] = kept;
+    }
+}
+
+static struct raw make_cell(unsigned t, unsigned c, const uint64_t *numbers)
+{
+    const struct column *column = &tables[t].columns[c - 1];
+
+    if (!column->required)
+        return raw_optional(column);
+    return raw_value(column, numbers[c - 1]);
+}
+
+static void make_unknown_columns(void)
+{
+    size_t more = chance(65) ? 0 : chance(90) ? between(1, 4) : 32 - sheet.cells[0];
+
+    for (; more > 0 && sheet.cells[0] < 32; more--)
+        insert_column_anywhere(0, chance(80) ? raw_unknown_name() : raw_foreign_name());
+}
+
+/* Chosen with the cells and not when printing, so that a sheet that is printed twice is the same text. */
+static void choose_line_ends(void)
+{
+    unsigned returns = chance(60) ? 0 : chance(60) ? 100 : 50;
+    size_t line;
+
+    for (line = 0; line < sheet.lines; line++)
+        sheet.returns[line] = (uint8_t)chance(returns);
+    sheet.last_lacks = chance(25);
+}
+
+static void make_sheet(unsigned t)
+{
+    size_t line, i;
+
+    sheet.table = t;
+    sheet.pool.bytes = pool_bytes;
+    sheet.pool.length = 0;
+    sheet.pool.room = sizeof pool_bytes;
+    sheet.lines = delivery.count[t] + 1;
+    choose_columns(t);
+    if (chance(60))
+        shuffle_columns();
+    for (i = 0; i < sheet.cells[0]; i++)
+        sheet.cell[0][i] = raw_name(sheet.column_of[i]);
+    for (line = 1; line < sheet.lines; line++) {
+        sheet.cells[line] = sheet.cells[0];
+        for (i = 0; i < sheet.cells[0]; i++)
+            sheet.cell[line][i] = make_cell(t, sheet.column_of[i], delivery.rows[t][line - 1]);
+    }
+    make_unknown_columns();
+    choose_line_ends();
+}
+
+/* ---- Faults in a sheet */
+
+/* 6: one cell that is not well quoted, or has a byte that no cell may have. */
+static struct raw raw_fault(struct raw old)
+{
+    static const char *const badly[] = {"a\"b", "\"", "\"a", "\"a\"b", "\"a\" ", "\"\"\"", " \"a\"", "1\"", "\"1\"2", "\"a\nb\"",
+        "\"\"\"a", "\"a\"\"", "\"a;b", "a\"", "\"1\"\"", "\"a\"\"\"b\""};
+    static const uint8_t bytes[] = {0, 1, 8, 9, 11, 12, 13, 27, 30, 31, 127};
+    struct raw raw;
+    size_t at, i;
+
+    if (chance(60))
+        return raw_words(badly[below(sizeof badly / sizeof badly[0])]);
+    /* the cell as it was with one of those bytes at some place in it */
+    raw = open_raw();
+    at = below(old.length + 1);
+    for (i = 0; i <= old.length; i++) {
+        if (i == at)
+            put_byte(&sheet.pool, bytes[below(sizeof bytes)]);
+        if (i < old.length)
+            put_byte(&sheet.pool, sheet.pool.bytes[old.start + i]);
+    }
+    return close_raw(raw);
+}
+
+static void fault_quotes(size_t line)
+{
+    size_t at;
+
+    /* at times in a cell past the header's count: 6 comes before 7 */
+    if (line > 0 && chance(15))
+        insert_cell(line, sheet.cells[line], raw_words("x"));
+    if (sheet.cells[line] == 0)
+        return;
+    at = chance(10) ? sheet.cells[line] - 1 : below(sheet.cells[line]);
+    sheet.cell[line][at] = raw_fault(sheet.cell[line][at]);
+}
+
+/* The column that the next faults are for; 0: any one. */
+static unsigned meant_column;
+
+static unsigned any_column(void)
+{
+    return meant_column ? meant_column : (unsigned)between(1, tables[sheet.table].column_count);
+}
+
+/* 4: cells past the 32nd. */
+static void fault_many_cells(void)
+{
+    size_t wanted = chance(60) ? 33 : between(33, 40);
+
+    while (sheet.cells[0] < wanted)
+        insert_column_anywhere(0, raw_unknown_name());
+}
+
+/* 3: a known column once more, to the left or the right of the first. */
+static void fault_twice(void)
+{
+    unsigned c = any_column();
+    size_t at = cell_of(c);
+
+    if (at == MOST_CELLS)
+        insert_column_anywhere(c, raw_name(c));
+    insert_column_anywhere(c, raw_name(c));
+}
+
+/* 2: a required column less. */
+static void fault_missing(void)
+{
+    unsigned c;
+    size_t at;
+
+    do {
+        c = any_column();
+        meant_column = 0; /* an optional one was not meant */
+    } while (!tables[sheet.table].columns[c - 1].required);
+    at = cell_of(c);
+    if (at == MOST_CELLS)
+        return;
+    if (chance(50)) {
+        remove_column(at);
+    } else {
+        sheet.column_of[at] = 0;
+        sheet.cell[0][at] = raw_unknown_name();
+    }
+}
+
+/* 7: a cell more or less, or a blank line. */
+static void fault_count(size_t line)
+{
+    size_t way = below(4);
+
+    if (way == 0)
+        insert_cell(line, sheet.cells[line], raw_unknown());
+    else if (way == 1 || sheet.cells[line] == 0)
+        insert_cell(line, below(sheet.cells[line] + 1), raw_words("1"));
+    else if (way == 2)
+        remove_cell(line, below(sheet.cells[line]));
+    else
+        sheet.cells[line] = 0;
+}
+
+/* Digits, more of them than the column's width: often zeros before a number that the column would take. */
+static struct raw raw_too_long(unsigned width)
+{
+    struct raw raw = open_raw();
+    size_t n = width + between(1, chance(80) ? 1 : 30);
+    size_t i;
+
+    if (chance(50)) {
+        put_number(&sheet.pool, 1, n);
+        return close_raw(raw);
+    }
+    for (i = 0; i < n; i++)
+        put_byte(&sheet.pool, (uint8_t)(chance(50) ? '0' : '0' + below(10)));
+    return close_raw(raw);
+}
+
+static struct raw raw_bad_number(const struct column *column)
+{
+    static const char *const bad[] = {"x", "-1", "+1", " 1", "1 ", "1.", "\"1\"\"2\"", "0x1", "\"\"\"\"", "\xC2\xB9", "1e1", "/", ":", "\" 1\""};
+
+    switch (below(4)) {
+    case 0: return raw_empty();
+    case 1: return raw_too_long(column->width);
+    case 2:
+        if (column->least > 0)
+            return raw_number(column->least - 1, column->width);
+        if (column->most == 2)
+            return raw_number(chance(60) ? 3 : between(4, 9), 1);
+        return raw_too_long(column->width);
+    default: return raw_words(bad[below(sizeof bad / sizeof bad[0])]);
+    }
+}
+
+/* 8: what the column does not take. Where an empty cell comes of it in an optional column, that is no fault. */
+static struct raw raw_bad_value(const struct column *column)
+{
+    if (column->kind == 'd')
+        return raw_bad_number(column);
+    return chance(70) ? raw_text(column->width + between(1, 3)) : raw_empty();
+}
+
+static void fault_value(size_t line)
+{
+    size_t tries;
+
+    for (tries = 0; tries < 8; tries++) {
+        unsigned c = any_column();
+        size_t at = cell_of(c);
+
+        if (at < sheet.cells[line]) {
+            sheet.cell[line][at] = raw_bad_value(&tables[sheet.table].columns[c - 1]);
+            return;
+        }
+    }
+}
+
+static void set_number(size_t line, unsigned c, uint64_t number)
+{
+    size_t at = cell_of(c);
+
+    if (at < sheet.cells[line])
+        sheet.cell[line][at] = raw_number(number, tables[sheet.table].columns[c - 1].width);
+}
+
+/* 9: the key of an earlier row, with zeros of its own. */
+static void fault_key(size_t line)
+{
+    const uint64_t *earlier;
+    unsigned c;
+
+    if (line < 2)
+        return;
+    earlier = delivery.rows[sheet.table][below(line - 1)];
+    for (c = 1; c <= tables[sheet.table].key_width; c++)
+        set_number(line, c, earlier[c - 1]);
+}
+
+/* 10: a number that is mostly nowhere. */
+static void lose_reference(size_t line)
+{
+    static const unsigned referring[] = {3, 5, 6, 9, 6, 9, 1};
+    unsigned c = referring[below(sizeof referring / sizeof referring[0])];
+    const struct column *column = &tables[sheet.table].columns[c - 1];
+
+    set_number(line, c, chance(60) ? any_number(column, 40) : column->most);
+}
+
+/* At times two are lost, and the lower column is to be named. */
+static void fault_reference(size_t line)
+{
+    lose_reference(line);
+    if (chance(40))
+        lose_reference(line);
+}
+
+/* 11: by one or by more. */
+static void fault_times(size_t line)
+{
+    uint64_t begin = between(1, 999999);
+
+    set_number(line, 8, begin);
+    set_number(line, 11, chance(60) ? begin - 1 : roll() % begin);
+}
+
+enum fault { F_HEADER_QUOTES, F_MANY_CELLS, F_TWICE, F_MISSING, F_QUOTES, F_COUNT, F_VALUE, F_KEY, F_REFERENCE, F_TIMES };
+
+static void make_fault(enum fault fault, size_t line)
+{
+    int blocks = sheet.table == VEHICLE_BLOCK;
+
+    if (line == 0 && fault > F_MISSING)
+        fault = (enum fault)below(F_MISSING + 1);
+    if (!blocks && (fault == F_REFERENCE || fault == F_TIMES))
+        fault = chance(50) ? F_KEY : F_VALUE;
+    switch (fault) {
+    case F_HEADER_QUOTES: fault_quotes(0); break;
+    case F_MANY_CELLS: fault_many_cells(); break;
+    case F_TWICE: fault_twice(); break;
+    case F_MISSING: fault_missing(); break;
+    case F_QUOTES: fault_quotes(line); break;
+    case F_COUNT: fault_count(line); break;
+    case F_VALUE: fault_value(line); break;
+    case F_KEY: fault_key(line); break;
+    case F_REFERENCE: fault_reference(line); break;
+    default: fault_times(line); break;
+    }
+}
+
+/* A fault of a row; those between rows and tables are the more telling ones. */
+static enum fault any_row_fault(void)
+{
+    static const enum fault faults[] = {F_QUOTES, F_COUNT, F_VALUE, F_VALUE, F_KEY, F_KEY, F_REFERENCE, F_REFERENCE, F_TIMES};
+
+    return faults[below(sizeof faults / sizeof faults[0])];
+}
+
+/* The table of a case that gets most of its faults. */
+static unsigned any_table(void)
+{
+    return chance(35) ? VEHICLE_BLOCK : (unsigned)between(1, TABLES);
+}
+
+/* Some faults in one sheet. Where there are two, the second is often on the first one's line, or a header fault beside a
+ * header fault: only so the order between them shows. */
+static void make_faults(size_t count)
+{
+    size_t line = sheet.lines > 1 ? between(1, sheet.lines - 1) : 0;
+    int in_header = chance(30);
+    size_t i;
+
+    for (i = 0; i < count; i++) {
+        enum fault fault = in_header ? (enum fault)below(F_MISSING + 1) : any_row_fault();
+
+        make_fault(fault, line);
+        if (sheet.lines > 1 && chance(40))
+            line = between(1, sheet.lines - 1);
+        if (chance(20))
+            in_header = !in_header;
+    }
+}
+
+/* ---- Printing a sheet */
+
+static uint8_t text_bytes[TABLES + 1][MOST_BYTES];
+static struct growing table_text[TABLES + 1];
+
+static void print_line(struct growing *text, size_t line)
+{
+    size_t i;
+
+    for (i = 0; i < sheet.cells[line]; i++) {
+        if (i > 0)
+            put_byte(text, ';');
+        put_bytes(text, sheet.pool.bytes + sheet.cell[line][i].start, sheet.cell[line][i].length);
+    }
+}
+
+static void print_sheet(void)
+{
+    struct growing *text = &table_text[sheet.table];
+    size_t line;
+
+    text->bytes = text_bytes[sheet.table];
+    text->length = 0;
+    text->room = MOST_BYTES;
+    for (line = 0; line < sheet.lines; line++) {
+        print_line(text, line);
+        if (line + 1 == sheet.lines && sheet.last_lacks)
+            return;
+        if (sheet.returns[line])
+            put_byte(text, '\r');
+        put_byte(text, '\n');
+    }
+}
+
+/* Makes the sheet's text exactly that long, by an unknown column with one long cell. */
+static void pad_sheet(size_t wanted)
+{
+    size_t line = below(sheet.lines);
+    size_t now = 0;
+    size_t i, others;
+    struct raw raw;
+
+    print_sheet();
+    now = table_text[sheet.table].length;
+    others = sheet.lines; /* a semicolon on each line */
+    if (sheet.cells[0] == 32 || now + others >= wanted)
+        return;
+    for (i = 0; i < sheet.lines; i++)
+        if (sheet.cells[i] == 0)
+            return;
+    insert_column(sheet.cells[0], 0, raw_words(""));
+    for (i = 0; i < sheet.lines; i++)
+        sheet.cell[i][sheet.cells[i] - 1] = raw_words("");
+    raw = open_raw();
+    for (i = now + others; i < wanted; i++)
+        put_byte(&sheet.pool, (uint8_t)('a' + i % 26));
+    sheet.cell[line][sheet.cells[line] - 1] = close_raw(raw);
+}
+
+/* ---- Books */
+
+static row made_book[BOOK_ROWS];
+static uint8_t other_bytes[TABLES][20000];
+
+static row *rows_of(row *book, unsigned t)
+{
+    return book + (size_t)TABLE_ROWS * (t - 1);
+}
+
+static const row *rows_of_in(const row *book, unsigned t)
+{
+    return book + (size_t)TABLE_ROWS * (t - 1);
+}
+
+static size_t used(const row *rows)
+{
+    size_t n = 0;
+
+    while (n < TABLE_ROWS && rows[n][0] != 0)
+        n++;
+    return n;
+}
+
+/* The book of the delivery, made of its numbers and not by reading. */
+static void make_book(void)
+{
+    unsigned t;
+
+    memset(made_book, 0, sizeof made_book);
+    for (t = 1; t <= TABLES; t++) {
+        row *rows = rows_of(made_book, t);
+
+        memcpy(rows, delivery.rows[t], delivery.count[t] * sizeof rows[0]);
+        sort_rows(rows, delivery.count[t]);
+    }
+}
+
+/* The text of a table that has these keys, as plain as it can be. */
+static struct text plain_text(const row *book, unsigned t)
+{
+    struct growing text = {other_bytes[t], 0, sizeof other_bytes[t]};
+    const row *rows = rows_of_in(book, t);
+    size_t n = used(rows);
+    size_t i;
+
+    put(&text, t == VEHICLE_TYPE ? "VERSION;VEH_TYPE_NR\n" : t == DEPOT ? "VERSION;DEPOT_NR\n" : "VERSION;STOP_NR;STOP_NAME\n");
+    for (i = 0; i < n; i++) {
+        put_number(&text, rows[i][0], 1);
+        put_byte(&text, ';');
+        put_number(&text, rows[i][1], 1);
+        put(&text, t == STOP ? ";a\n" : "\n");
+    }
+    return text_of(&text);
+}
+
+static void put_made_book(const struct cases_host *host)
+{
+    struct text others[3];
+    unsigned t;
+
+    for (t = 1; t <= 3; t++)
+        others[t - 1] = plain_text((const row *)made_book, t);
+    host->put_book(host->self, (const row *)made_book, others);
+}
+
+/* ---- Questions */
+
+/* A number to ask for that is mostly no row's, or none that any row can have. */
+static uint64_t strange_number(void)
+{
+    static const uint64_t strange[] = {0, 1, 2, 5, 99, 100, 99999, 100000, 4294967295u, 4294967296u, 4294967297u, UINT64_MAX,
+        UINT64_MAX - 1, (uint64_t)1 << 63};
+
+    return strange[below(sizeof strange / sizeof strange[0])];
+}
+
+static void ask_type(const struct cases_host *host, size_t book_rows)
+{
+    const row *types = rows_of_in(host->book(host->self), VEHICLE_TYPE);
+    size_t n = used(types);
+    uint64_t version = any_version();
+    uint64_t number = below(20);
+
+    if (n > 0 && chance(80)) {
+        size_t i = below(n);
+
+        version = types[i][0];
+        number = types[i][1];
+    }
+    if (chance(8))
+        version = strange_number();
+    if (chance(8))
+        number = strange_number();
+    host->type(host->self, book_rows, version, number);
+}
+
+static void ask_block(const struct cases_host *host, size_t book_rows)
+{
+    const row *blocks = rows_of_in(host->book(host->self), VEHICLE_BLOCK);
+    size_t n = used(blocks);
+    uint64_t key[4];
+    size_t i;
+
+    for (i = 0; i < 4; i++)
+        key[i] = strange_number();
+    if (n > 0 && chance(90))
+        memcpy(key, blocks[below(n)], sizeof key);
+    if (chance(25)) {
+        i = below(4);
+        key[i] = chance(50) ? strange_number() : below(10);
+    }
+    host->block(host->self, book_rows, key);
+}
+
+/* How long the book's blocks are when they are written. */
+static size_t written_length(const row *book)
+{
+    const row *blocks = rows_of_in(book, VEHICLE_BLOCK);
+    size_t n = used(blocks);
+    size_t length = 0;
+    size_t i, c;
+
+    for (c = 0; c < NUMBERS; c++)
+        length += strlen(tables[VEHICLE_BLOCK].columns[c].name) + 1;
+    for (i = 0; i < n; i++)
+        for (c = 0; c < NUMBERS; c++)
+            length += digits_of(blocks[i][c]) + 1;
+    return length;
+}
+
+static void ask_write(const struct cases_host *host, size_t book_rows)
+{
+    size_t exact = written_length(host->book(host->self));
+    size_t length;
+
+    switch (below(7)) {
+    case 0: length = exact; break;
+    case 1: length = exact - 1; break;
+    case 2: length = exact + 1; break;
+    case 3: length = below(exact); break;
+    case 4: length = 0; break;
+    case 5: length = exact + below(2000); break;
+    default: length = 40000; break;
+    }
+    host->write(host->self, book_rows, length);
+}
+
+static size_t lines_of(const struct growing *text)
+{
+    size_t lines = 0;
+    size_t i;
+
+    for (i = 0; i < text->length; i++)
+        lines += text->bytes[i] == '\n' || i + 1 == text->length;
+    return lines;
+}
+
+static void ask_cell(const struct cases_host *host, const struct growing *text, unsigned t)
+{
+    uint64_t table = t;
+    size_t lines = lines_of(text);
+    uint64_t line = lines < 2 || chance(3) ? lines + 1 : between(2, lines);
+    uint64_t column = between(1, tables[t].column_count);
+
+    if (chance(4))
+        table = chance(50) ? below(7) : strange_number();
+    if (chance(6))
+        line = chance(70) ? below(4) : strange_number();
+    if (chance(4))
+        column = chance(70) ? below(14) : strange_number();
+    host->cell(host->self, text_of(text), table, line, column);
+}
+
+/* Cells of one table's text: some at random, at times a whole line. */
+static void ask_cells(const struct cases_host *host, unsigned t, size_t times)
+{
+    const struct growing *text = &table_text[t];
+    size_t lines = lines_of(text);
+    uint64_t c;
+
+    for (; times > 0; times--)
+        ask_cell(host, text, t);
+    if (lines < 2 || !chance(20))
+        return;
+    lines = between(2, lines);
+    for (c = 0; c <= tables[t].column_count + 1; c++)
+        host->cell(host->self, text_of(text), t, lines, c);
+}
+
+static void ask_all(const struct cases_host *host)
+{
+    size_t i;
+
+    for (i = below(3); i > 0; i--)
+        ask_type(host, BOOK_ROWS);
+    for (i = below(3); i > 0; i--)
+        ask_block(host, BOOK_ROWS);
+    if (chance(60))
+        ask_write(host, BOOK_ROWS);
+}
+
+/* ---- Slips */
+
+static uint8_t slip_bytes[MOST_BYTES];
+
+/* The blocks as the slip's good lines leave them, in any order. */
+static struct {
+    row blocks[TABLE_ROWS];
+    size_t count;
+    struct others others;
+} slip_sees;
+
+static void look_at_book(const row *book)
+{
+    const row *blocks = rows_of_in(book, VEHICLE_BLOCK);
+    unsigned t;
+
+    slip_sees.count = used(blocks);
+    memcpy(slip_sees.blocks, blocks, slip_sees.count * sizeof blocks[0]);
+    for (t = 1; t <= 3; t++) {
+        slip_sees.others.rows[t] = rows_of_in(book, t);
+        slip_sees.others.count[t] = used(slip_sees.others.rows[t]);
+    }
+}
+
+static size_t seen_at(const uint64_t *key)
+{
+    return find_key((const row *)slip_sees.blocks, slip_sees.count, key, 4);
+}
+
+/* A line's numbers as fields. Twelve of them and the kind: at most thirteen. */
+struct slip_line {
+    const char *kind;
+    uint64_t numbers[NUMBERS];
+    size_t fields;        /* numbers that are written */
+    const char *bad;      /* what stands in the field of this column in place of its number */
+    size_t bad_column;    /* 0: in none */
+    int bad_keeps_number; /* the bad bytes stand behind the number */
+    int bad_too_long;     /* the number has one zero too many, and nothing else is bad of it */
+    const char *tail;
+};
+
+static void print_slip_line(struct growing *slip, const struct slip_line *line)
+{
+    size_t c;
+
+    put(slip, line->kind);
+    for (c = 1; c <= line->fields; c++) {
+        unsigned width = tables[VEHICLE_BLOCK].columns[c <= NUMBERS ? c - 1 : 0].width;
+        int bad = line->bad_column == c;
+
+        put_byte(slip, '\t');
+        if (bad && line->bad_too_long && c <= NUMBERS) {
+            put_number(slip, line->numbers[c - 1], width + 1);
+            continue;
+        }
+        if (!bad || line->bad_keeps_number)
+            put_number(slip, c <= NUMBERS ? line->numbers[c - 1] : 1, chance(12) ? between(1, width) : 1);
+        if (bad && *line->bad)
+            put(slip, line->bad);
+        else if (bad && chance(30))
+            put_byte(slip, 0); /* a byte 0 cannot stand in a string */
+    }
+    put(slip, line->tail);
+    put_byte(slip, '\n');
+}
+
+/* A block to add whose key is not there. */
+static int fresh_block(uint64_t *block)
+{
+    size_t tries;
+
+    for (tries = 0; tries < 5; tries++)
+        if (any_block(&slip_sees.others, block) && seen_at(block) == slip_sees.count)
+            return 1;
+    return 0;
+}
+
+/* Other numbers for a block that stands: its key and version stay. */
+static void other_numbers(uint64_t *block)
+{
+    const uint64_t *type = any_row_of(slip_sees.others.rows[VEHICLE_TYPE], slip_sees.others.count[VEHICLE_TYPE], block[0], 99);
+    const uint64_t *stop = any_row_of(slip_sees.others.rows[STOP], slip_sees.others.count[STOP], block[0], 99999);
+
+    if (type)
+        block[B_TYPE] = type[1];
+    if (stop)
+        block[B_ARR_STOP] = stop[1];
+    any_times(block);
+}
+
+/* A good line, and what it does to the blocks that are seen. It fails where the kind cannot be good now. */
+static int good_line(struct slip_line *line, char kind)
+{
+    size_t at;
+
+    line->bad_column = 0;
+    line->tail = "";
+    line->fields = kind == 'D' ? 4 : NUMBERS;
+    line->kind = kind == 'A' ? "A" : kind == 'R' ? "R" : "D";
+    if (kind == 'A') {
+        if (slip_sees.count == TABLE_ROWS || !fresh_block(line->numbers))
+            return 0;
+        memcpy(slip_sees.blocks[slip_sees.count++], line->numbers, sizeof line->numbers);
+        return 1;
+    }
+    if (slip_sees.count == 0)
+        return 0;
+    at = below(slip_sees.count);
+    memcpy(line->numbers, slip_sees.blocks[at], sizeof line->numbers);
+    if (kind == 'R') {
+        other_numbers(line->numbers);
+        memcpy(slip_sees.blocks[at], line->numbers, sizeof line->numbers);
+    } else {
+        slip_sees.count--;
+        memcpy(slip_sees.blocks[at], slip_sees.blocks[slip_sees.count], sizeof line->numbers);
+    }
+    return 1;
+}
+
+static int any_good_line(struct slip_line *line)
+{
+    static const char kinds[] = "AAARRRDD";
+    size_t tries;
+
+    for (tries = 0; tries < 6; tries++)
+        if (good_line(line, kinds[below(sizeof kinds - 1)]))
+            return 1;
+    return 0;
+}
+
+static void bad_field(struct slip_line *line)
+{
+    static const char *const instead[] = {"", "x", "-1", "+1", " 1", "\"1\"", "1.", "00000000001", "12345678901234567890123", "\r",
+        "\xC2\xB9", "1;2", "/", ":"};
+    static const char *const behind[] = {"\r", " ", "x", "\x7F", "0000000000"};
+
+    if (line->fields == 0)
+        return;
+    line->bad_column = between(1, line->fields < NUMBERS ? line->fields : NUMBERS);
+    line->bad_too_long = chance(15);
+    line->bad_keeps_number = chance(40);
+    line->bad = line->bad_keeps_number ? behind[below(5)] : instead[below(sizeof instead / sizeof instead[0])];
+    if (chance(25)) { /* out of range: VERSION alone has a range of its own */
+        line->bad_column = 1;
+        line->bad_too_long = 0;
+        line->bad_keeps_number = 0;
+        line->bad = chance(50) ? "0" : "00";
+    }
+}
+
+static void bad_kind(struct slip_line *line)
+{
+    static const char *const kinds[] = {"a", "AA", " A", "A ", "", "X", "\"A\"", "D\r", "0", "r", "RD", "\xC3\x84", "\x7F"};
+
+    line->kind = kinds[below(sizeof kinds / sizeof kinds[0])];
+}
+
+static void bad_count(struct slip_line *line)
+{
+    switch (below(5)) {
+    case 0: line->tail = "\t"; break;
+    case 1: line->fields = below(13); break;
+    case 2: line->fields++; break;
+    case 3: line->fields = 4; break;
+    default: line->fields -= line->fields > 0; break;
+    }
+}
+
+/* Numbers for a line that no good block can be found for. */
+static void any_numbers(struct slip_line *line)
+{
+    size_t c;
+
+    for (c = 0; c < NUMBERS; c++)
+        line->numbers[c] = any_number(&tables[VEHICLE_BLOCK].columns[c], 20);
+    any_times(line->numbers);
+}
+
+static void bad_reference(struct slip_line *line)
+{
+    static const size_t referring[] = {B_DEPOT, B_TYPE, B_TYPE, B_DEP_STOP, B_ARR_STOP, B_VERSION};
+    size_t at = referring[below(sizeof referring / sizeof referring[0])];
+
+    line->numbers[at] = any_number(&tables[VEHICLE_BLOCK].columns[at], 40);
+}
+
+static void bad_times(struct slip_line *line)
+{
+    line->numbers[B_BEGIN] = between(1, 999999);
+    line->numbers[B_END] = chance(60) ? line->numbers[B_BEGIN] - 1 : roll() % line->numbers[B_BEGIN];
+}
+
+/* A key that is there, or one that is mostly not. */
+static void other_key(struct slip_line *line)
+{
+    if (slip_sees.count > 0 && chance(60))
+        memcpy(line->numbers, slip_sees.blocks[below(slip_sees.count)], 4 * sizeof line->numbers[0]);
+    else if (chance(70))
+        line->numbers[B_BLOCK] = between(0, 999);
+    else
+        line->numbers[B_DAY_TYPE] = between(0, 999);
+}
+
+/* A line with one fault, or with some at once for their order. */
+static void bad_line(struct slip_line *line)
+{
+    static const char *const kinds[] = {"A", "R", "D"};
+    int full = slip_sees.count == TABLE_ROWS;
+    size_t faults = chance(60) ? 1 : between(2, 3);
+
+    memset(line, 0, sizeof *line);
+    line->tail = "";
+    line->kind = full && chance(60) ? "A" : kinds[below(3)];
+    line->fields = *line->kind == 'D' ? 4 : NUMBERS;
+    if (*line->kind == 'A' ? !fresh_block(line->numbers) : slip_sees.count == 0)
+        any_numbers(line);
+    else if (*line->kind != 'A')
+        memcpy(line->numbers, slip_sees.blocks[below(slip_sees.count)], sizeof line->numbers);
+    for (; faults > 0; faults--)
+        switch (below(12)) {
+        case 0: bad_kind(line); break;
+        case 1: bad_count(line); break;
+        case 2: case 3: bad_field(line); break;
+        case 4: case 5: bad_times(line); break;
+        case 6: case 7: case 8: bad_reference(line); break;
+        default: other_key(line); break;
+        }
+}
+
+static size_t any_line_count(void)
+{
+    size_t dial = below(100);
+
+    return dial < 8 ? 0 : dial < 55 ? between(1, 4) : dial < 94 ? between(5, 20) : between(50, 900);
+}
+
+/* A slip on this book: its lines are good but for one, or all good. */
+static struct growing make_slip(const row *book)
+{
+    struct growing slip = {slip_bytes, 0, sizeof slip_bytes};
+    size_t lines = any_line_count();
+    size_t bad_at = chance(45) ? lines : below(lines + 1);
+    size_t i;
+
+    look_at_book(book);
+    for (i = 0; i < lines; i++) {
+        struct slip_line line;
+
+        memset(&line, 0, sizeof line);
+        if (i == bad_at && chance(6)) {
+            put_byte(&slip, '\n'); /* a blank line */
+            continue;
+        }
+        if (i == bad_at || !any_good_line(&line))
+            bad_line(&line);
+        print_slip_line(&slip, &line);
+    }
+    if (slip.length > 0 && chance(30))
+        slip.length--; /* the last line feed may lack */
+    if (chance(6))
+        damage_bytes(&slip);
+    return slip;
+}
+
+static void take_slips(const struct cases_host *host, size_t times)
+{
+    for (; times > 0; times--) {
+        struct growing slip = make_slip(host->book(host->self));
+
+        host->slip(host->self, text_of(&slip), BOOK_ROWS, WORK_ROWS);
+        ask_all(host);
+    }
+}
+
+/* A slip of 65,536 bytes or some more, all lines good: 64 bytes each, 1,024 of them. */
+static struct growing make_long_slip(const row *book)
+{
+    const row *blocks = rows_of_in(book, VEHICLE_BLOCK);
+    struct growing slip = {slip_bytes, 0, sizeof slip_bytes};
+    size_t n = used(blocks);
+    size_t more = chance(50) ? 0 : between(1, 3);
+    size_t i, c;
+
+    for (i = 0; i < 1024 && n > 0; i++) {
+        const uint64_t *block = blocks[below(n)];
+        size_t shorter = i < more ? 2 : 3; /* how many fields lack a zero: 67 bytes at full width */
+
+        put_byte(&slip, 'R');
+        for (c = 0; c < NUMBERS; c++) {
+            unsigned width = tables[VEHICLE_BLOCK].columns[c].width;
+
+            if (shorter > 0 && digits_of(block[c]) < width) {
+                width--;
+                shorter--;
+            }
+            put_byte(&slip, '\t');
+            put_number(&slip, block[c], width);
+        }
+        put_byte(&slip, '\n');
+    }
+    return slip;
+}
+
+/* ---- Stories */
+
+static void read_texts(const struct cases_host *host, size_t book_rows)
+{
+    struct text texts[4];
+    unsigned t;
+
+    for (t = 1; t <= TABLES; t++)
+        texts[t - 1] = text_of(&table_text[t]);
+    host->read(host->self, texts, book_rows);
+}
+
+/* A delivery, good or with faults, and what can be asked of its texts and of the book it leaves. */
+static void story_of_a_delivery(const struct cases_host *host)
+{
+    size_t faults = chance(35) ? 0 : chance(55) ? 1 : 2;
+    unsigned first = any_table();
+    unsigned t;
+
+    make_any_delivery();
+    for (t = 1; t <= TABLES; t++) {
+        order_rows(t);
+        make_sheet(t);
+        if (t == first && faults > 0)
+            make_faults(chance(70) ? faults : 1);
+        else if (faults > 1 && chance(30))
+            make_faults(1);
+        print_sheet();
+        if (faults > 0 && chance(5))
+            damage_bytes(&table_text[t]);
+    }
+    read_texts(host, BOOK_ROWS);
+    for (t = 1; t <= TABLES; t++)
+        ask_cells(host, t, t == first ? 6 : 1);
+    /* a refused reading leaves the empty book, which has little to ask */
+    if (used(rows_of_in(host->book(host->self), DEPOT)) > 0 || chance(15)) {
+        ask_all(host);
+        take_slips(host, below(4));
+    }
+}
+
+/* One fault at one place, each in its turn, so that none is left to luck: 3, 2 and 8 at every column of every table. */
+static void story_of_a_place(const struct cases_host *host, uint64_t turn)
+{
+    static const enum fault faults[] = {F_TWICE, F_MISSING, F_VALUE};
+    enum fault fault = faults[turn % 3];
+    unsigned meant = VEHICLE_TYPE;
+    uint64_t place = turn / 3 % (11 + 2 + 3 + 11);
+    unsigned t;
+
+    for (; place >= tables[meant].column_count; meant++)
+        place -= tables[meant].column_count;
+    make_delivery(8, 8, 8, 8);
+    for (t = 1; t <= TABLES; t++) {
+        make_sheet(t);
+        if (t == meant) {
+            unsigned c = (unsigned)place + 1;
+
+            if (cell_of(c) == MOST_CELLS)
+                insert_column_anywhere(c, raw_name(c));
+            meant_column = c;
+            make_fault(fault, sheet.lines > 1 ? between(1, sheet.lines - 1) : 0);
+            meant_column = 0;
+        }
+        print_sheet();
+    }
+    read_texts(host, BOOK_ROWS);
+    ask_cells(host, meant, 4);
+}
+
+/* Tables damaged by the byte alone. */
+static void story_of_bytes(const struct cases_host *host)
+{
+    unsigned first = any_table();
+    unsigned t;
+
+    make_any_delivery();
+    for (t = 1; t <= TABLES; t++) {
+        make_sheet(t);
+        print_sheet();
+        if (t == first || chance(10))
+            damage_bytes(&table_text[t]);
+    }
+    read_texts(host, BOOK_ROWS);
+    ask_cells(host, first, 8);
+}
+
+/* A text of few kinds of bytes behind a good header: quotes and line ends in all ways of standing together. */
+static void print_scribble(unsigned t)
+{
+    static const uint8_t letters[] = {'"', '"', '"', ';', ';', '\n', '\n', '\r', '1', '1', '7', 'a', 0xC3};
+    struct growing *text = &table_text[t];
+    size_t length = below(60);
+
+    make_sheet(t);
+    sheet.lines = 1;
+    print_sheet();
+    if (text->bytes[text->length - 1] != '\n')
+        put_byte(text, '\n');
+    for (; length > 0; length--)
+        put_byte(text, letters[below(sizeof letters)]);
+}
+
+static void story_of_scribbles(const struct cases_host *host)
+{
+    unsigned first = (unsigned)between(1, 3);
+    unsigned t;
+
+    make_delivery(2, 2, 2, 0);
+    for (t = 1; t <= TABLES; t++) {
+        if (t == first) {
+            print_scribble(t);
+        } else {
+            make_sheet(t);
+            print_sheet();
+        }
+    }
+    read_texts(host, BOOK_ROWS);
+    ask_cells(host, first, 12);
+}
+
+/* A run of slips on a book. */
+static void story_of_slips(const struct cases_host *host)
+{
+    if (chance(2)) /* few: the second reader takes its time over a full book */
+        make_full_delivery();
+    else
+        make_any_delivery();
+    make_book();
+    put_made_book(host);
+    ask_all(host);
+    take_slips(host, between(1, 6));
+}
+
+/* Tables at their size: 512 rows and more, texts at 65,536 bytes and over. */
+static void story_of_sizes(const struct cases_host *host)
+{
+    unsigned big = (unsigned)between(1, TABLES);
+    size_t rows = chance(30) ? 512 : chance(60) ? 513 : between(500, MOST_ROWS);
+    unsigned t;
+
+    make_any_delivery();
+    if (big < VEHICLE_BLOCK) {
+        make_keys(big, rows);
+        make_blocks(delivery.count[VEHICLE_BLOCK]);
+    } else {
+        make_delivery(30, 30, 30, rows);
+    }
+    for (t = 1; t <= TABLES; t++) {
+        order_rows(t);
+        make_sheet(t);
+        if (t == big && chance(40))
+            make_faults(1);
+        print_sheet();
+    }
+    read_texts(host, BOOK_ROWS);
+    ask_cells(host, big, 4);
+    ask_all(host);
+    take_slips(host, 1);
+}
+
+static void story_of_long_texts(const struct cases_host *host)
+{
+    static const size_t lengths[] = {65535, 65536, 65536, 65537, 65537, 65538, 66000, 100000};
+    unsigned first = any_table();
+    unsigned t;
+
+    make_any_delivery();
+    for (t = 1; t <= TABLES; t++) {
+        make_sheet(t);
+        if (t == first || chance(10)) {
+            if (chance(20))
+                make_faults(1);
+            pad_sheet(lengths[below(sizeof lengths / sizeof lengths[0])]);
+        }
+        print_sheet();
+    }
+    read_texts(host, BOOK_ROWS);
+    ask_cells(host, first, 3);
+    if (chance(50)) {
+        struct growing slip = make_long_slip(host->book(host->self));
+
+        host->slip(host->self, text_of(&slip), BOOK_ROWS, WORK_ROWS);
+        set_length(&slip, between(TEXT_LIMIT - 1, TEXT_LIMIT + 2));
+        host->slip(host->self, text_of(&slip), BOOK_ROWS, WORK_ROWS);
+    }
+}
+
+/* ---- Books that break the rule */
+
+/* Numbers at and past the ends of what columns take. */
+static uint64_t edge_number(size_t column)
+{
+    static const uint64_t edges[] = {0, 1, 2, 3, 99, 100, 99999, 100000, 999999, 1000000, 99999999, 100000000, 999999999,
+        1000000000, 4294967295u, 4294967296u, UINT64_MAX, (uint64_t)1 << 63};
+
+    if (chance(40))
+        return tables[VEHICLE_BLOCK].columns[column].most + below(2);
+    return edges[below(sizeof edges / sizeof edges[0])];
+}
+
+/* A used row of a table, or row 0 where there is none. */
+static size_t any_used(unsigned t)
+{
+    size_t n = used((const row *)rows_of(made_book, t));
+
+    return n == 0 ? 0 : below(n);
+}
+
+static void remove_row(unsigned t)
+{
+    row *rows = rows_of(made_book, t);
+    size_t n = used((const row *)rows);
+    size_t at = any_used(t);
+
+    if (n == 0)
+        return;
+    memmove(rows[at], rows[at + 1], (n - at - 1) * sizeof rows[0]);
+    memset(rows[n - 1], 0, sizeof rows[0]);
+}
+
+/* One break of the book rule, or now and then a change that keeps it. */
+static void break_book(void)
+{
+    unsigned t = chance(40) ? VEHICLE_BLOCK : (unsigned)between(1, TABLES);
+    row *rows = rows_of(made_book, t);
+    row *blocks = rows_of(made_book, VEHICLE_BLOCK);
+    size_t n = used((const row *)rows);
+    size_t one = any_used(t);
+    size_t other = any_used(t);
+    size_t block = any_used(VEHICLE_BLOCK);
+    size_t column = below(NUMBERS);
+    size_t unused = n < TABLE_ROWS ? between(n, TABLE_ROWS - 1) : n - 1;
+    row *keys = rows_of(made_book, (unsigned)between(1, 3));
+    uint64_t bit = (uint64_t)1 << below(64);
+    size_t referring = chance(50) ? B_TYPE : chance(50) ? B_DEP_STOP : B_ARR_STOP;
+
+    switch (below(14)) {
+    case 0: swap_rows(rows, one, other); break;
+    case 1: memcpy(rows[one], rows[other], sizeof rows[0]); break;
+    case 2: memset(rows[one], 0, sizeof rows[0]); break;
+    case 3: rows[unused][column] = chance(50) ? 1 : edge_number(column); break;
+    case 4: keys[other % 3][column < 2 ? 2 : column] = edge_number(0); break;
+    case 5: rows[one][column] = edge_number(column); break;
+    case 6: remove_row((unsigned)between(1, 3)); break;
+    case 7: blocks[block][referring] = below(60); break;
+    case 8: blocks[block][B_END] = blocks[block][B_BEGIN] - below(2); break;
+    case 9: blocks[block][column] = chance(50) ? below(10) : edge_number(column); break;
+    case 10: rows[one][0] = chance(50) ? 0 : 100; break;
+    case 11: swap_rows(rows, 0, n < TABLE_ROWS ? n : 0); break; /* the first row moves behind the last: a hole in front */
+    case 12: rows[one][1] = rows[other][1]; break;
+    default: if (chance(50)) rows[one][column] ^= bit; else rows[unused][column] ^= bit; break;
+    }
+}
+
+static void story_of_broken_books(const struct cases_host *host)
+{
+    static row whole[BOOK_ROWS];
+    struct growing slip;
+    size_t times;
+
+    if (chance(2)) /* few: the second reader takes its time over a full book */
+        make_full_delivery();
+    else
+        make_any_delivery();
+    make_book();
+    memcpy(whole, made_book, sizeof whole);
+    for (times = between(2, 6); times > 0; times--) {
+        memcpy(made_book, whole, sizeof whole);
+        slip = make_slip((const row *)made_book);
+        break_book();
+        if (chance(15))
+            break_book();
+        put_made_book(host);
+        ask_type(host, BOOK_ROWS);
+        ask_block(host, BOOK_ROWS);
+        ask_write(host, BOOK_ROWS);
+        if (chance(5))
+            set_length(&slip, chance(50) ? 0 : TEXT_LIMIT + 1);
+        host->slip(host->self, text_of(&slip), BOOK_ROWS, WORK_ROWS);
+    }
+}
+
+/* ---- Lent lengths */
+
+static size_t other_length(size_t right)
+{
+    const size_t lengths[] = {0, 1, right - 1, right + 1, right / 2, right * 2, 511, 513, 2047, 2049, 600};
+    size_t length;
+
+    do
+        length = lengths[below(sizeof lengths / sizeof lengths[0])];
+    while (length == right);
+    return length;
+}
+
+static void story_of_lengths(const struct cases_host *host)
+{
+    struct growing slip;
+    size_t book_rows = BOOK_ROWS;
+    size_t work_rows = WORK_ROWS;
+    unsigned t;
+
+    make_any_delivery();
+    make_book();
+    if (chance(20))
+        break_book();
+    put_made_book(host);
+    ask_type(host, other_length(BOOK_ROWS));
+    ask_block(host, other_length(BOOK_ROWS));
+    ask_write(host, other_length(BOOK_ROWS));
+    slip = make_slip(host->book(host->self));
+    if (chance(10))
+        set_length(&slip, TEXT_LIMIT + 1);
+    if (chance(60))
+        book_rows = other_length(BOOK_ROWS);
+    if (book_rows == BOOK_ROWS || chance(40))
+        work_rows = other_length(WORK_ROWS);
+    host->slip(host->self, text_of(&slip), book_rows, work_rows);
+    for (t = 1; t <= TABLES; t++) {
+        make_sheet(t);
+        if (chance(10))
+            make_faults(1);
+        print_sheet();
+    }
+    read_texts(host, other_length(BOOK_ROWS));
+}
+
+void cases_play(uint64_t seed, uint64_t number, const struct cases_host *host)
+{
+    enum { PLACES_EACH = 25 };
+    size_t dial;
+
+    dice = seed * 0xD1342543DE82EF95u + 1;
+    dice = roll() ^ number * 0x9E6C63D0876A9A47u;
+    roll();
+    main_version = chance(70) ? 1 : between(1, 99);
+    meant_column = 0;
+    if (number % PLACES_EACH == 0) {
+        story_of_a_place(host, number / PLACES_EACH);
+        return;
+    }
+    dial = below(1000);
+    if (dial < 430)
+        story_of_a_delivery(host);
+    else if (dial < 560)
+        story_of_bytes(host);
+    else if (dial < 680)
+        story_of_scribbles(host);
+    else if (dial < 840)
+        story_of_slips(host);
+    else if (dial < 920)
+        story_of_broken_books(host);
+    else if (dial < 960)
+        story_of_lengths(host);
+    else if (dial < 985)
+        story_of_long_texts(host);
+    else
+        story_of_sizes(host);
+}

@@ -1,0 +1,54 @@
+#include "columns.h"
+
+/* "vehicle_type: VERSION d2 K r; VEH_TYPE_NR d8 K r; VEH_TYPE_SEATS d3; .. VEH_TYPE_ACCESS_EQUIP d1, 0 to 2."
+ * "VERSION is 1 to 99 everywhere. A d column with no range named takes every number of its width, zero too." */
+static const struct column vehicle_type_columns[] = {
+    {"VERSION", NULL, 'd', 2, 1, 1, 99},
+    {"VEH_TYPE_NR", NULL, 'd', 8, 1, 0, 99999999},
+    {"VEH_TYPE_SEATS", NULL, 'd', 3, 0, 0, 999},
+    {"VEH_TYPE_STRAPS", NULL, 'd', 3, 0, 0, 999},
+    {"PLACES_FOR_DISABLED_PERSONS", "HANDICAP_PLACES", 'd', 3, 0, 0, 999},
+    {"VEH_TYPE_TEXT", NULL, 'c', 40, 0, 0, 0},
+    {"STR_VEH_TYPE", NULL, 'c', 4, 0, 0, 0},
+    {"VEH_TYPE_DOOR_WIDTH", NULL, 'd', 4, 0, 0, 9999},
+    {"VEH_TYPE_WIDTH", NULL, 'd', 4, 0, 0, 9999},
+    {"VEH_TYPE_HEIGHT", NULL, 'd', 4, 0, 0, 9999},
+    {"VEH_TYPE_ACCESS_EQUIP", NULL, 'd', 1, 0, 0, 2},
+};
+
+/* "depot: VERSION d2 K r; DEPOT_NR d5 K r." */
+static const struct column depot_columns[] = {
+    {"VERSION", NULL, 'd', 2, 1, 1, 99},
+    {"DEPOT_NR", NULL, 'd', 5, 1, 0, 99999},
+};
+
+/* "stop: VERSION d2 K r; STOP_NR d5 K r, 1 to 99999; STOP_NAME c50 r." */
+static const struct column stop_columns[] = {
+    {"VERSION", NULL, 'd', 2, 1, 1, 99},
+    {"STOP_NR", NULL, 'd', 5, 1, 1, 99999},
+    {"STOP_NAME", NULL, 'c', 50, 1, 0, 0},
+};
+
+/* "vehicle_block, all r: VERSION d2 K; DAY_TYPE_NR d9 K; DEPOT_NR d5 K; BLOCK_NR d8 K; VEH_TYP_NR d2; .. END_OF_BLOCK d6." */
+static const struct column vehicle_block_columns[] = {
+    {"VERSION", NULL, 'd', 2, 1, 1, 99},
+    {"DAY_TYPE_NR", NULL, 'd', 9, 1, 0, 999999999},
+    {"DEPOT_NR", NULL, 'd', 5, 1, 0, 99999},
+    {"BLOCK_NR", NULL, 'd', 8, 1, 0, 99999999},
+    {"VEH_TYP_NR", "VEH_TYPE_NR", 'd', 2, 1, 0, 99},
+    {"DEP_STOP_NR", NULL, 'd', 6, 1, 0, 999999},
+    {"DEP_STOPPING_POINT_NR", NULL, 'd', 2, 1, 0, 99},
+    {"BEGIN_OF_BLOCK", NULL, 'd', 6, 1, 0, 999999},
+    {"ARR_STOP_NR", NULL, 'd', 6, 1, 0, 999999},
+    {"ARR_STOPPING_POINT_NR", NULL, 'd', 2, 1, 0, 99},
+    {"END_OF_BLOCK", NULL, 'd', 6, 1, 0, 999999},
+};
+
+/* "Each table has its own number, column count and key width." */
+const struct table tables[TABLES + 1] = {
+    {NULL, 0, 0}, /* no table has the number 0 */
+    {vehicle_type_columns, 11, 2},
+    {depot_columns, 2, 2},
+    {stop_columns, 3, 2},
+    {vehicle_block_columns, 11, 4},
+};

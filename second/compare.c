@@ -1,0 +1,705 @@
+/* The host: plays cases on the library and on the second reader and compares every answer, place, book row, output byte
+ * and working area, and that nothing else was touched. */
+#include "cases.h"
+#include "columns.h"
+#include "edges.h"
+
+#include <inttypes.h>
+#include <signal.h>
+#include <stdio.h>
+#include <stdlib.h>
+#include <string.h>
+
+enum { DEFAULT_SEED = 1, DEFAULT_COUNT = 10000, WANTED_EACH = 20, SHOWN_FAILURES = 10, REFUSALS = 17, GUARD = 64 };
+
+/* The two sides of everything that is lent: 0 the library's, 1 the second reader's. */
+enum { SIDES = 2, SECOND = 1 };
+
+static const struct side *const sides[SIDES] = {&library_side, &second_side};
+
+static struct {
+    uint64_t seed, number; /* the case that is played */
+    uint64_t calls;        /* in this case */
+    uint64_t all_calls;
+    int failed; /* this case */
+    int shown;  /* failures so far */
+    int verbose;
+    row book[SIDES][BOOK_ROWS];     /* the standing book */
+    uint8_t other_bytes[3][140000]; /* the standing book's other tables, as texts */
+    struct text others[3];
+    uint64_t came[REFUSALS];
+    uint64_t came_at[REFUSALS][6][34]; /* by table and column */
+} host;
+
+/* ---- Printing */
+
+static void show_bytes(const uint8_t *bytes, size_t length)
+{
+    size_t i;
+
+    putchar('"');
+    for (i = 0; i < length; i++) {
+        if (bytes[i] == '\n')
+            printf(i + 1 < length ? "\\n\"\n      \"" : "\\n");
+        else if (bytes[i] == '\r')
+            printf("\\r");
+        else if (bytes[i] == '\t')
+            printf("\\t");
+        else if (bytes[i] == '"' || bytes[i] == '\\')
+            printf("\\%c", bytes[i]);
+        else if (bytes[i] >= 32 && bytes[i] < 127)
+            putchar(bytes[i]);
+        else
+            printf("\\%03o", bytes[i]);
+    }
+    printf("\"\n");
+}
+
+static void show_text(const char *name, struct text text)
+{
+    printf("    %s, %" PRIu64 " bytes:\n      ", name, (uint64_t)text.length);
+    show_bytes(text.bytes, text.length);
+}
+
+static void show_numbers(const char *name, const uint64_t *numbers, size_t count)
+{
+    size_t i;
+
+    printf("    %s:", name);
+    for (i = 0; i < count; i++)
+        printf(" %" PRIu64, numbers[i]);
+    putchar('\n');
+}
+
+/* The rows that are not all zero. */
+static void show_rows(const char *name, const row *rows, size_t count)
+{
+    static const row zeros;
+    size_t i;
+
+    printf("    %s, %" PRIu64 " rows, of them not zero:\n", name, (uint64_t)count);
+    for (i = 0; i < count; i++)
+        if (memcmp(rows[i], zeros, sizeof zeros) != 0) {
+            printf("  %5" PRIu64, (uint64_t)i);
+            show_numbers(" row", rows[i], NUMBERS);
+        }
+}
+
+/* ---- Comparing */
+
+static void begin_call(const char *what)
+{
+    host.calls++;
+    host.all_calls++;
+    if (host.verbose)
+        printf("call %" PRIu64 ": %s\n", host.calls, what);
+}
+
+static void fail(const char *what)
+{
+    host.failed = 1;
+    if (host.shown++ >= SHOWN_FAILURES && !host.verbose)
+        return;
+    printf("FAILED: seed %" PRIu64 ", case %" PRIu64 ", call %" PRIu64 ": %s\n", host.seed, host.number, host.calls, what);
+    if (!host.verbose)
+        printf("  its inputs: second/run --seed %" PRIu64 " --case %" PRIu64 "\n", host.seed, host.number);
+}
+
+static void want_same(const char *what, const void *one, const void *other, size_t length)
+{
+    if (memcmp(one, other, length) != 0)
+        fail(what);
+}
+
+/* Rows in place of bytes: the first that differs is shown. */
+static void want_same_rows(const char *what, const row *one, const row *other, size_t count)
+{
+    size_t i;
+
+    for (i = 0; i < count; i++)
+        if (memcmp(one[i], other[i], sizeof one[i]) != 0) {
+            fail(what);
+            if (host.verbose) {
+                printf("    row %" PRIu64 " is the first:\n", (uint64_t)i);
+                show_numbers(sides[0]->name, one[i], NUMBERS);
+                show_numbers(sides[1]->name, other[i], NUMBERS);
+            }
+            return;
+        }
+}
+
+static void want_zero(const char *what, const row *rows, size_t count)
+{
+    static const row zeros;
+    size_t i;
+
+    for (i = 0; i < count; i++)
+        want_same(what, rows[i], zeros, sizeof zeros);
+}
+
+/* What every call answers on each side. */
+struct answers {
+    uint64_t returned[SIDES];
+    uint64_t place[SIDES][4];
+    uint64_t numbers[SIDES][8];
+};
+
+/* Answers start as something that no call may leave. */
+static struct answers fresh_answers(void)
+{
+    struct answers answers;
+
+    memset(&answers, 0xAB, sizeof answers);
+    return answers;
+}
+
+static void count_refusal(const uint64_t place[4])
+{
+    if (place[0] >= REFUSALS)
+        return;
+    host.came[place[0]]++;
+    if (place[1] < 6 && place[3] < 34)
+        host.came_at[place[0]][place[1]][place[3]]++;
+}
+
+static void compare_answers(const struct answers *answers)
+{
+    int s;
+
+    count_refusal(answers->place[SECOND]);
+    if (host.verbose)
+        for (s = 0; s < SIDES; s++) {
+            printf("  %s returned %" PRIu64 "\n", sides[s]->name, answers->returned[s]);
+            show_numbers("place", answers->place[s], 4);
+            show_numbers("numbers", answers->numbers[s], 8);
+        }
+    want_same("the returned numbers differ", &answers->returned[0], &answers->returned[1], sizeof answers->returned[0]);
+    want_same("the places differ", answers->place[0], answers->place[1], sizeof answers->place[0]);
+    want_same("the numbers answered differ", answers->numbers[0], answers->numbers[1], sizeof answers->numbers[0]);
+    for (s = 0; s < SIDES; s++)
+        if (answers->returned[s] != answers->place[s][0])
+            fail("the returned number is not the place's");
+}
+
+/* ---- Rooms: memory of exactly the length that is lent, so that a checked build sees a step past its end */
+
+static void *room_of(size_t length)
+{
+    void *room = malloc(length ? length : 1);
+
+    if (!room) {
+        puts("no memory");
+        exit(2);
+    }
+    return room;
+}
+
+static void *copy_of(const void *from, size_t length)
+{
+    void *room = room_of(length);
+
+    memcpy(room, from, length);
+    return room;
+}
+
+static struct text copy_of_text(struct text text)
+{
+    struct text copy;
+
+    copy.bytes = copy_of(text.bytes, text.length);
+    copy.length = text.length;
+    return copy;
+}
+
+/* Frees a copy, after a look whether it is still what it was. */
+static void end_copy(const char *what, void *copy, const void *original, size_t length)
+{
+    want_same(what, copy, original, length);
+    free(copy);
+}
+
+static void end_text(struct text copy, struct text original)
+{
+    end_copy("an input text was changed", (void *)copy.bytes, original.bytes, original.length);
+}
+
+/* Garbage, the same for both sides: what a call may not rely on. */
+static void fill_with_garbage(row *room, size_t rows)
+{
+    uint64_t state = host.seed * 31 + host.number * 7 + host.calls;
+    size_t i, c;
+
+    for (i = 0; i < rows; i++)
+        for (c = 0; c < NUMBERS; c++) {
+            state = state * 6364136223846793005u + 1442695040888963407u;
+            room[i][c] = state >> (state & 1 ? 60 : 11);
+        }
+}
+
+/* A book to lend. Those of the right length are lent so often that they have a place of their own. */
+static row *open_book(int s, size_t rows)
+{
+    static row usual[SIDES][BOOK_ROWS];
+
+    return rows == BOOK_ROWS ? usual[s] : room_of(rows * sizeof usual[0][0]);
+}
+
+static void close_book(row *room, size_t rows)
+{
+    if (rows != BOOK_ROWS)
+        free(room);
+}
+
+/* The standing book of one side, lent at some length: cut short, or with zeros behind it. */
+static row *lend_book(int s, size_t rows)
+{
+    row *room = open_book(s, rows);
+    size_t kept = rows < BOOK_ROWS ? rows : BOOK_ROWS;
+
+    memset(room + kept, 0, (rows - kept) * sizeof room[0]);
+    memcpy(room, host.book[s], kept * sizeof room[0]);
+    return room;
+}
+
+/* Takes back a book that was lent for looking at. */
+static void end_looking(const char *what, row *room, int s, size_t rows)
+{
+    size_t kept = rows < BOOK_ROWS ? rows : BOOK_ROWS;
+
+    want_same(what, room, host.book[s], kept * sizeof room[0]);
+    want_zero(what, (const row *)room + kept, rows - kept);
+    close_book(room, rows);
+}
+
+/* ---- The calls */
+
+/* After a failure the two sides may hold different books, so the rest of the case would only repeat it. */
+static int is_over(void)
+{
+    return host.failed;
+}
+
+static void keep_others(const struct text others[3])
+{
+    size_t i;
+
+    for (i = 0; i < 3; i++) {
+        memcpy(host.other_bytes[i], others[i].bytes, others[i].length);
+        host.others[i].bytes = host.other_bytes[i];
+        host.others[i].length = others[i].length;
+    }
+}
+
+/* The other tables of the book that a refused reading leaves. */
+static void keep_empty_others(void)
+{
+    static const char *const headers[3] = {"VERSION;VEH_TYPE_NR\n", "VERSION;DEPOT_NR\n", "VERSION;STOP_NR;STOP_NAME\n"};
+    struct text others[3];
+    size_t i;
+
+    for (i = 0; i < 3; i++) {
+        others[i].bytes = (const uint8_t *)headers[i];
+        others[i].length = strlen(headers[i]);
+    }
+    keep_others(others);
+}
+
+static void call_read(void *self, const struct text texts[4], size_t book_rows)
+{
+    struct answers answers = fresh_answers();
+    row *books[SIDES];
+    size_t i;
+    int s;
+
+    (void)self;
+    if (is_over())
+        return;
+    begin_call("read");
+    if (host.verbose) {
+        show_text("vehicle_type", texts[0]);
+        show_text("depot", texts[1]);
+        show_text("stop", texts[2]);
+        show_text("vehicle_block", texts[3]);
+        printf("    into a book of %" PRIu64 " rows of garbage\n", (uint64_t)book_rows);
+    }
+    for (s = 0; s < SIDES; s++) {
+        struct text copies[4];
+
+        books[s] = open_book(s, book_rows);
+        fill_with_garbage(books[s], book_rows);
+        for (i = 0; i < 4; i++)
+            copies[i] = copy_of_text(texts[i]);
+        answers.returned[s] = side_read(sides[s], copies, books[s], book_rows, answers.place[s]);
+        for (i = 0; i < 4; i++)
+            end_text(copies[i], texts[i]);
+    }
+    compare_answers(&answers);
+    want_same_rows("the books read differ", (const row *)books[0], (const row *)books[1], book_rows);
+    for (s = 0; s < SIDES; s++) {
+        if (book_rows == BOOK_ROWS)
+            memcpy(host.book[s], books[s], sizeof host.book[s]);
+        close_book(books[s], book_rows);
+    }
+    if (book_rows != BOOK_ROWS)
+        return;
+    if (answers.returned[SECOND] == 0)
+        keep_others(texts);
+    else
+        keep_empty_others();
+}
+
+static void call_put_book(void *self, const row *book, const struct text others[3])
+{
+    int s;
+
+    (void)self;
+    if (is_over())
+        return;
+    if (host.verbose)
+        show_rows("from here on the standing book is", book, BOOK_ROWS);
+    for (s = 0; s < SIDES; s++)
+        memcpy(host.book[s], book, sizeof host.book[s]);
+    keep_others(others);
+}
+
+/* Whether the book that a slip left is the one that a fresh reading of its written blocks leaves, on this side. */
+static void compare_afresh(int s)
+{
+    static uint8_t written[40000];
+    static row afresh[BOOK_ROWS];
+    uint64_t place[4], length[1];
+    struct text texts[4];
+
+    if (sides[s]->write((const row *)host.book[s], BOOK_ROWS, written, sizeof written, length, place) != 0) {
+        fail("the book that a slip left is not written");
+        return;
+    }
+    memcpy(texts, host.others, sizeof host.others);
+    texts[3].bytes = written;
+    texts[3].length = (size_t)length[0];
+    if (side_read(sides[s], texts, afresh, BOOK_ROWS, place) != 0) {
+        fail("the blocks written after a slip are not read");
+        return;
+    }
+    want_same("the book after a slip is not that of reading it afresh", afresh, host.book[s], sizeof afresh);
+}
+
+static void call_slip(void *self, struct text slip, size_t book_rows, size_t work_rows)
+{
+    struct answers answers = fresh_answers();
+    row *books[SIDES];
+    row *works[SIDES];
+    int s;
+
+    (void)self;
+    if (is_over())
+        return;
+    begin_call("slip");
+    if (host.verbose) {
+        show_text("slip", slip);
+        show_rows("book", (const row *)host.book[SECOND], BOOK_ROWS);
+        printf("    lent: %" PRIu64 " rows of book, %" PRIu64 " of working area\n", (uint64_t)book_rows, (uint64_t)work_rows);
+    }
+    for (s = 0; s < SIDES; s++) {
+        struct text copy = copy_of_text(slip);
+
+        books[s] = lend_book(s, book_rows);
+        works[s] = room_of(work_rows * sizeof works[s][0]);
+        fill_with_garbage(works[s], work_rows);
+        answers.returned[s] = sides[s]->slip(copy.bytes, copy.length, books[s], book_rows, works[s], work_rows,
+            answers.place[s]);
+        end_text(copy, slip);
+    }
+    compare_answers(&answers);
+    want_same_rows("the books after a slip differ", (const row *)books[0], (const row *)books[1], book_rows);
+    want_same_rows("the working areas after a slip differ", (const row *)works[0], (const row *)works[1], work_rows);
+    for (s = 0; s < SIDES; s++) {
+        if (book_rows == BOOK_ROWS)
+            memcpy(host.book[s], books[s], sizeof host.book[s]);
+        close_book(books[s], book_rows);
+        free(works[s]);
+        if (!is_over() && answers.returned[s] == 0)
+            compare_afresh(s);
+    }
+}
+
+static void call_cell(void *self, struct text text, uint64_t table, uint64_t line, uint64_t column)
+{
+    struct answers answers = fresh_answers();
+    int s;
+
+    (void)self;
+    if (is_over())
+        return;
+    begin_call("cell");
+    if (host.verbose) {
+        show_text("text", text);
+        printf("    table %" PRIu64 ", line %" PRIu64 ", column %" PRIu64 "\n", table, line, column);
+    }
+    for (s = 0; s < SIDES; s++) {
+        struct text copy = copy_of_text(text);
+
+        answers.returned[s] = sides[s]->cell(copy.bytes, copy.length, table, line, column, answers.numbers[s],
+            answers.place[s]);
+        end_text(copy, text);
+    }
+    compare_answers(&answers);
+}
+
+static void call_type(void *self, size_t book_rows, uint64_t version, uint64_t number)
+{
+    struct answers answers = fresh_answers();
+    int s;
+
+    (void)self;
+    if (is_over())
+        return;
+    begin_call("type");
+    if (host.verbose)
+        printf("    version %" PRIu64 ", number %" PRIu64 ", %" PRIu64 " rows of book\n", version, number, (uint64_t)book_rows);
+    for (s = 0; s < SIDES; s++) {
+        row *book = lend_book(s, book_rows);
+
+        answers.returned[s] = sides[s]->type((const row *)book, book_rows, version, number, answers.numbers[s],
+            answers.place[s]);
+        end_looking("a type question changed the book", book, s, book_rows);
+    }
+    compare_answers(&answers);
+}
+
+static void call_block(void *self, size_t book_rows, const uint64_t key[4])
+{
+    struct answers answers = fresh_answers();
+    int s;
+
+    (void)self;
+    if (is_over())
+        return;
+    begin_call("block");
+    if (host.verbose) {
+        show_numbers("key", key, 4);
+        printf("    %" PRIu64 " rows of book\n", (uint64_t)book_rows);
+    }
+    for (s = 0; s < SIDES; s++) {
+        row *book = lend_book(s, book_rows);
+
+        answers.returned[s] = sides[s]->block((const row *)book, book_rows, key[0], key[1], key[2], key[3],
+            answers.numbers[s], answers.place[s]);
+        end_looking("a block question changed the book", book, s, book_rows);
+    }
+    compare_answers(&answers);
+}
+
+static void call_write(void *self, size_t book_rows, size_t out_length)
+{
+    struct answers answers = fresh_answers();
+    uint8_t *outs[SIDES];
+    int s;
+
+    (void)self;
+    if (is_over())
+        return;
+    begin_call("write");
+    if (host.verbose)
+        printf("    %" PRIu64 " rows of book, %" PRIu64 " bytes of output\n", (uint64_t)book_rows, (uint64_t)out_length);
+    for (s = 0; s < SIDES; s++) {
+        row *book = lend_book(s, book_rows);
+
+        outs[s] = room_of(out_length + GUARD);
+        memset(outs[s], 0xC7, out_length + GUARD);
+        answers.returned[s] = sides[s]->write((const row *)book, book_rows, outs[s], out_length, answers.numbers[s],
+            answers.place[s]);
+        end_looking("a writing changed the book", book, s, book_rows);
+    }
+    compare_answers(&answers);
+    want_same("the outputs differ", outs[0], outs[1], out_length + GUARD);
+    for (s = 0; s < SIDES; s++)
+        free(outs[s]);
+}
+
+static const row *standing_book(void *self)
+{
+    (void)self;
+    return (const row *)host.book[SECOND];
+}
+
+static const struct cases_host calls = {NULL, call_read, call_put_book, call_slip, call_cell, call_type, call_block,
+    call_write, standing_book};
+
+/* ---- Runs */
+
+static int play(uint64_t seed, uint64_t number)
+{
+    host.seed = seed;
+    host.number = number;
+    host.calls = 0;
+    host.failed = 0;
+    memset(host.book, 0, sizeof host.book);
+    keep_empty_others();
+    cases_play(seed, number, &calls);
+    return !host.failed;
+}
+
+/* A side that breaks off the process would take the name of its case with it. */
+static void tell_and_end(int reason)
+{
+    printf("FAILED: seed %" PRIu64 ", case %" PRIu64 ", call %" PRIu64 ": the process was ended (signal %d)\n", host.seed,
+        host.number, host.calls, reason);
+    exit(1);
+}
+
+static void print_counts(int places)
+{
+    size_t number, table, column;
+
+    puts("How often each number of refusal came:");
+    for (number = 0; number < REFUSALS; number++)
+        printf("%3" PRIu64 " %8" PRIu64 "\n", (uint64_t)number, host.came[number]);
+    if (!places)
+        return;
+    puts("And where (number, table, column):");
+    for (number = 1; number < REFUSALS; number++)
+        for (table = 0; table < 6; table++)
+            for (column = 0; column < 34; column++)
+                if (host.came_at[number][table][column])
+                    printf("%3" PRIu64 " %2" PRIu64 " %3" PRIu64 " %8" PRIu64 "\n", (uint64_t)number, (uint64_t)table,
+                        (uint64_t)column, host.came_at[number][table][column]);
+}
+
+/* The default run promises that each number comes often enough. */
+static int counts_are_enough(void)
+{
+    int enough = 1;
+    size_t number;
+
+    for (number = 0; number < REFUSALS; number++)
+        if (host.came[number] < WANTED_EACH) {
+            printf("FAILED: number %" PRIu64 " came fewer than %d times\n", (uint64_t)number, WANTED_EACH);
+            enough = 0;
+        }
+    return enough;
+}
+
+static int came_at(uint64_t number, uint64_t table, uint64_t column)
+{
+    if (host.came_at[number][table][column] > 0)
+        return 1;
+    printf("FAILED: number %" PRIu64 " never came at table %" PRIu64 ", column %" PRIu64 "\n", number, table, column);
+    return 0;
+}
+
+/* And at every place where it can arise: the tables, and the columns where a column is named. */
+static int places_are_enough(void)
+{
+    static const uint64_t without_column[] = {1, 4, 5, 7, 9};
+    static const uint64_t referring[] = {3, 5, 6, 9};
+    const uint64_t slip = TABLES + 1;
+    int enough = 1;
+    uint64_t t, c;
+    size_t i;
+
+    for (t = 1; t <= TABLES; t++) {
+        for (i = 0; i < 5; i++)
+            enough &= came_at(without_column[i], t, 0);
+        for (c = 1; c <= tables[t].column_count; c++) {
+            enough &= came_at(3, t, c) & came_at(6, t, c) & came_at(8, t, c);
+            if (tables[t].columns[c - 1].required)
+                enough &= came_at(2, t, c);
+        }
+    }
+    for (c = 1; c <= NUMBERS; c++)
+        enough &= came_at(8, slip, c);
+    for (t = VEHICLE_BLOCK; t <= slip; t++) {
+        enough &= came_at(11, t, 11);
+        for (i = 0; i < 4; i++)
+            enough &= came_at(10, t, referring[i]);
+    }
+    return enough & came_at(1, slip, 0) & came_at(5, slip, 0) & came_at(9, slip, 0) & came_at(12, slip, 0)
+        & came_at(13, slip, 0);
+}
+
+struct options {
+    uint64_t seed, count, number;
+    int chosen, single, places;
+};
+
+static int usage(void)
+{
+    puts("compare [--seed N] [--count N] [--places]   plays that many cases of that seed");
+    puts("compare --seed N --case K                   plays one case and prints what it hands in and gets");
+    return 2;
+}
+
+/* Whether the words were understood. */
+static int take_options(struct options *options, int words, char **word)
+{
+    int i;
+
+    for (i = 1; i < words; i++) {
+        uint64_t *number = NULL;
+        char *end;
+
+        if (strcmp(word[i], "--places") == 0) {
+            options->places = 1;
+            continue;
+        }
+        if (strcmp(word[i], "--seed") == 0)
+            number = &options->seed;
+        else if (strcmp(word[i], "--count") == 0)
+            number = &options->count;
+        else if (strcmp(word[i], "--case") == 0)
+            number = &options->number;
+        if (!number || i + 1 == words)
+            return 0;
+        *number = strtoull(word[++i], &end, 10);
+        if (*word[i] == 0 || *end != 0)
+            return 0;
+        options->chosen = 1;
+        options->single |= number == &options->number;
+    }
+    return 1;
+}
+
+int main(int words, char **word)
+{
+    struct options options = {DEFAULT_SEED, DEFAULT_COUNT, 0, 0, 0, 0};
+    size_t passed = 0;
+    size_t failed = 0;
+    uint64_t k;
+
+    if (!take_options(&options, words, word))
+        return usage();
+    signal(SIGSEGV, tell_and_end);
+    signal(SIGABRT, tell_and_end);
+    signal(SIGILL, tell_and_end);
+    signal(SIGFPE, tell_and_end);
+    if (options.single) {
+        host.verbose = 1;
+        if (play(options.seed, options.number))
+            passed++;
+        else
+            failed++;
+    } else {
+        edges_run(&second_side, &passed, &failed);
+        edges_run(&library_side, &passed, &failed);
+        for (k = 0; k < options.count; k++)
+            if (play(options.seed, k))
+                passed++;
+            else
+                failed++;
+        print_counts(options.places);
+        if (!options.chosen) {
+            if (counts_are_enough())
+                passed++;
+            else
+                failed++;
+            if (places_are_enough())
+                passed++;
+            else
+                failed++;
+        }
+        printf("%" PRIu64 " calls on %s and %s\n", host.all_calls, library_side.name, second_side.name);
+    }
+    printf("%" PRIu64 " passed, %" PRIu64 " failed\n", (uint64_t)passed, (uint64_t)failed);
+    return failed != 0;
+}

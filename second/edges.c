@@ -1,0 +1,898 @@
+#include "edges.h"
+
+#include <inttypes.h>
+#include <stdio.h>
+#include <stdlib.h>
+#include <string.h>
+
+/* A string literal as a text; bytes 0 may stand in it. */
+#define T(s) {(const uint8_t *)(s), sizeof(s) - 1}
+
+/* ---- The whole case of document 01 */
+
+#define TYPES "VERSION;VEH_TYPE_NR;VEH_TYPE_TEXT\n1;4;\"solo; low floor\"\n1;7;\"joint \"\"old\"\"\"\n"
+#define DEPOTS "VERSION;DEPOT_NR\n1;3\n"
+#define STOPS "VERSION;STOP_NR;STOP_NAME\n1;20;Yard\n1;31;Mill\n"
+#define BLOCK_HEADER                                                                                                       \
+    "VERSION;DAY_TYPE_NR;DEPOT_NR;BLOCK_NR;VEH_TYP_NR;DEP_STOP_NR;DEP_STOPPING_POINT_NR;BEGIN_OF_BLOCK;ARR_STOP_NR;"       \
+    "ARR_STOPPING_POINT_NR;END_OF_BLOCK\n"
+#define BLOCK_101 "1;5;3;101;4;20;1;18000;31;2;46800\n"
+#define BLOCK_102 "1;5;3;102;7;31;2;21600;20;1;25201\n"
+#define BLOCK_6_101 "1;6;3;101;4;20;1;80000;20;1;90000\n"
+#define BLOCK_ROWS BLOCK_101 BLOCK_102 BLOCK_6_101
+#define BLOCKS BLOCK_HEADER BLOCK_ROWS
+
+static const struct text whole_case[4] = {T(TYPES), T(DEPOTS), T(STOPS), T(BLOCKS)};
+
+/* ---- Readings: the whole case with one of its texts replaced */
+
+struct reading_edge {
+    const char *words;
+    unsigned table;
+    struct text text;
+    uint64_t number, line, column; /* the place's table is `table` where the number is not 0 */
+};
+
+#define D "VERSION;DEPOT_NR\n"
+#define S "VERSION;STOP_NR;STOP_NAME\n"
+#define V "VERSION;VEH_TYPE_NR;"
+#define TWO_TYPES "1;4;\n1;7;\n"
+#define TEN "0123456789"
+#define TEN_CELLS ";;;;;;;;;;"
+
+static const struct reading_edge reading_edges[] = {
+    {"whole case", 1, T(TYPES), 0, 0, 0},
+    /* At the edges */
+    {"d2 07 passes", 2, T(D "07;3\n1;3\n"), 0, 0, 0},
+    {"d2 100", 2, T(D "100;3\n"), 8, 2, 1},
+    {"d2 100 in a block", 4, T(BLOCK_HEADER "1;5;3;101;100;20;1;18000;31;2;46800\n"), 8, 2, 5},
+    {"d2 empty", 2, T(D ";3\n"), 8, 2, 1},
+    {"d2 quoted 12 passes", 2, T(D "\"12\";3\n1;3\n"), 0, 0, 0},
+    {"text a\"b", 3, T(S "1;20;a\"b\n"), 6, 2, 3},
+    {"text \"a\"\"b\" fits c4", 1, T(V "STR_VEH_TYPE\n1;4;\"a\"\"b\"\n1;7;\n"), 0, 0, 0},
+    {"text of 5 with a doubled quote is over c4", 1, T(V "STR_VEH_TYPE\n1;4;\"a\"\"bcd\"\n1;7;\n"), 8, 2, 7},
+    {"text \"a", 3, T(S "1;20;\"a\n"), 6, 2, 3},
+    {"ACCESS_EQUIP 2", 1, T(V "VEH_TYPE_ACCESS_EQUIP\n1;4;2\n1;7;0\n"), 0, 0, 0},
+    {"ACCESS_EQUIP 3", 1, T(V "VEH_TYPE_ACCESS_EQUIP\n1;4;3\n"), 8, 2, 11},
+    {"END equal to BEGIN", 4, T(BLOCK_HEADER "1;5;3;101;4;20;1;500;31;2;500\n"), 0, 0, 0},
+    {"END one below", 4, T(BLOCK_HEADER "1;5;3;101;4;20;1;500;31;2;499\n"), 11, 2, 11},
+    {"STOP_NR 0", 3, T(S "1;0;Yard\n"), 8, 2, 2},
+    {"DEP_STOP_NR 100000", 4, T(BLOCK_HEADER "1;5;3;101;4;100000;1;18000;31;2;46800\n"), 10, 2, 6},
+    {"keys 1;07 and 1;7", 1, T(V "\n1;07;\n1;7;\n"), 9, 3, 0},
+    {"length 0, table 1", 1, T(""), 2, 1, 1},
+    {"length 0, table 2", 2, T(""), 2, 1, 1},
+    {"length 0, table 3", 3, T(""), 2, 1, 1},
+    {"length 0, table 4", 4, T(""), 2, 1, 1},
+    /* Easy to get wrong */
+    {"columns by name, not by position", 2, T("DEPOT_NR;VERSION\n3;1\n"), 0, 0, 0},
+    {"columns by position would find the depot", 2, T("DEPOT_NR;VERSION\n1;3\n"), 10, 2, 3},
+    {"semicolon inside quotes", 3, T(S "1;20;\"Ya;rd\"\n1;31;\";\"\n"), 0, 0, 0},
+    {"an earlier 10 before a later 8", 4, T(BLOCK_HEADER "1;5;3;101;4;20;1;18000;99;2;46800\nx;5;3;102;4;20;1;1;31;2;2\n"),
+        10, 2, 9},
+    /* Lines and carriage returns */
+    {"A-01 CR at the end of the text", 2, T(D "1;3\r"), 6, 2, 2},
+    {"A-01 CR at the end of a header", 2, T("VERSION;DEPOT_NR\r"), 6, 1, 2},
+    {"A-02 two CRs", 2, T(D "1;3\r\r\n"), 6, 2, 2},
+    {"CR LF everywhere", 2, T("VERSION;DEPOT_NR\r\n1;3\r\n"), 0, 0, 0},
+    {"no last line feed", 2, T(D "1;3"), 0, 0, 0},
+    {"CR inside a line", 2, T(D "1\r;3\n"), 6, 2, 1},
+    {"A-04 blank line", 2, T(D "1;3\n\n"), 7, 3, 0},
+    {"A-04 blank line with CR", 2, T(D "1;3\n\r\n"), 7, 3, 0},
+    {"A-04 blank line first", 2, T(D "\n1;3\n"), 7, 2, 0},
+    {"A-05 line feed alone", 2, T("\n"), 2, 1, 1},
+    {"A-05 CR LF alone", 2, T("\r\n"), 2, 1, 1},
+    {"A-05 CR alone", 2, T("\r"), 6, 1, 1},
+    {"A-05 blank header before a good one", 2, T("\n" D "1;3\n"), 2, 1, 1},
+    {"A-07 byte order mark", 2, T("\xEF\xBB\xBF" D "1;3\n"), 2, 1, 1},
+    /* Order in the header */
+    {"A-09 quote fault in cell 34", 2, T("VERSION;DEPOT_NR;" TEN_CELLS TEN_CELLS TEN_CELLS ";a\"b\n"), 6, 1, 34},
+    {"A-09 byte fault before a column twice", 2, T("VERSION;VERSION;\x1F\n"), 6, 1, 3},
+    {"34 cells", 2, T("VERSION;DEPOT_NR;" TEN_CELLS TEN_CELLS TEN_CELLS ";\n1;3\n"), 4, 1, 0},
+    {"33 cells, one of them twice, one missing", 2, T("VERSION;VERSION" TEN_CELLS TEN_CELLS TEN_CELLS ";\n"), 4, 1, 0},
+    {"32 cells", 2,
+        T("VERSION;DEPOT_NR" TEN_CELLS TEN_CELLS TEN_CELLS "\n1;3" TEN_CELLS TEN_CELLS TEN_CELLS "\n"), 0, 0, 0},
+    {"A-10 leftmost repeat", 3, T("STOP_NAME;STOP_NR;STOP_NAME;STOP_NR;VERSION\n"), 3, 1, 3},
+    {"A-10 leftmost repeat, not the first seen", 3, T("STOP_NAME;STOP_NR;STOP_NR;STOP_NAME;VERSION\n"), 3, 1, 2},
+    {"3 before 2", 3, T("STOP_NAME;STOP_NAME\n"), 3, 1, 3},
+    {"A-11 both spellings", 1, T(V "HANDICAP_PLACES;PLACES_FOR_DISABLED_PERSONS\n"), 3, 1, 5},
+    {"A-11 the other one twice", 1, T(V "HANDICAP_PLACES;HANDICAP_PLACES\n"), 3, 1, 5},
+    {"A-11 the other one", 1, T(V "HANDICAP_PLACES\n1;4;12\n1;7;\n"), 0, 0, 0},
+    {"A-11 the other one's width", 1, T(V "HANDICAP_PLACES\n1;4;1234\n"), 8, 2, 5},
+    {"A-11 both spellings of the block's type", 4, T("VEH_TYPE_NR;" BLOCK_HEADER), 3, 1, 5},
+    {"A-11 VEH_TYP_NR is no column of vehicle_type", 1, T(V "VEH_TYP_NR;VEH_TYP_NR\n1;4;a;b\n1;7;;\n"), 0, 0, 0},
+    {"A-11 HANDICAP_PLACES is no column of depot", 2, T("VERSION;DEPOT_NR;HANDICAP_PLACES;HANDICAP_PLACES\n1;3;a;b\n"), 0,
+        0, 0},
+    {"A-11 VEH_TYPE_NR in blocks", 4,
+        T("VERSION;DAY_TYPE_NR;DEPOT_NR;BLOCK_NR;VEH_TYPE_NR;DEP_STOP_NR;DEP_STOPPING_POINT_NR;BEGIN_OF_BLOCK;ARR_STOP_NR;"
+          "ARR_STOPPING_POINT_NR;END_OF_BLOCK\n" BLOCK_101),
+        0, 0, 0},
+    {"A-12 lowest missing", 4,
+        T("ARR_STOPPING_POINT_NR;VERSION;DAY_TYPE_NR;DEPOT_NR;BLOCK_NR;DEP_STOP_NR;DEP_STOPPING_POINT_NR;END_OF_BLOCK\n"),
+        2, 1, 5},
+    {"A-12 optional ones never count", 1, T("VEH_TYPE_NR;VERSION\n4;1\n7;1\n"), 0, 0, 0},
+    {"2 in stop: the name", 3, T("VERSION;STOP_NR\n"), 2, 1, 3},
+    /* Order in a line */
+    {"A-14 by column number, not by place", 2, T("DEPOT_NR;VERSION\nx;x\n"), 8, 2, 1},
+    {"A-14 6 in a cell past the header's count", 2, T(D "1;3;4;a\"b\n"), 6, 2, 4},
+    {"6 before an earlier cell's 8", 2, T(D "x;\"3\n"), 6, 2, 2},
+    {"7 before 8", 2, T(D "x\n"), 7, 2, 0},
+    {"one cell too many, an empty one", 2, T(D "1;3;\n"), 7, 2, 0},
+    {"A-15 bad optional cell", 1, T(V "VEH_TYPE_SEATS\n1;4;x\n"), 8, 2, 3},
+    {"A-15 unknown columns take anything", 1, T(V "X;\n1;4;x;-1\n1;7;\"\";\"a;\"\"b\"\n"), 0, 0, 0},
+    {"11 before 9", 4, T(BLOCK_HEADER BLOCK_101 "1;5;3;101;4;20;1;500;31;2;499\n"), 11, 3, 11},
+    {"A-16 9 before 10", 4, T(BLOCK_HEADER BLOCK_101 "1;5;3;101;4;99;1;500;31;2;500\n"), 9, 3, 0},
+    {"8 in END before 11", 4, T(BLOCK_HEADER "1;5;3;101;4;20;1;500;31;2;\n"), 8, 2, 11},
+    {"11 before 10", 4, T(BLOCK_HEADER "1;5;9;101;4;20;1;500;31;2;499\n"), 11, 2, 11},
+    {"A-17 unknown version", 4, T(BLOCK_HEADER "2;5;3;101;4;20;1;500;31;2;500\n"), 10, 2, 3},
+    {"A-17 type compared by value", 1, T(V "\n01;00000004;\n1;7;\n"), 0, 0, 0},
+    {"10 at column 5", 4, T(BLOCK_HEADER "1;5;3;101;5;99;1;500;99;2;500\n"), 10, 2, 5},
+    {"10 at column 6", 4, T(BLOCK_HEADER "1;5;3;101;4;99;1;500;99;2;500\n"), 10, 2, 6},
+    {"10 at column 9", 4, T(BLOCK_HEADER "1;5;3;101;4;20;1;500;0;2;500\n"), 10, 2, 9},
+    {"same key but for one number", 4,
+        T(BLOCK_HEADER "1;5;3;101;4;20;1;1;31;2;1\n1;5;3;100;4;20;1;1;31;2;1\n1;4;3;101;4;20;1;1;31;2;1\n"), 0, 0, 0},
+    /* Quotes and cells */
+    {"A-18 quoted names", 2, T("\"VERSION\";\"DEPOT_NR\"\n1;3\n"), 0, 0, 0},
+    {"A-18 quoted and bare is twice", 2, T("\"VERSION\";DEPOT_NR;VERSION\n1;3;1\n"), 3, 1, 1},
+    {"A-18 blank before a name", 2, T(" VERSION;DEPOT_NR\n1;3\n"), 2, 1, 1},
+    {"A-18 small letters", 2, T("version;DEPOT_NR\n1;3\n"), 2, 1, 1},
+    {"A-18 a doubled quote in a name", 2, T("\"VER\"\"SION\";DEPOT_NR\n1;3\n"), 2, 1, 1},
+    {"A-19 blank before a quote", 3, T(S "1;20; \"a\"\n"), 6, 2, 3},
+    {"A-20 three quotes", 3, T(S "1;20;\"\"\"\n"), 6, 2, 3},
+    {"A-20 four quotes", 3, T(S "1;20;\"\"\"\"\n1;31;a\n"), 0, 0, 0},
+    {"A-21 something behind the closing quote", 3, T(S "1;20;\"a\"b\n"), 6, 2, 3},
+    {"A-21 CR behind the closing quote at the end", 3, T(S "1;31;a\n1;20;\"a\"\r"), 6, 3, 3},
+    {"A-21 CR LF behind the closing quote", 3, T(S "1;31;a\n1;20;\"a\"\r\n"), 0, 0, 0},
+    {"A-22 doubled quote in a number", 2, T(D "1;\"1\"\"2\"\n"), 8, 2, 2},
+    {"A-23 007", 2, T(D "007;3\n"), 8, 2, 1},
+    {"A-23 00003 in d5", 2, T(D "01;00003\n"), 0, 0, 0},
+    {"A-23 000003 in d5", 2, T(D "1;000003\n"), 8, 2, 2},
+    {"sign", 2, T(D "1;+3\n"), 8, 2, 2},
+    {"blank in a number", 2, T(D "1; 3\n"), 8, 2, 2},
+    {"VERSION 0", 2, T(D "0;3\n"), 8, 2, 1},
+    {"VERSION 00", 3, T(S "00;3;a\n"), 8, 2, 1},
+    {"VERSION 99", 2, T(D "99;99999\n1;3\n"), 0, 0, 0},
+    {"DEPOT_NR 0", 2, T(D "1;0\n1;3\n"), 0, 0, 0},
+    {"STOP_NR 99999", 3, T(S "1;99999;a\n1;20;a\n1;31;a\n"), 0, 0, 0},
+    {"A-24 c50 with 50", 3, T(S "1;20;" TEN TEN TEN TEN TEN "\n1;31; \n"), 0, 0, 0},
+    {"A-24 c50 with 51", 3, T(S "1;20;" TEN TEN TEN TEN TEN "x\n"), 8, 2, 3},
+    {"A-24 c50 with 50, two doubled", 3, T(S "1;20;\"" TEN TEN TEN TEN "\"\"345678\"\"01\"\n1;31;a\n"), 0, 0, 0},
+    {"A-24 c50 with 26 letters of two bytes", 3,
+        T(S "1;20;" "\xC3\xA4\xC3\xA4\xC3\xA4\xC3\xA4\xC3\xA4" "\xC3\xA4\xC3\xA4\xC3\xA4\xC3\xA4\xC3\xA4"
+                    "\xC3\xA4\xC3\xA4\xC3\xA4\xC3\xA4\xC3\xA4" "\xC3\xA4\xC3\xA4\xC3\xA4\xC3\xA4\xC3\xA4"
+                    "\xC3\xA4\xC3\xA4\xC3\xA4\xC3\xA4\xC3\xA4" "\xC3\xA4\n"),
+        8, 2, 3},
+    {"STOP_NAME empty", 3, T(S "1;20;\n"), 8, 2, 3},
+    {"STOP_NAME empty in quotes", 3, T(S "1;20;\"\"\n"), 8, 2, 3},
+    {"optional empty in quotes", 1, T(V "VEH_TYPE_SEATS\n1;4;\"\"\n1;7;\n"), 0, 0, 0},
+    {"A-25 tab inside quotes of an unknown column", 2, T("VERSION;DEPOT_NR;X\n1;3;\"a\tb\"\n"), 6, 2, 3},
+    {"A-25 byte 0", 3, T(S "1;20;a\0b\n"), 6, 2, 3},
+    {"A-25 byte 31", 3, T(S "1;20;\x1F\n"), 6, 2, 3},
+    {"A-25 byte 127", 3, T(S "1;20;\x7F\n"), 6, 2, 3},
+    {"A-25 byte 127 in a header", 3, T("VERSION;STOP_NR;STOP_NAME;\x7F\n"), 6, 1, 4},
+    {"bytes 128 and 255", 3, T(S "1;20;\x80\n1;31;\xFF\n"), 0, 0, 0},
+    {"A-26 line feed inside quotes", 3, T(S "1;20;\"Ya\nrd\"\n"), 6, 2, 3},
+    {"A-26 in a header", 3, T("VERSION;\"STOP_NR\nSTOP_NAME\"\n"), 6, 1, 2},
+    /* Tables without rows */
+    {"no blocks", 4, T(BLOCK_HEADER), 0, 0, 0},
+    {"no depots: the first block's 10", 2, T("VERSION;DEPOT_NR"), 10, 2, 3},
+};
+
+/* ---- Slips on the whole case */
+
+struct slip_edge {
+    const char *words;
+    struct text slip;
+    uint64_t number, line, column;
+    const char *rows; /* the rows that are written afterwards */
+};
+
+#define WHOLE_SLIP "R\t1\t5\t3\t102\t4\t31\t2\t21600\t20\t1\t25200\nD\t1\t6\t3\t101\n"
+#define D_101 "D\t1\t5\t3\t101\n"
+#define D_102 "D\t1\t5\t3\t102\n"
+#define D_6_101 "D\t1\t6\t3\t101\n"
+#define A_REST "\t7\t20\t0\t0\t20\t99\t999999\n"
+#define A_101 "A\t1\t5\t3\t101" A_REST
+#define R_101 "R\t1\t5\t3\t101" A_REST
+#define ROW_101_NEW "1;5;3;101;7;20;0;0;20;99;999999\n"
+#define A_103 "A\t1\t5\t3\t103" A_REST
+
+static const struct slip_edge slip_edges[] = {
+    {"whole case's slip", T(WHOLE_SLIP), 0, 0, 0, BLOCK_101 "1;5;3;102;4;31;2;21600;20;1;25200\n"},
+    {"A-38 empty slip", T(""), 0, 0, 0, BLOCK_ROWS},
+    {"A-38 blank line", T("\n"), 12, 1, 0, BLOCK_ROWS},
+    {"A-38 blank line behind", T(D_101 "\n"), 12, 2, 0, BLOCK_ROWS},
+    {"last line without line feed", T("D\t1\t5\t3\t101"), 0, 0, 0, BLOCK_102 BLOCK_6_101},
+    {"A-39 CR", T("D\t1\t5\t3\t101\r\n"), 8, 1, 4, BLOCK_ROWS},
+    {"A-39 CR in column 11", T("R\t1\t5\t3\t101\t7\t20\t0\t0\t20\t99\t1\r\n"), 8, 1, 11, BLOCK_ROWS},
+    {"A-39 lone CR", T("\r\n"), 12, 1, 0, BLOCK_ROWS},
+    {"A-39 CR behind the kind", T("D\r\n"), 12, 1, 0, BLOCK_ROWS},
+    {"A-39 CR behind the kind, five fields", T("D\r\t1\t5\t3\t101\n"), 12, 1, 0, BLOCK_ROWS},
+    {"A-40 trailing tab", T("D\t1\t5\t3\t101\t\n"), 12, 1, 0, BLOCK_ROWS},
+    {"A-40 A with 11 fields", T("A\t1\t5\t3\t103\t7\t20\t0\t0\t20\t99\n"), 12, 1, 0, BLOCK_ROWS},
+    {"A-40 R with 13 fields", T("R\t1\t5\t3\t101\t7\t20\t0\t0\t20\t99\t1\t1\n"), 12, 1, 0, BLOCK_ROWS},
+    {"A-40 D with 12 fields", T("D\t1\t5\t3\t101\t7\t20\t0\t0\t20\t99\t1\n"), 12, 1, 0, BLOCK_ROWS},
+    {"A-40 D alone", T("D\n"), 12, 1, 0, BLOCK_ROWS},
+    {"A-40 a", T("a\t1\t5\t3\t103" A_REST), 12, 1, 0, BLOCK_ROWS},
+    {"A-40 AA", T("AA\t1\t5\t3\t103" A_REST), 12, 1, 0, BLOCK_ROWS},
+    {"A-40 blank A", T(" A\t1\t5\t3\t103" A_REST), 12, 1, 0, BLOCK_ROWS},
+    {"A-40 quoted A", T("\"A\"\t1\t5\t3\t103" A_REST), 12, 1, 0, BLOCK_ROWS},
+    {"A-40 no kind", T("\t1\t5\t3\t101\n"), 12, 1, 0, BLOCK_ROWS},
+    {"semicolons", T("D;1;5;3;101\n"), 12, 1, 0, BLOCK_ROWS},
+    {"A-42 fields count from the one behind the kind", T("A\tx\tx\tx\tx\tx\tx\tx\tx\tx\tx\tx\n"), 8, 1, 1, BLOCK_ROWS},
+    {"A-42 column 8", T("A\t1\t5\t3\t103\t7\t20\t0\tx\t20\t99\t1\n"), 8, 1, 8, BLOCK_ROWS},
+    {"A: 8 before 11", T("A\t1\t5\t3\t103\t7\t20\t0\t1\t20\t999\t0\n"), 8, 1, 10, BLOCK_ROWS},
+    {"A: 11 before 9", T("A\t1\t5\t3\t101\t7\t20\t0\t1\t20\t99\t0\n"), 11, 1, 11, BLOCK_ROWS},
+    {"A: 9 before 10", T("A\t1\t5\t3\t101\t8\t20\t0\t1\t20\t99\t1\n"), 9, 1, 0, BLOCK_ROWS},
+    {"A: 10 at column 3 first", T("A\t1\t5\t4\t101\t8\t99\t0\t1\t99\t99\t1\n"), 10, 1, 3, BLOCK_ROWS},
+    {"A: 10 at column 5", T("A\t1\t5\t3\t103\t8\t99\t0\t1\t99\t99\t1\n"), 10, 1, 5, BLOCK_ROWS},
+    {"A: DEP_STOP_NR 100000", T("A\t1\t5\t3\t103\t7\t100000\t0\t1\t99\t99\t1\n"), 10, 1, 6, BLOCK_ROWS},
+    {"A: 10 at column 9", T("A\t1\t5\t3\t103\t7\t20\t0\t1\t0\t99\t1\n"), 10, 1, 9, BLOCK_ROWS},
+    {"A: DEP_STOP_NR of 7 digits", T("A\t1\t5\t3\t103\t7\t0000020\t0\t1\t20\t99\t1\n"), 8, 1, 6, BLOCK_ROWS},
+    {"R: 11 before 13", T("R\t1\t5\t3\t103\t7\t20\t0\t1\t20\t99\t0\n"), 11, 1, 11, BLOCK_ROWS},
+    {"R: 13 before 10", T("R\t1\t5\t3\t103\t8\t20\t0\t1\t20\t99\t1\n"), 13, 1, 0, BLOCK_ROWS},
+    {"R: unknown version is 13", T("R\t2\t5\t3\t101\t4\t20\t0\t1\t20\t99\t1\n"), 13, 1, 0, BLOCK_ROWS},
+    {"A-43 R: 10 at column 5", T("R\t1\t5\t3\t101\t8\t99\t0\t1\t99\t99\t1\n"), 10, 1, 5, BLOCK_ROWS},
+    {"A-43 R: 10 at column 6", T("R\t1\t5\t3\t101\t4\t99\t0\t1\t99\t99\t1\n"), 10, 1, 6, BLOCK_ROWS},
+    {"A-43 R: 10 at column 9", T("R\t1\t5\t3\t101\t4\t20\t0\t1\t99\t99\t1\n"), 10, 1, 9, BLOCK_ROWS},
+    {"D: 8 before 13", T("D\t1\t5\t3\tx\n"), 8, 1, 4, BLOCK_ROWS},
+    {"D: 13", T("D\t1\t5\t3\t103\n"), 13, 1, 0, BLOCK_ROWS},
+    {"D: version 0", T("D\t0\t0\t0\t0\n"), 8, 1, 1, BLOCK_ROWS},
+    {"A-45 delete, then add the same", T(D_101 A_101), 0, 0, 0, ROW_101_NEW BLOCK_102 BLOCK_6_101},
+    {"A-45 delete, then replace", T(D_101 R_101), 13, 2, 0, BLOCK_ROWS},
+    {"A-45 delete twice", T(D_101 D_101), 13, 2, 0, BLOCK_ROWS},
+    {"A-45 add twice", T(A_103 A_103), 9, 2, 0, BLOCK_ROWS},
+    {"A-45 add, then replace it", T(A_103 "R\t01\t5\t3\t00000103\t4\t31\t1\t2\t20\t3\t4\n"), 0, 0, 0,
+        BLOCK_101 BLOCK_102 "1;5;3;103;4;31;1;2;20;3;4\n" BLOCK_6_101},
+    {"A-45 add, then delete it", T(A_103 "D\t1\t5\t3\t103\n"), 0, 0, 0, BLOCK_ROWS},
+    {"a good line before a bad one", T(D_101 "x\n"), 12, 2, 0, BLOCK_ROWS},
+    {"delete all", T(D_101 D_102 D_6_101), 0, 0, 0, ""},
+    {"keys as numbers: 9 before 10", T("A\t1\t5\t3\t10" A_REST "A\t1\t5\t3\t9" A_REST), 0, 0, 0,
+        "1;5;3;9;7;20;0;0;20;99;999999\n1;5;3;10;7;20;0;0;20;99;999999\n" BLOCK_ROWS},
+    {"A-46 leading zeros", T("D\t01\t000000005\t00003\t00000101\n"), 0, 0, 0, BLOCK_102 BLOCK_6_101},
+    {"A-46 one zero too many", T("D\t001\t5\t3\t101\n"), 8, 1, 1, BLOCK_ROWS},
+    {"A-46 empty field", T("D\t1\t\t3\t101\n"), 8, 1, 2, BLOCK_ROWS},
+    {"A-46 VERSION 0", T("A\t0\t5\t3\t103" A_REST), 8, 1, 1, BLOCK_ROWS},
+    {"A-46 quotes", T("D\t\"1\"\t5\t3\t101\n"), 8, 1, 1, BLOCK_ROWS},
+    {"A-46 byte 0", T("D\t1\t5\t3\t101\0\n"), 8, 1, 4, BLOCK_ROWS},
+    {"A-46 blank", T("D\t1\t5 \t3\t101\n"), 8, 1, 2, BLOCK_ROWS},
+};
+
+/* ---- Cells */
+
+struct cell_edge {
+    const char *words;
+    struct text text;
+    uint64_t table, line, column;
+    uint64_t number, at_line, at_column; /* the refusal's; the place's table is the asked one, 0 for 0 and 15 */
+    uint64_t kind, value, start, length; /* the answer's */
+};
+
+#define C4 V "STR_VEH_TYPE\n" /* 33 bytes; with 1;4; before it a cell starts at 37 */
+#define NOTHING 0, 0, 0, 0
+
+static const struct cell_edge cell_edges[] = {
+    {"07", T(D "07;3\n"), 2, 2, 1, 0, 0, 0, 1, 7, 0, 0},
+    {"100", T(D "100;3\n"), 2, 2, 1, 8, 2, 1, NOTHING},
+    {"empty and required", T(D ";3\n"), 2, 2, 1, 8, 2, 1, NOTHING},
+    {"\"12\"", T(D "\"12\";3\n"), 2, 2, 1, 0, 0, 0, 1, 12, 0, 0},
+    {"0", T(D "1;00\n"), 2, 2, 2, 0, 0, 0, 1, 0, 0, 0},
+    {"a\"b", T(C4 "1;4;a\"b\n"), 1, 2, 7, 6, 2, 3, NOTHING},
+    {"A-36 \"a\"\"b\"", T(C4 "1;4;\"a\"\"b\"\n"), 1, 2, 7, 0, 0, 0, 2, 0, 38, 4},
+    {"\"a", T(C4 "1;4;\"a\n"), 1, 2, 7, 6, 2, 3, NOTHING},
+    {"ab", T(C4 "1;4;ab\r\n"), 1, 2, 7, 0, 0, 0, 2, 0, 37, 2},
+    {"five bytes in c4", T(C4 "1;4;abcde\n"), 1, 2, 7, 8, 2, 7, NOTHING},
+    {"ACCESS_EQUIP 2", T(V "VEH_TYPE_ACCESS_EQUIP\n1;4;2\n"), 1, 2, 11, 0, 0, 0, 1, 2, 0, 0},
+    {"ACCESS_EQUIP 3", T(V "VEH_TYPE_ACCESS_EQUIP\n1;4;3\n"), 1, 2, 11, 8, 2, 11, NOTHING},
+    {"STOP_NR 0", T(S "1;0;a\n"), 3, 2, 2, 8, 2, 2, NOTHING},
+    {"DEP_STOP_NR 100000", T(BLOCK_HEADER "1;5;3;101;4;100000;1;18000;31;2;46800\n"), 4, 2, 6, 0, 0, 0, 1, 100000, 0, 0},
+    {"semicolon inside quotes", T(TYPES), 1, 2, 6, 0, 0, 0, 2, 0, 39, 15},
+    {"doubled quotes of the whole case", T(TYPES), 1, 3, 6, 0, 0, 0, 2, 0, 61, 13},
+    {"empty optional", T(C4 "1;4;\n"), 1, 2, 7, 0, 0, 0, NOTHING},
+    {"empty optional in quotes", T(C4 "1;4;\"\"\n"), 1, 2, 7, 0, 0, 0, NOTHING},
+    {"empty optional number", T(V "VEH_TYPE_SEATS\n1;4;\n"), 1, 2, 3, 0, 0, 0, NOTHING},
+    {"the other spelling", T(V "HANDICAP_PLACES\n1;4;007\n"), 1, 2, 5, 0, 0, 0, 1, 7, 0, 0},
+    {"A-33 missing optional", T(C4 "1;4;\n"), 1, 2, 3, 0, 0, 0, NOTHING},
+    {"A-33 missing optional, 7", T(C4 "1;4\n"), 1, 2, 3, 7, 2, 0, NOTHING},
+    {"A-33 missing optional, 6", T(C4 "1;4;\t\n"), 1, 2, 3, 6, 2, 3, NOTHING},
+    {"A-32 table 0", T(D "1;3\n"), 0, 2, 1, 15, 0, 0, NOTHING},
+    {"A-32 table 5", T(D "1;3\n"), 5, 2, 1, 15, 0, 0, NOTHING},
+    {"A-32 table 2^64 - 1", T(D "1;3\n"), UINT64_MAX, 2, 1, 15, 0, 0, NOTHING},
+    {"A-32 column 0", T(D "1;3\n"), 2, 2, 0, 15, 0, 0, NOTHING},
+    {"A-32 column 3 of depot", T(D "1;3\n"), 2, 2, 3, 15, 0, 0, NOTHING},
+    {"A-32 column 12 of vehicle_block", T(BLOCKS), 4, 2, 12, 15, 0, 0, NOTHING},
+    {"A-32 column 2^64 - 1", T(D "1;3\n"), 2, 2, UINT64_MAX, 15, 0, 0, NOTHING},
+    {"A-32 column before header faults", T(""), 2, 2, 3, 15, 0, 0, NOTHING},
+    {"A-32 line 0", T(D "1;3\n"), 2, 0, 1, 15, 0, 0, NOTHING},
+    {"A-32 line 1", T(D "1;3\n"), 2, 1, 1, 15, 0, 0, NOTHING},
+    {"A-32 line 3 of 2", T(D "1;3\n"), 2, 3, 1, 15, 0, 0, NOTHING},
+    {"A-32 line 2^64 - 1", T(D "1;3\n"), 2, UINT64_MAX, 1, 15, 0, 0, NOTHING},
+    {"A-32 header faults before the line", T("\n"), 2, 0, 1, 2, 1, 1, NOTHING},
+    {"A-32 length 0", T(""), 2, 1, 1, 2, 1, 1, NOTHING},
+    {"header's 6 for an unknown column", T("VERSION;DEPOT_NR;\"\n1;3;\n"), 2, 2, 1, 6, 1, 3, NOTHING},
+    {"header's 3", T("VERSION;DEPOT_NR;DEPOT_NR\n1;3;3\n"), 2, 2, 1, 3, 1, 2, NOTHING},
+    {"header's 4", T("VERSION;DEPOT_NR;" TEN_CELLS TEN_CELLS TEN_CELLS "\n1;3\n"), 2, 2, 1, 4, 1, 0, NOTHING},
+    {"A-34 faults of other rows", T(D "\"\nx;x\n1\n1;3\n1;3\n"), 2, 6, 2, 0, 0, 0, 1, 3, 0, 0},
+    {"8 of another cell of the line", T(D "x;3\n"), 2, 2, 2, 0, 0, 0, 1, 3, 0, 0},
+    {"blank line", T(D "1;3\n\n"), 2, 3, 1, 7, 3, 0, NOTHING},
+    {"last line without line feed", T(D "1;3"), 2, 2, 2, 0, 0, 0, 1, 3, 0, 0},
+    {"END below BEGIN, no reference", T(BLOCK_HEADER "1;5;9;101;9;9;1;500;9;2;499\n"), 4, 2, 11, 0, 0, 0, 1, 499, 0, 0},
+    {"a text that is asked as another table's", T(S "1;20;a\n"), 2, 2, 1, 2, 1, 2, NOTHING},
+};
+
+/* ---- Running them */
+
+static row book[BOOK_ROWS + 1];
+static row before[BOOK_ROWS + 1];
+static row work[WORK_ROWS + 1];
+static const row zeros[BOOK_ROWS];
+static uint8_t out[65536];
+static uint8_t big[4][70000];
+
+struct run {
+    const struct side *side;
+    size_t passed, failed;
+};
+
+static void tell(struct run *run, const char *words, int good)
+{
+    if (good) {
+        run->passed++;
+        return;
+    }
+    run->failed++;
+    printf("edge failed on %s: %s\n", run->side->name, words);
+}
+
+static int place_is(const uint64_t place[4], uint64_t number, uint64_t table, uint64_t line, uint64_t column)
+{
+    return place[0] == number && place[1] == table && place[2] == line && place[3] == column;
+}
+
+/* Whether a call answered this number at this place. */
+static int answered(uint64_t answer, const uint64_t place[4], uint64_t number, uint64_t table, uint64_t line,
+    uint64_t column)
+{
+    if (answer == number && place_is(place, number, number ? table : 0, line, column))
+        return 1;
+    printf("  %" PRIu64 " at %" PRIu64 ", %" PRIu64 ", %" PRIu64 ", %" PRIu64 "; by hand %" PRIu64 " at %" PRIu64
+           ", %" PRIu64 ", %" PRIu64 ", %" PRIu64 "\n",
+        answer, place[0], place[1], place[2], place[3], number, number, table, line, column);
+    return 0;
+}
+
+/* Content that no call may rely on. */
+static void fill(void *room, size_t length, uint8_t byte)
+{
+    memset(room, byte, length);
+}
+
+static int book_is(const row *expected)
+{
+    return memcmp(book, expected, BOOK_ROWS * sizeof book[0]) == 0;
+}
+
+static int work_is_zero(void)
+{
+    return memcmp(work, zeros, WORK_ROWS * sizeof work[0]) == 0;
+}
+
+/* Reads four texts into the book, over content that must not matter. */
+static uint64_t read_into_book(const struct side *side, const struct text texts[4], uint64_t place[4])
+{
+    fill(book, sizeof book, 0xA5);
+    return side_read(side, texts, book, BOOK_ROWS, place);
+}
+
+static void run_reading(struct run *run, const struct reading_edge *edge)
+{
+    struct text texts[4];
+    uint64_t place[4] = {9, 9, 9, 9};
+    uint64_t answer;
+    uint64_t table = edge->table;
+    int good;
+
+    memcpy(texts, whole_case, sizeof texts);
+    texts[edge->table - 1] = edge->text;
+    /* a reference that was taken away shows in the blocks */
+    if (edge->number == 10)
+        table = 4;
+    answer = read_into_book(run->side, texts, place);
+    good = answered(answer, place, edge->number, table, edge->line, edge->column);
+    if (edge->number)
+        good = good && book_is(zeros);
+    tell(run, edge->words, good);
+}
+
+/* Whether the book's blocks are written as the header and these rows. */
+static int writes(const struct side *side, const char *rows)
+{
+    uint64_t place[4], length[1];
+    size_t header = strlen(BLOCK_HEADER);
+    size_t rest = strlen(rows);
+
+    if (side->write((const row *)book, BOOK_ROWS, out, sizeof out, length, place) != 0)
+        return 0;
+    return length[0] == header + rest && memcmp(out, BLOCK_HEADER, header) == 0 && memcmp(out + header, rows, rest) == 0;
+}
+
+static uint64_t slip_on_book(const struct side *side, struct text slip, uint64_t place[4])
+{
+    fill(work, sizeof work, 0x5A);
+    return side->slip(slip.bytes, slip.length, book, BOOK_ROWS, work, WORK_ROWS, place);
+}
+
+static void run_slip(struct run *run, const struct slip_edge *edge)
+{
+    uint64_t place[4] = {9, 9, 9, 9};
+    uint64_t answer;
+    int good;
+
+    read_into_book(run->side, whole_case, place);
+    answer = slip_on_book(run->side, edge->slip, place);
+    good = answered(answer, place, edge->number, 5, edge->line, edge->column);
+    tell(run, edge->words, good && work_is_zero() && writes(run->side, edge->rows));
+}
+
+static void run_cell(struct run *run, const struct cell_edge *edge)
+{
+    uint64_t place[4] = {9, 9, 9, 9};
+    uint64_t got[4] = {9, 9, 9, 9};
+    uint64_t answer = run->side->cell(edge->text.bytes, edge->text.length, edge->table, edge->line, edge->column, got, place);
+    uint64_t table = edge->number == 15 ? 0 : edge->table;
+    int good = answered(answer, place, edge->number, table, edge->at_line, edge->at_column);
+
+    tell(run, edge->words,
+        good && got[0] == edge->kind && got[1] == edge->value && got[2] == edge->start && got[3] == edge->length);
+}
+
+/* ---- Texts that are too long to be written out here */
+
+/* A text that grows at its end. */
+struct growing {
+    uint8_t *bytes;
+    size_t length;
+};
+
+static void put(struct growing *text, const char *words)
+{
+    size_t length = strlen(words);
+
+    memcpy(text->bytes + text->length, words, length);
+    text->length += length;
+}
+
+/* A number, with leading zeros up to a width. */
+static void put_number(struct growing *text, uint64_t number, size_t width)
+{
+    char digits[21];
+    size_t at = sizeof digits - 1;
+
+    digits[at] = 0;
+    while (number > 0 || width > 0 || at == sizeof digits - 1) {
+        digits[--at] = (char)('0' + number % 10);
+        number /= 10;
+        width -= width > 0;
+    }
+    put(text, digits + at);
+}
+
+static struct text done(const struct growing *text)
+{
+    struct text t;
+
+    t.bytes = text->bytes;
+    t.length = text->length;
+    return t;
+}
+
+/* Table t of `rows` rows, every one with the key 1, its number. The first of table 1 to 3 is what the blocks refer to. */
+static struct text long_table(unsigned t, uint64_t rows)
+{
+    struct growing text = {big[t - 1], 0};
+    uint64_t i;
+
+    put(&text, t == 1 ? "VERSION;VEH_TYPE_NR\n" : t == 2 ? D : t == 3 ? S : BLOCK_HEADER);
+    for (i = 1; i <= rows; i++) {
+        put(&text, t == 4 ? "1;5;1;" : "1;");
+        put_number(&text, i, 0);
+        put(&text, t == 4 ? ";1;1;0;10;1;0;20\n" : t == 3 ? ";a\n" : "\n");
+    }
+    return done(&text);
+}
+
+/* The delivery with that many rows in table t and 512 in the others. */
+static void long_delivery(struct text texts[4], unsigned t, uint64_t rows)
+{
+    unsigned i;
+
+    for (i = 1; i <= 4; i++)
+        texts[i - 1] = long_table(i, i == t ? rows : 512);
+}
+
+/* A depot text of exactly that many bytes, by a long cell in an unknown column. */
+static struct text padded_depots(size_t length)
+{
+    struct growing text = {big[1], 0};
+
+    put(&text, "VERSION;DEPOT_NR;X\n1;3;");
+    fill(text.bytes + text.length, length - text.length, 'x');
+    text.bytes[length - 1] = '\n';
+    text.length = length;
+    return done(&text);
+}
+
+/* A slip of 1,024 lines of 64 bytes each that put a block of the whole case in its own place. */
+static struct growing slip_of_65536(void)
+{
+    struct growing slip = {big[0], 0};
+    unsigned i;
+
+    for (i = 0; i < 1024; i++)
+        put(&slip, "R\t01\t000000005\t00003\t00000101\t04\t000020\t1\t018000\t000031\t2\t46800\n");
+    return slip;
+}
+
+static void run_long_tables(struct run *run)
+{
+    struct text texts[4];
+    uint64_t place[4], answer;
+    unsigned t;
+
+    for (t = 1; t <= 4; t++) {
+        long_delivery(texts, t, 512);
+        answer = read_into_book(run->side, texts, place);
+        tell(run, "512 rows", answered(answer, place, 0, 0, 0, 0) && book[512 * t - 1][0] == 1);
+        long_delivery(texts, t, 513);
+        answer = read_into_book(run->side, texts, place);
+        tell(run, "row 513", answered(answer, place, 5, t, 514, 0) && book_is(zeros));
+        long_delivery(texts, t, 513);
+        big[t - 1][texts[t - 1].length - 2] = '"';
+        answer = read_into_book(run->side, texts, place);
+        tell(run, "A-13 row 513 has a 6", answered(answer, place, 5, t, 514, 0));
+    }
+    long_delivery(texts, 2, 600);
+    texts[1].length = 0;
+    answer = read_into_book(run->side, texts, place);
+    tell(run, "length 0 counts, not what stands behind", answered(answer, place, 2, 2, 1, 1));
+    long_delivery(texts, 2, 512);
+    put(&(struct growing){big[1], texts[1].length}, "1\n1;9999\n");
+    texts[1].length += 9;
+    answer = read_into_book(run->side, texts, place);
+    tell(run, "A-13 row 513 has a 7", answered(answer, place, 5, 2, 514, 0));
+    texts[1] = long_table(2, 511);
+    put(&(struct growing){big[1], texts[1].length}, "1\n1;9999\n");
+    texts[1].length += 9;
+    answer = read_into_book(run->side, texts, place);
+    tell(run, "A-13 a fault of row 512 before row 513", answered(answer, place, 7, 2, 513, 0));
+}
+
+static void run_long_texts(struct run *run)
+{
+    struct text texts[4];
+    uint64_t place[4], answer;
+    uint64_t got[4];
+    struct growing slip;
+
+    memcpy(texts, whole_case, sizeof texts);
+    texts[1] = padded_depots(65536);
+    answer = read_into_book(run->side, texts, place);
+    tell(run, "A-06 65,536 bytes", answered(answer, place, 0, 0, 0, 0));
+    texts[1] = padded_depots(65537);
+    answer = read_into_book(run->side, texts, place);
+    tell(run, "A-06 65,537 bytes", answered(answer, place, 1, 2, 0, 0));
+    big[1][0] = '"';
+    answer = read_into_book(run->side, texts, place);
+    tell(run, "1 before the header's 6", answered(answer, place, 1, 2, 0, 0));
+    answer = run->side->cell(texts[1].bytes, texts[1].length, 2, 0, 1, got, place);
+    tell(run, "cell: 1 before the header's 6 and the line's 15", answered(answer, place, 1, 2, 0, 0));
+    answer = run->side->cell(texts[1].bytes, texts[1].length, 2, 2, 3, got, place);
+    tell(run, "cell: the column's 15 before 1", answered(answer, place, 15, 0, 0, 0));
+    texts[0] = (struct text)T(V "VEH_TYPE_SEATS\n1;4;x\n");
+    answer = read_into_book(run->side, texts, place);
+    tell(run, "A-08 table 1's 8 before table 2's 1", answered(answer, place, 8, 1, 2, 3));
+    texts[0] = long_table(1, 700);
+    answer = run->side->cell(texts[0].bytes, texts[0].length, 1, 600, 2, got, place);
+    tell(run, "A-34 line 600 of 700 rows", answered(answer, place, 0, 0, 0, 0) && got[0] == 1 && got[1] == 599);
+
+    read_into_book(run->side, whole_case, place);
+    slip = slip_of_65536();
+    answer = slip_on_book(run->side, done(&slip), place);
+    tell(run, "A-44 a slip of 1,024 lines and 65,536 bytes",
+        slip.length == 65536 && answered(answer, place, 0, 0, 0, 0) && work_is_zero() && writes(run->side, BLOCK_ROWS));
+    put(&slip, "x");
+    answer = slip_on_book(run->side, done(&slip), place);
+    tell(run, "A-44 a slip of 65,537 bytes", answered(answer, place, 1, 5, 0, 0) && work_is_zero());
+    slip.bytes[0] = 'x';
+    slip.length--;
+    answer = slip_on_book(run->side, done(&slip), place);
+    tell(run, "line 1 of a long slip", answered(answer, place, 12, 5, 1, 0));
+}
+
+/* ---- A full book */
+
+static void run_full_book(struct run *run)
+{
+    static const struct slip_edge full[] = {
+        {"A-41 A on a full book", T("A\t1\t5\t1\t513\t1\t1\t0\t10\t1\t0\t20\n"), 5, 1, 0, NULL},
+        {"A-41 5 before 8", T("A\tx\t5\t1\t513\t1\t1\t0\t10\t1\t0\t20\n"), 5, 1, 0, NULL},
+        {"A-41 5 before 9", T("A\t1\t5\t1\t512\t1\t1\t0\t10\t1\t0\t20\n"), 5, 1, 0, NULL},
+        {"A-41 12 before 5", T("A\t1\t5\t1\t513\t1\t1\t0\t10\t1\t0\n"), 12, 1, 0, NULL},
+        {"A-45 room is used again", T("D\t1\t5\t1\t7\nA\t1\t5\t1\t513\t1\t1\t0\t10\t1\t0\t20\n"), 0, 0, 0, NULL},
+        {"A-45 and then it is full again",
+            T("D\t1\t5\t1\t7\nA\t1\t5\t1\t513\t1\t1\t0\t10\t1\t0\t20\nA\t1\t5\t1\t514\t1\t1\t0\t10\t1\t0\t20\n"), 5, 3, 0,
+            NULL},
+        {"R on a full book", T("R\t1\t5\t1\t512\t1\t1\t0\t10\t1\t0\t21\n"), 0, 0, 0, NULL},
+    };
+    struct text texts[4];
+    uint64_t place[4], answer, seven[7], sum[2];
+    size_t i;
+
+    long_delivery(texts, 1, 512);
+    for (i = 0; i < sizeof full / sizeof full[0]; i++) {
+        read_into_book(run->side, texts, place);
+        memcpy(before, book, sizeof before);
+        answer = slip_on_book(run->side, full[i].slip, place);
+        tell(run, full[i].words,
+            answered(answer, place, full[i].number, 5, full[i].line, full[i].column) && work_is_zero()
+                && (full[i].number == 0) == (memcmp(before, book, sizeof before) != 0));
+    }
+    read_into_book(run->side, texts, place);
+    slip_on_book(run->side, full[4].slip, place);
+    answer = run->side->block((const row *)book, BOOK_ROWS, 1, 5, 1, 513, seven, place);
+    tell(run, "the block that was added", answered(answer, place, 0, 0, 0, 0) && seven[3] == 10 && seven[6] == 20);
+    answer = run->side->block((const row *)book, BOOK_ROWS, 1, 5, 1, 7, seven, place);
+    tell(run, "the block that was deleted", answered(answer, place, 15, 0, 0, 0) && seven[3] == 0 && seven[6] == 0);
+    answer = run->side->type((const row *)book, BOOK_ROWS, 1, 1, sum, place);
+    tell(run, "512 blocks of one type", answered(answer, place, 0, 0, 0, 0) && sum[0] == 5120 && sum[1] == 512);
+}
+
+/* ---- Questions */
+
+static int type_is(const struct side *side, uint64_t version, uint64_t number, uint64_t refusal, uint64_t seconds,
+    uint64_t count)
+{
+    uint64_t place[4], sum[2] = {9, 9};
+    uint64_t answer = side->type((const row *)book, BOOK_ROWS, version, number, sum, place);
+
+    return answered(answer, place, refusal, 0, 0, 0) && sum[0] == seconds && sum[1] == count;
+}
+
+static void run_questions(struct run *run)
+{
+    static const uint64_t block_102[7] = {7, 31, 2, 21600, 20, 1, 25201};
+    static const uint64_t nothing[7] = {0};
+    static const struct text slip = T(WHOLE_SLIP);
+    uint64_t place[4], seven[7], answer;
+
+    read_into_book(run->side, whole_case, place);
+    tell(run, "type 4 with an empty slip", type_is(run->side, 1, 4, 0, 38800, 2));
+    tell(run, "type 7 with an empty slip", type_is(run->side, 1, 7, 0, 3601, 1));
+    tell(run, "no type 5", type_is(run->side, 1, 5, 15, 0, 0));
+    tell(run, "no type 4 of version 2", type_is(run->side, 2, 4, 15, 0, 0));
+    tell(run, "no type 0 of version 0", type_is(run->side, 0, 0, 15, 0, 0));
+    answer = run->side->block((const row *)book, BOOK_ROWS, 1, 5, 3, 102, seven, place);
+    tell(run, "block 102", answered(answer, place, 0, 0, 0, 0) && memcmp(seven, block_102, sizeof seven) == 0);
+    answer = run->side->block((const row *)book, BOOK_ROWS, 0, 0, 0, 0, seven, place);
+    tell(run, "no block of zeros", answered(answer, place, 15, 0, 0, 0) && memcmp(seven, nothing, sizeof seven) == 0);
+    answer = slip_on_book(run->side, slip, place);
+    tell(run, "whole case: the slip", answered(answer, place, 0, 0, 0, 0));
+    tell(run, "whole case: T 1 4 32400 2", type_is(run->side, 1, 4, 0, 32400, 2));
+    tell(run, "whole case: T 1 7 0 0", type_is(run->side, 1, 7, 0, 0, 0));
+    tell(run, "whole case: S 2 2", book[2][0] == 0 && book[1][0] != 0 && book[1536 + 2][0] == 0 && book[1536 + 1][0] != 0);
+}
+
+/* ---- The writer */
+
+static void run_writer(struct run *run)
+{
+    struct text texts[4];
+    uint64_t place[4], answer, length[1];
+    size_t exact = strlen(BLOCKS);
+    size_t i;
+
+    read_into_book(run->side, whole_case, place);
+    tell(run, "the whole case is written as it came", writes(run->side, BLOCK_ROWS));
+    fill(out, sizeof out, 0xEE);
+    answer = run->side->write((const row *)book, BOOK_ROWS, out, exact - 1, length, place);
+    for (i = 0; i < sizeof out && out[i] == 0xEE; i++)
+        ;
+    tell(run, "an output one byte short", answered(answer, place, 14, 0, 0, 0) && length[0] == 0 && i == sizeof out);
+    answer = run->side->write((const row *)book, BOOK_ROWS, out, exact, length, place);
+    tell(run, "an output of exact length",
+        answered(answer, place, 0, 0, 0, 0) && length[0] == exact && memcmp(out, BLOCKS, exact) == 0 && out[exact] == 0xEE);
+    answer = run->side->write((const row *)book, BOOK_ROWS - 1, out, 0, length, place);
+    tell(run, "16 before 14", answered(answer, place, 16, 0, 0, 0) && length[0] == 0);
+    memset(book, 0, sizeof book);
+    tell(run, "A-47 an empty book", writes(run->side, ""));
+    memcpy(texts, whole_case, sizeof texts);
+    texts[3] = (struct text)T("END_OF_BLOCK;VEH_TYPE_NR;BLOCK_NR;DEPOT_NR;DAY_TYPE_NR;VERSION;X;BEGIN_OF_BLOCK;ARR_STOP_NR;"
+                              "\"DEP_STOP_NR\";DEP_STOPPING_POINT_NR;ARR_STOPPING_POINT_NR\r\n"
+                              "00009;04;10;3;5;\"01\";;7;20;31;00;09\r\n8;07;9;3;5;1;\"\"\"\";7;20;31;00;9");
+    read_into_book(run->side, texts, place);
+    tell(run, "written by rising key, without zeros",
+        writes(run->side, "1;5;3;9;7;31;0;7;20;9;8\n1;5;3;10;4;31;0;7;20;9;9\n"));
+}
+
+/* The widest book that there can be: 512 blocks of which every number has as many digits as it can have. A stop has five,
+ * so the two columns of six digits that name one have five too. */
+static void run_widest_book(struct run *run)
+{
+    static const uint64_t widest[NUMBERS] = {99, 999999999, 99999, 99999000, 99, 99999, 99, 999999, 99999, 99, 999999};
+    uint64_t place[4], answer, length[1];
+    uint64_t i;
+
+    memset(book, 0, sizeof book);
+    for (i = 0; i < 3; i++) {
+        book[512 * i][0] = 99;
+        book[512 * i][1] = i == 0 ? 99 : 99999;
+    }
+    for (i = 0; i < 512; i++) {
+        memcpy(book[1536 + i], widest, sizeof widest);
+        book[1536 + i][3] += i;
+    }
+    answer = run->side->write((const row *)book, BOOK_ROWS, out, sizeof out, length, place);
+    tell(run, "A-30 the widest book",
+        answered(answer, place, 0, 0, 0, 0) && length[0] == strlen(BLOCK_HEADER) + 512 * (52 + 11) && length[0] <= 34000);
+}
+
+/* ---- Lent lengths */
+
+/* A slip with the standing book and work lent at these lengths: 16, and what each holds then. */
+static int lent(const struct side *side, size_t book_rows, size_t work_rows, int work_stays)
+{
+    uint64_t place[4];
+    uint64_t answer;
+    size_t i;
+    const uint8_t *bytes = (const uint8_t *)work;
+
+    memcpy(before, book, sizeof before);
+    fill(work, sizeof work, 0x5A);
+    answer = side->slip((const uint8_t *)"x", 1, book, book_rows, work, work_rows, place);
+    for (i = 0; i < sizeof work && bytes[i] == 0x5A; i++)
+        ;
+    return answered(answer, place, 16, 0, 0, 0) && memcmp(before, book, sizeof before) == 0
+        && (work_stays ? i == sizeof work : work_is_zero());
+}
+
+static void run_lengths(struct run *run)
+{
+    uint64_t place[4], answer, sum[2], seven[7];
+    size_t lengths[] = {0, 1, 512, BOOK_ROWS - 1, BOOK_ROWS + 1};
+    size_t i;
+
+    for (i = 0; i < sizeof lengths / sizeof lengths[0]; i++) {
+        fill(book, sizeof book, 0xA5);
+        memcpy(before, book, sizeof before);
+        answer = side_read(run->side, whole_case, book, lengths[i], place);
+        tell(run, "A-28 reading into a book of another length",
+            answered(answer, place, 16, 0, 0, 0) && memcmp(before, book, sizeof before) == 0);
+        read_into_book(run->side, whole_case, place);
+        tell(run, "A-28 slip with a book of another length", lent(run->side, lengths[i], WORK_ROWS, 0));
+        tell(run, "A-28 slip with both of another length", lent(run->side, lengths[i], WORK_ROWS - 1, 1));
+        answer = run->side->type((const row *)book, lengths[i], 1, 4, sum, place);
+        tell(run, "type question to a book of another length", answered(answer, place, 16, 0, 0, 0) && !sum[0] && !sum[1]);
+        answer = run->side->block((const row *)book, lengths[i], 1, 5, 3, 101, seven, place);
+        tell(run, "block question to a book of another length", answered(answer, place, 16, 0, 0, 0) && !seven[0]);
+    }
+    read_into_book(run->side, whole_case, place);
+    tell(run, "A-28 slip with a working area too short", lent(run->side, BOOK_ROWS, WORK_ROWS - 1, 1));
+    tell(run, "A-28 slip with a working area too long", lent(run->side, BOOK_ROWS, WORK_ROWS + 1, 1));
+    tell(run, "A-28 slip with no working area", lent(run->side, BOOK_ROWS, 0, 1));
+}
+
+/* ---- The book rule */
+
+/* One number of the whole case's book changed, and whether the book is then still one that a delivery leaves. */
+struct poke {
+    const char *words;
+    size_t row, column;
+    uint64_t number;
+    int kept;
+};
+
+static const struct poke pokes[] = {
+    {"nothing changed", 0, 0, 1, 1},
+    {"another free type", 1, 1, 8, 0}, /* type 7 has a block */
+    {"types out of order", 0, 1, 8, 0},
+    {"types of equal key", 0, 1, 7, 0},
+    {"type of version 0", 0, 0, 0, 0},
+    {"type of version 100", 1, 0, 100, 0},
+    {"type number of 9 digits", 1, 1, 100000000, 0},
+    {"something behind a type's key", 0, 2, 1, 0},
+    {"something at a type's row end", 1, 10, 1, 0},
+    {"something in the types' unused room", 511, 10, 1, 0},
+    {"a type more", 2, 0, 2, 1}, /* 2, 0 is a key that a delivery can have */
+    {"a type number without a version", 2, 1, 2, 0},
+    {"depot number of 6 digits", 512 + 1, 0, 100, 0},
+    {"a depot more", 512 + 1, 0, 1, 0}, /* 1, 0 comes before 1, 3 */
+    {"a depot of a later version", 512 + 1, 0, 99, 1},
+    {"a depot changed", 512, 1, 4, 0},
+    {"stop 0", 1024, 1, 0, 0},
+    {"stop 100000", 1024 + 1, 1, 100000, 0},
+    {"a stop of number 0", 1024 + 2, 0, 2, 0},
+    {"something in the stops' unused room", 1024 + 100, 5, 7, 0},
+    {"block's day type of 10 digits", 1536 + 2, 1, 1000000000, 0},
+    {"block's day type changed", 1536 + 2, 1, 999999999, 1},
+    {"blocks of equal key", 1536 + 1, 3, 101, 0},
+    {"blocks out of order", 1536 + 1, 3, 100, 0},
+    {"block's number of 9 digits", 1536 + 2, 3, 100000000, 0},
+    {"block's version without tables", 1536 + 2, 0, 2, 0},
+    {"block's depot without row", 1536 + 2, 2, 4, 0},
+    {"block's type without row", 1536 + 2, 4, 5, 0},
+    {"block's other type", 1536 + 2, 4, 7, 1},
+    {"block's first stop without row", 1536 + 2, 5, 21, 0},
+    {"block's last stop without row", 1536 + 2, 8, 21, 0},
+    {"block's point 99", 1536 + 2, 6, 99, 1},
+    {"block's point 100", 1536 + 2, 6, 100, 0},
+    {"block's last point 100", 1536 + 2, 9, 100, 0},
+    {"BEGIN equal to END", 1536 + 2, 7, 90000, 1},
+    {"BEGIN above END", 1536 + 2, 7, 90001, 0},
+    {"END 999999", 1536 + 2, 10, 999999, 1},
+    {"END 1000000", 1536 + 2, 10, 1000000, 0},
+    {"END 2^64 - 1", 1536 + 2, 10, UINT64_MAX, 0},
+    {"a hole between blocks", 1536 + 1, 0, 0, 0},
+    {"something in the blocks' unused room", 2047, 0, 1, 0},
+    {"a number alone in the blocks' unused room", 2047, 10, 1, 0},
+};
+
+static void run_poke(struct run *run, const struct poke *poke)
+{
+    static const struct text slip = T("");
+    uint64_t place[4], sum[2], seven[7], length[1], number = poke->kept ? 0 : 16;
+    uint64_t answer;
+    int good;
+
+    read_into_book(run->side, whole_case, place);
+    book[poke->row][poke->column] = poke->number;
+    memcpy(before, book, sizeof before);
+    answer = slip_on_book(run->side, slip, place);
+    good = answered(answer, place, number, 0, 0, 0) && work_is_zero();
+    answer = run->side->type((const row *)book, BOOK_ROWS, 1, 4, sum, place);
+    good = good && answered(answer, place, number, 0, 0, 0);
+    answer = run->side->block((const row *)book, BOOK_ROWS, 1, 5, 3, 101, seven, place);
+    good = good && answered(answer, place, number, 0, 0, 0);
+    answer = run->side->write((const row *)book, BOOK_ROWS, out, sizeof out, length, place);
+    good = good && answered(answer, place, number, 0, 0, 0) && (length[0] == 0) == (number == 16);
+    tell(run, poke->words, good && memcmp(before, book, sizeof before) == 0);
+}
+
+/* "16; 1": a book that breaks the rule and a slip that is too long. */
+static void run_book_before_slip(struct run *run)
+{
+    struct growing slip;
+    uint64_t place[4], answer;
+
+    read_into_book(run->side, whole_case, place);
+    book[2047][10] = 1;
+    slip = slip_of_65536();
+    put(&slip, "x");
+    answer = slip_on_book(run->side, done(&slip), place);
+    tell(run, "slip: 16 before 1", answered(answer, place, 16, 0, 0, 0) && work_is_zero());
+}
+
+#define COUNT(list) (sizeof(list) / sizeof(list)[0])
+
+void edges_run(const struct side *side, size_t *passed, size_t *failed)
+{
+    struct run run = {side, 0, 0};
+    size_t i;
+
+    for (i = 0; i < COUNT(reading_edges); i++)
+        run_reading(&run, &reading_edges[i]);
+    for (i = 0; i < COUNT(slip_edges); i++)
+        run_slip(&run, &slip_edges[i]);
+    for (i = 0; i < COUNT(cell_edges); i++)
+        run_cell(&run, &cell_edges[i]);
+    for (i = 0; i < COUNT(pokes); i++)
+        run_poke(&run, &pokes[i]);
+    run_long_tables(&run);
+    run_long_texts(&run);
+    run_full_book(&run);
+    run_questions(&run);
+    run_writer(&run);
+    run_widest_book(&run);
+    run_lengths(&run);
+    run_book_before_slip(&run);
+    *passed += run.passed;
+    *failed += run.failed;
+}

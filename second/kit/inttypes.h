@@ -1,0 +1,6 @@
+/* See stddef.h beside this file. */
+#ifndef KIT_INTTYPES_H
+#define KIT_INTTYPES_H
+#include <stdint.h>
+#define PRIu64 "lu"
+#endif

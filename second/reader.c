@@ -1,0 +1,915 @@
+/* The second reader. Each rule stands below the sentence of document 01 that it follows, in quotation marks. Searches
+ * walk from the first row to the last: what is compared with the library should be plain enough to be believed. */
+#include "reader.h"
+
+#include "columns.h"
+
+#include <string.h>
+
+enum { ROWS = 512, NUMBERS = 11, BOOK_ROWS = TABLES * ROWS, WORK_ROWS = ROWS, TEXT_BYTES = 65536, HEADER_CELLS = 32 };
+
+/* The slip has a table number in places only. */
+enum { SLIP = 5 };
+
+/* Rows that are only looked at. */
+typedef const uint64_t (*rows_in)[NUMBERS];
+
+/* The places of a block's numbers in its row. */
+enum { B_VERSION, B_DAY_TYPE, B_DEPOT, B_BLOCK, B_TYPE, B_DEP_STOP, B_DEP_POINT, B_BEGIN, B_ARR_STOP, B_ARR_POINT, B_END };
+
+/* ---- Answers */
+
+static uint64_t refuse(uint64_t place[4], uint64_t number, uint64_t table, uint64_t line, uint64_t column)
+{
+    place[0] = number;
+    place[1] = table;
+    place[2] = line;
+    place[3] = column;
+    return number;
+}
+
+/* "0 | accepted | 0, 0" */
+static uint64_t accept(uint64_t place[4])
+{
+    return refuse(place, 0, 0, 0, 0);
+}
+
+/* "The table number belongs to each place (0 for 0, 14, 15, 16)." These three have the place 0, 0. */
+static uint64_t refuse_without_place(uint64_t place[4], uint64_t number)
+{
+    return refuse(place, number, 0, 0, 0);
+}
+
+/* ---- Lines */
+
+/* A line without its line end: the bytes from start up to, not with, end. */
+struct line {
+    size_t start, end;
+};
+
+/* Takes the line that begins at *at and moves *at to where the next one begins. No line begins at the end of a text. */
+static int next_line(const uint8_t *text, size_t length, size_t *at, struct line *line)
+{
+    size_t i = *at;
+
+    /* "after a final line feed no further line begins" */
+    if (i >= length)
+        return 0;
+    line->start = i;
+    while (i < length && text[i] != '\n')
+        i++;
+    line->end = i;
+    /* "A last line may lack its line feed": then the text's end is the line's end, and a carriage return there stands
+     * before no line feed, so it is not dropped. */
+    if (i == length) {
+        *at = length;
+        return 1;
+    }
+    /* "A line feed ends a line; one carriage return just before it is dropped." */
+    if (line->end > line->start && text[line->end - 1] == '\r')
+        line->end--;
+    *at = i + 1;
+    return 1;
+}
+
+/* "Line 1 is the header." "A text of length 0 counts as one header line with one empty cell." */
+static struct line header_line(const uint8_t *text, size_t length, size_t *at)
+{
+    struct line line = {0, 0};
+
+    *at = 0;
+    next_line(text, length, at, &line);
+    return line;
+}
+
+/* ---- Cells */
+
+/* A cell: the bytes between its quotes, or all of them where it has none. Doubled quotes still stand doubled. */
+struct cell {
+    size_t start, end;
+};
+
+/* "So are bytes 0 to 31 and 127 in any cell." */
+static int is_fault_byte(uint8_t byte)
+{
+    return byte <= 31 || byte == 127;
+}
+
+/* "A cell that begins with a double quote runs to the next one that is not doubled, and then its semicolon or line end
+ * must follow." *at is at the opening quote; it is left behind the closing one. */
+static int take_quoted(const uint8_t *text, size_t end, size_t *at, struct cell *cell)
+{
+    size_t i = *at + 1;
+
+    cell->start = i;
+    for (;;) {
+        if (i == end || is_fault_byte(text[i]))
+            return 0;
+        if (text[i] != '"') {
+            i++;
+        } else if (i + 1 < end && text[i + 1] == '"') {
+            i += 2;
+        } else {
+            break;
+        }
+    }
+    cell->end = i;
+    *at = i + 1;
+    return *at == end || text[*at] == ';';
+}
+
+/* "A double quote inside any other cell is a fault." */
+static int take_unquoted(const uint8_t *text, size_t end, size_t *at, struct cell *cell)
+{
+    size_t i = *at;
+
+    cell->start = i;
+    while (i < end && text[i] != ';') {
+        if (text[i] == '"' || is_fault_byte(text[i]))
+            return 0;
+        i++;
+    }
+    cell->end = i;
+    *at = i;
+    return 1;
+}
+
+/* "Cells are parted by semicolons outside quotes." Counts the cells of a line and keeps the first HEADER_CELLS, which are
+ * all that a row of a good header can have. Returns 0, or the cell, counted from 1, that has a quote or byte fault. */
+static uint64_t cut_line(const uint8_t *text, struct line line, struct cell cells[HEADER_CELLS], uint64_t *count)
+{
+    size_t at = line.start;
+
+    *count = 0;
+    for (;;) {
+        struct cell cell;
+        int quoted = at < line.end && text[at] == '"';
+        int good = quoted ? take_quoted(text, line.end, &at, &cell) : take_unquoted(text, line.end, &at, &cell);
+
+        *count += 1;
+        if (!good)
+            return *count;
+        if (*count <= HEADER_CELLS)
+            cells[*count - 1] = cell;
+        if (at == line.end)
+            return 0;
+        at++; /* past the semicolon: another cell begins, an empty one perhaps */
+    }
+}
+
+/* "Content is what stands between the quotes, doubled ones counted once." A well quoted cell has quotes in pairs only. */
+static size_t content_length(const uint8_t *text, struct cell cell)
+{
+    size_t quotes = 0;
+    size_t i;
+
+    for (i = cell.start; i < cell.end; i++)
+        if (text[i] == '"')
+            quotes++;
+    return cell.end - cell.start - quotes / 2;
+}
+
+/* "Header names are compared byte for byte". No name has a quote in it, so content with a doubled one equals no name
+ * however it is counted. */
+static int content_is(const uint8_t *text, struct cell cell, const char *name)
+{
+    size_t length = strlen(name);
+
+    return cell.end - cell.start == length && memcmp(text + cell.start, name, length) == 0;
+}
+
+/* ---- What a column takes */
+
+/* "A d cell is 1 to N digits, leading zeros allowed, no sign" and within the column's range. */
+static int take_number(const uint8_t *digits, size_t length, const struct column *column, uint64_t *value)
+{
+    uint64_t sum = 0;
+    size_t i;
+
+    if (length < 1 || length > column->width)
+        return 0;
+    for (i = 0; i < length; i++) {
+        if (digits[i] < '0' || digits[i] > '9')
+            return 0;
+        sum = sum * 10 + (uint64_t)(digits[i] - '0');
+    }
+    if (sum < column->least || sum > column->most)
+        return 0;
+    *value = sum;
+    return 1;
+}
+
+/* "8 | cell empty where required, not digits, too long, out of range". Whether the cell passes; *value is the number of a
+ * d cell that is not empty. */
+static int judge_cell(const uint8_t *text, struct cell cell, const struct column *column, uint64_t *value)
+{
+    size_t length = content_length(text, cell);
+
+    *value = 0;
+    /* "An optional cell may be empty." */
+    if (length == 0)
+        return !column->required;
+    /* "A c cell is at most N bytes of content, and not empty where required." */
+    if (column->kind == 'c')
+        return length <= column->width;
+    /* A doubled quote is content and no digit, so the raw bytes tell. */
+    return take_number(text + cell.start, cell.end - cell.start, column, value);
+}
+
+/* ---- The header */
+
+struct header {
+    uint64_t cells;                /* how many cells the header has */
+    uint64_t cell_of[NUMBERS + 1]; /* for each column, from 1: its cell, counted from 1, or 0 where it is missing */
+};
+
+/* The number of the column that a header cell names, or 0: "Unknown columns, unnamed ones too, are passed over". */
+static unsigned column_named(const uint8_t *text, struct cell cell, const struct table *table)
+{
+    unsigned c;
+
+    for (c = 1; c <= table->column_count; c++) {
+        const struct column *column = &table->columns[c - 1];
+
+        /* "Two other spellings are read as the same column" */
+        if (content_is(text, cell, column->name) || (column->other_name && content_is(text, cell, column->other_name)))
+            return c;
+    }
+    return 0;
+}
+
+/* "header 6, 4, 3, 2". *at is left where line 2 begins. */
+static uint64_t read_header(unsigned t, const uint8_t *text, size_t length, struct header *header, size_t *at,
+    uint64_t place[4])
+{
+    const struct table *table = &tables[t];
+    struct cell cells[HEADER_CELLS];
+    struct line line = header_line(text, length, at);
+    uint64_t fault = cut_line(text, line, cells, &header->cells);
+    uint64_t i;
+    unsigned c;
+
+    /* "6 | quote or byte fault | line, cell counted from 1": anywhere on the line, a 33rd cell too. */
+    if (fault)
+        return refuse(place, 6, t, 1, fault);
+    /* "4 | more than 32 header cells | 1, 0" */
+    if (header->cells > HEADER_CELLS)
+        return refuse(place, 4, t, 1, 0);
+    /* "3 | known column twice | 1, number of the column whose repeat is leftmost" */
+    memset(header->cell_of, 0, sizeof header->cell_of);
+    for (i = 1; i <= header->cells; i++) {
+        c = column_named(text, cells[i - 1], table);
+        if (c && header->cell_of[c])
+            return refuse(place, 3, t, 1, c);
+        if (c)
+            header->cell_of[c] = i;
+    }
+    /* "2 | required column missing | 1, lowest missing" */
+    for (c = 1; c <= table->column_count; c++)
+        if (table->columns[c - 1].required && !header->cell_of[c])
+            return refuse(place, 2, t, 1, c);
+    return 0;
+}
+
+/* ---- Rows of the book */
+
+/* -1, 0 or 1 as the first key is below, equal to or above the second, number by number. */
+static int compare_keys(const uint64_t *one, const uint64_t *other, unsigned width)
+{
+    unsigned i;
+
+    for (i = 0; i < width; i++)
+        if (one[i] != other[i])
+            return one[i] < other[i] ? -1 : 1;
+    return 0;
+}
+
+/* How many rows of a table are in use: no VERSION is 0, and a row of the unused room is all zero. */
+static size_t used(rows_in rows)
+{
+    size_t n = 0;
+
+    while (n < ROWS && rows[n][0] != 0)
+        n++;
+    return n;
+}
+
+/* The row of that key among the used rows of one table, or ROWS. */
+static size_t find(rows_in rows, const uint64_t *key, unsigned width)
+{
+    size_t i;
+
+    for (i = 0; i < ROWS && rows[i][0] != 0; i++)
+        if (compare_keys(rows[i], key, width) == 0)
+            return i;
+    return ROWS;
+}
+
+/* Puts a row among the others, "rows by rising key". There is room for it, and its key is not there yet. */
+static void insert(uint64_t (*rows)[NUMBERS], const uint64_t row[NUMBERS], unsigned width)
+{
+    size_t i = used((rows_in)rows);
+
+    while (i > 0 && compare_keys(rows[i - 1], row, width) > 0) {
+        memcpy(rows[i], rows[i - 1], sizeof rows[i]);
+        i--;
+    }
+    memcpy(rows[i], row, sizeof rows[i]);
+}
+
+/* Takes a used row out; the rows above it move down, and the room that is left is zero. */
+static void delete(uint64_t (*rows)[NUMBERS], size_t at)
+{
+    size_t n = used((rows_in)rows);
+
+    for (; at + 1 < n; at++)
+        memcpy(rows[at], rows[at + 1], sizeof rows[at]);
+    memset(rows[n - 1], 0, sizeof rows[n - 1]);
+}
+
+/* The 512 rows of one table in a book. */
+static uint64_t (*rows_of(uint64_t (*book)[NUMBERS], unsigned t))[NUMBERS]
+{
+    return book + (size_t)ROWS * (t - 1);
+}
+
+static rows_in rows_of_in(rows_in book, unsigned t)
+{
+    return book + (size_t)ROWS * (t - 1);
+}
+
+/* ---- What holds between a block's numbers, and between the block and the book */
+
+/* "11 | END below BEGIN" */
+static int end_below_begin(const uint64_t block[NUMBERS])
+{
+    return block[B_END] < block[B_BEGIN];
+}
+
+static int refers(rows_in book, unsigned t, uint64_t version, uint64_t number)
+{
+    uint64_t key[2];
+
+    key[0] = version;
+    key[1] = number;
+    return find(rows_of_in(book, t), key, 2) < ROWS;
+}
+
+/* "References of a block, each together with VERSION: column 3 to depot, 5 to vehicle_type, 6 and 9 to stop."
+ * The lowest column whose reference finds no row, or 0: "10 by column number". */
+static uint64_t lost_reference(rows_in book, const uint64_t block[NUMBERS])
+{
+    uint64_t version = block[B_VERSION];
+
+    if (!refers(book, DEPOT, version, block[B_DEPOT]))
+        return 3;
+    if (!refers(book, VEHICLE_TYPE, version, block[B_TYPE]))
+        return 5;
+    if (!refers(book, STOP, version, block[B_DEP_STOP]))
+        return 6;
+    if (!refers(book, STOP, version, block[B_ARR_STOP]))
+        return 9;
+    return 0;
+}
+
+/* ---- Reading a table */
+
+/* Judges the cells of a row under the known columns, "8 by column number", and gathers the numbers by column. Returns 0 or
+ * the column with an 8. */
+static uint64_t take_cells(const struct table *table, const uint8_t *text, const struct header *header,
+    const struct cell cells[HEADER_CELLS], uint64_t numbers[NUMBERS])
+{
+    unsigned c;
+
+    for (c = 1; c <= table->column_count; c++) {
+        uint64_t cell = header->cell_of[c];
+
+        /* "Optional columns may be missing and then every cell of theirs is empty." */
+        numbers[c - 1] = 0;
+        if (cell && !judge_cell(text, cells[cell - 1], &table->columns[c - 1], &numbers[c - 1]))
+            return c;
+    }
+    return 0;
+}
+
+/* The cells of one line after the header: 6, then 7. */
+static uint64_t take_line(unsigned t, const uint8_t *text, struct line line, uint64_t line_number,
+    const struct header *header, struct cell cells[HEADER_CELLS], uint64_t place[4])
+{
+    uint64_t count;
+    uint64_t fault = cut_line(text, line, cells, &count);
+
+    /* "6 | quote or byte fault | line, cell counted from 1" */
+    if (fault)
+        return refuse(place, 6, t, line_number, fault);
+    /* "7 | cell count differs from header | line, 0" */
+    if (count != header->cells)
+        return refuse(place, 7, t, line_number, 0);
+    return 0;
+}
+
+/* "line by line 5, 6, 7, 8 by column number, 11, 9, 10 by column number" */
+static uint64_t read_row(unsigned t, const uint8_t *text, struct line line, uint64_t line_number,
+    const struct header *header, uint64_t (*book)[NUMBERS], uint64_t place[4])
+{
+    const struct table *table = &tables[t];
+    uint64_t (*rows)[NUMBERS] = rows_of(book, t);
+    struct cell cells[HEADER_CELLS];
+    uint64_t numbers[NUMBERS];
+    uint64_t row[NUMBERS] = {0};
+    uint64_t number, column;
+
+    /* "5 | more than 512 rows | first row too many, 0". The row of line 2 is the first. */
+    if (line_number - 1 > ROWS)
+        return refuse(place, 5, t, line_number, 0);
+    number = take_line(t, text, line, line_number, header, cells, place);
+    if (number)
+        return number;
+    column = take_cells(table, text, header, cells, numbers);
+    if (column)
+        return refuse(place, 8, t, line_number, column);
+    /* "11 | END below BEGIN | line, 11" */
+    if (t == VEHICLE_BLOCK && end_below_begin(numbers))
+        return refuse(place, 11, t, line_number, 11);
+    /* "9 | key stands in an earlier row": the rows so far are the earlier ones, and their keys are numbers. */
+    if (find((rows_in)rows, numbers, table->key_width) < ROWS)
+        return refuse(place, 9, t, line_number, 0);
+    /* "10 | reference finds no row | line, column" */
+    column = t == VEHICLE_BLOCK ? lost_reference((rows_in)book, numbers) : 0;
+    if (column)
+        return refuse(place, 10, t, line_number, column);
+    /* "The book holds the keys of tables 1 to 3 and the 11 numbers of each block" */
+    memcpy(row, numbers, (t == VEHICLE_BLOCK ? NUMBERS : table->key_width) * sizeof row[0]);
+    insert(rows, row, table->key_width);
+    return 0;
+}
+
+/* "in each 1; header 6, 4, 3, 2; then line by line" */
+static uint64_t read_table(unsigned t, const uint8_t *text, size_t length, uint64_t (*book)[NUMBERS], uint64_t place[4])
+{
+    struct header header;
+    struct line line;
+    size_t at;
+    uint64_t line_number, number;
+
+    /* "1 | text over 65,536 bytes | 0, 0" */
+    if (length > TEXT_BYTES)
+        return refuse(place, 1, t, 0, 0);
+    number = read_header(t, text, length, &header, &at, place);
+    if (number)
+        return number;
+    for (line_number = 2; next_line(text, length, &at, &line); line_number++) {
+        /* "The first fault ends the reading." */
+        number = read_row(t, text, line, line_number, &header, book, place);
+        if (number)
+            return number;
+    }
+    return 0;
+}
+
+uint64_t second_read(const uint8_t *vehicle_type, size_t vehicle_type_length, const uint8_t *depot, size_t depot_length,
+    const uint8_t *stop, size_t stop_length, const uint8_t *vehicle_block, size_t vehicle_block_length,
+    uint64_t (*book)[11], size_t rows, uint64_t place[4])
+{
+    const uint8_t *texts[TABLES];
+    size_t lengths[TABLES];
+    unsigned t;
+
+    /* "one lent at another length is 16, before all else: that one stays as it came" */
+    if (rows != BOOK_ROWS)
+        return refuse_without_place(place, 16);
+    texts[0] = vehicle_type, lengths[0] = vehicle_type_length;
+    texts[1] = depot, lengths[1] = depot_length;
+    texts[2] = stop, lengths[2] = stop_length;
+    texts[3] = vehicle_block, lengths[3] = vehicle_block_length;
+    /* What the book held does not matter: it is filled anew. */
+    memset(book, 0, BOOK_ROWS * sizeof book[0]);
+    /* "in this order: tables 1 to 4" */
+    for (t = 1; t <= TABLES; t++) {
+        uint64_t number = read_table(t, texts[t - 1], lengths[t - 1], book, place);
+
+        /* "A refused reading leaves an empty book, which is the book of four tables without rows." */
+        if (number) {
+            memset(book, 0, BOOK_ROWS * sizeof book[0]);
+            return number;
+        }
+    }
+    return accept(place);
+}
+
+/* ---- The book rule */
+
+static int is_zero(const uint64_t *numbers, size_t count)
+{
+    size_t i;
+
+    for (i = 0; i < count; i++)
+        if (numbers[i] != 0)
+            return 0;
+    return 1;
+}
+
+/* One table of a book that some delivery leaves: numbers that its columns take, keys that rise, zeros elsewhere. */
+static int table_keeps_rule(rows_in rows, unsigned t)
+{
+    const struct table *table = &tables[t];
+    unsigned kept = t == VEHICLE_BLOCK ? NUMBERS : table->key_width;
+    size_t n = used(rows);
+    size_t i;
+    unsigned c;
+
+    for (i = 0; i < n; i++) {
+        for (c = 0; c < kept; c++)
+            if (rows[i][c] < table->columns[c].least || rows[i][c] > table->columns[c].most)
+                return 0;
+        if (!is_zero(rows[i] + kept, NUMBERS - kept))
+            return 0;
+        /* "rows by rising key"; equal keys would have been 9 */
+        if (i > 0 && compare_keys(rows[i - 1], rows[i], table->key_width) >= 0)
+            return 0;
+    }
+    /* "unused room zero" */
+    for (i = n; i < ROWS; i++)
+        if (!is_zero(rows[i], NUMBERS))
+            return 0;
+    return 1;
+}
+
+/* "The book rule: it is a book that some accepted delivery leaves." Every book that passes here is left by the delivery
+ * of its own rows in their order: 512 rows of full width stay far below 65,536 bytes in each table. */
+static int keeps_book_rule(rows_in book)
+{
+    rows_in blocks = rows_of_in(book, VEHICLE_BLOCK);
+    size_t n, i;
+    unsigned t;
+
+    for (t = 1; t <= TABLES; t++)
+        if (!table_keeps_rule(rows_of_in(book, t), t))
+            return 0;
+    n = used(blocks);
+    for (i = 0; i < n; i++)
+        if (end_below_begin(blocks[i]) || lost_reference(book, blocks[i]))
+            return 0;
+    return 1;
+}
+
+/* "16 | handed-in book breaks the book rule, or a lent length is wrong". The length first: a shorter book has no rows to
+ * look at where the rule looks. */
+static int is_book(rows_in book, size_t rows)
+{
+    return rows == BOOK_ROWS && keeps_book_rule(book);
+}
+
+/* ---- Questions */
+
+/* Where line `wanted` lies; there is none before line 1. */
+static int find_line(const uint8_t *text, size_t length, uint64_t wanted, struct line *line)
+{
+    uint64_t line_number = 0;
+    size_t at = 0;
+
+    while (next_line(text, length, &at, line)) {
+        line_number++;
+        if (line_number == wanted)
+            return 1;
+    }
+    return 0;
+}
+
+/* "The answer is a number, a stretch of text, or nothing, the last for empty content or a missing optional column." */
+static void answer_cell(struct cell cell, const struct column *column, uint64_t value, uint64_t answer[4])
+{
+    /* `""` is empty, and so the raw bytes tell whether there is content. */
+    if (cell.start == cell.end)
+        return;
+    if (column->kind == 'd') {
+        answer[0] = 1;
+        answer[1] = value;
+        return;
+    }
+    /* "The stretch is the caller's own bytes between the quotes, or the whole cell where unquoted, doubled quotes still
+     * doubled." */
+    answer[0] = 2;
+    answer[2] = cell.start;
+    answer[3] = cell.end - cell.start;
+}
+
+uint64_t second_cell(const uint8_t *text, size_t length, uint64_t table, uint64_t line, uint64_t column, uint64_t answer[4],
+    uint64_t place[4])
+{
+    struct cell cells[HEADER_CELLS];
+    struct header header;
+    struct line found;
+    const struct column *asked;
+    uint64_t number, value, cell;
+    size_t at;
+    unsigned t;
+
+    /* "Every answer but a text hands back an empty stretch, and every refusal zeros for numbers." */
+    memset(answer, 0, 4 * sizeof answer[0]);
+    /* "Checks: 15 for table or column, 1, header faults, 15 for the line (line 1 included), then 6 and 7 for that line and
+     * 8 for that cell. Other rows and 5 do not matter." */
+    if (table < 1 || table > TABLES)
+        return refuse_without_place(place, 15);
+    t = (unsigned)table;
+    if (column < 1 || column > tables[t].column_count)
+        return refuse_without_place(place, 15);
+    if (length > TEXT_BYTES)
+        return refuse(place, 1, t, 0, 0);
+    number = read_header(t, text, length, &header, &at, place);
+    if (number)
+        return number;
+    if (line <= 1 || !find_line(text, length, line, &found))
+        return refuse_without_place(place, 15);
+    number = take_line(t, text, found, line, &header, cells, place);
+    if (number)
+        return number;
+    cell = header.cell_of[column];
+    if (!cell)
+        return accept(place); /* a missing column that the header was let off is optional: nothing */
+    asked = &tables[t].columns[column - 1];
+    if (!judge_cell(text, cells[cell - 1], asked, &value))
+        return refuse(place, 8, t, line, column);
+    answer_cell(cells[cell - 1], asked, value, answer);
+    return accept(place);
+}
+
+/* "Type: 16, 15, or seconds and count of its blocks." */
+uint64_t second_type(const uint64_t (*book)[11], size_t rows, uint64_t version, uint64_t number, uint64_t answer[2],
+    uint64_t place[4])
+{
+    rows_in blocks;
+    size_t n, i;
+
+    answer[0] = 0;
+    answer[1] = 0;
+    if (!is_book(book, rows))
+        return refuse_without_place(place, 16);
+    if (!refers(book, VEHICLE_TYPE, version, number))
+        return refuse_without_place(place, 15);
+    blocks = rows_of_in(book, VEHICLE_BLOCK);
+    n = used(blocks);
+    for (i = 0; i < n; i++) {
+        if (blocks[i][B_VERSION] != version || blocks[i][B_TYPE] != number)
+            continue;
+        /* "Seconds of a block: END minus BEGIN." */
+        answer[0] += blocks[i][B_END] - blocks[i][B_BEGIN];
+        answer[1] += 1;
+    }
+    return accept(place);
+}
+
+/* "Block: 16, 15, or its seven non-key numbers." */
+uint64_t second_block(const uint64_t (*book)[11], size_t rows, uint64_t version, uint64_t day_type, uint64_t depot,
+    uint64_t block, uint64_t answer[7], uint64_t place[4])
+{
+    rows_in blocks;
+    uint64_t key[4];
+    size_t at;
+
+    memset(answer, 0, 7 * sizeof answer[0]);
+    if (!is_book(book, rows))
+        return refuse_without_place(place, 16);
+    blocks = rows_of_in(book, VEHICLE_BLOCK);
+    key[0] = version;
+    key[1] = day_type;
+    key[2] = depot;
+    key[3] = block;
+    at = find(blocks, key, 4);
+    /* A key of zeros is no row of the unused room: find looks at used rows only. */
+    if (at == ROWS)
+        return refuse_without_place(place, 15);
+    memcpy(answer, blocks[at] + 4, 7 * sizeof answer[0]);
+    return accept(place);
+}
+
+/* ---- Slips */
+
+enum { SLIP_FIELDS = 12 };
+
+/* A field: the bytes from start up to, not with, end. */
+struct field {
+    size_t start, end;
+};
+
+/* "Lines of tab-parted fields". Counts them and keeps the first twelve, which no kind has more of. */
+static size_t cut_fields(const uint8_t *slip, struct line line, struct field fields[SLIP_FIELDS])
+{
+    size_t count = 0;
+    size_t at = line.start;
+
+    for (;;) {
+        struct field field;
+
+        field.start = at;
+        while (at < line.end && slip[at] != '\t')
+            at++;
+        field.end = at;
+        if (count < SLIP_FIELDS)
+            fields[count] = field;
+        count++;
+        if (at == line.end)
+            return count;
+        at++;
+    }
+}
+
+/* "each ended by a line feed (the last may lack it)". A carriage return is a byte like another here: "a field with another
+ * byte, a carriage return too, is 8". */
+static int next_slip_line(const uint8_t *slip, size_t length, size_t *at, struct line *line)
+{
+    size_t i = *at;
+
+    if (i >= length)
+        return 0;
+    line->start = i;
+    while (i < length && slip[i] != '\n')
+        i++;
+    line->end = i;
+    *at = i < length ? i + 1 : i;
+    return 1;
+}
+
+/* "`A` and 11 numbers, in vehicle_block order: add. `R` and 11: replace the block of that key. `D` and the 4 key numbers:
+ * delete." The kind, or 0 for "12 | slip line of unknown kind or field count". A blank line has one field, an empty one. */
+static uint8_t kind_of(const uint8_t *slip, const struct field fields[SLIP_FIELDS], size_t count)
+{
+    uint8_t kind;
+
+    if (fields[0].end - fields[0].start != 1)
+        return 0;
+    kind = slip[fields[0].start];
+    if ((kind == 'A' || kind == 'R') && count == 12)
+        return kind;
+    if (kind == 'D' && count == 5)
+        return kind;
+    return 0;
+}
+
+/* "Numbers follow their column's rules, unquoted" and "Fields count as the vehicle_block columns." Returns 0 or the column
+ * with an 8. */
+static uint64_t take_fields(const uint8_t *slip, const struct field fields[SLIP_FIELDS], size_t count,
+    uint64_t numbers[NUMBERS])
+{
+    size_t c;
+
+    for (c = 1; c < count; c++) {
+        const struct column *column = &tables[VEHICLE_BLOCK].columns[c - 1];
+
+        if (!take_number(slip + fields[c].start, fields[c].end - fields[c].start, column, &numbers[c - 1]))
+            return c;
+    }
+    return 0;
+}
+
+/* "A: 12, 5, 8, 11, 9, 10. R: 12, 8, 11, 13, 10. D: 12, 8, 13." The blocks stand in their own rows here, as the earlier
+ * lines left them; the book has the tables that they refer to. */
+static uint64_t take_slip_line(const uint8_t *slip, struct line line, uint64_t line_number, rows_in book,
+    uint64_t (*blocks)[NUMBERS], uint64_t place[4])
+{
+    struct field fields[SLIP_FIELDS];
+    uint64_t numbers[NUMBERS] = {0};
+    size_t count = cut_fields(slip, line, fields);
+    uint8_t kind = kind_of(slip, fields, count);
+    uint64_t column;
+    size_t at;
+
+    /* "12 | slip line of unknown kind or field count | slip line, 0" */
+    if (!kind)
+        return refuse(place, 12, SLIP, line_number, 0);
+    /* "An A meets 5 only while 512 blocks stand; a deleted block's room is used again." */
+    if (kind == 'A' && used((rows_in)blocks) == ROWS)
+        return refuse(place, 5, SLIP, line_number, 0);
+    column = take_fields(slip, fields, count, numbers);
+    if (column)
+        return refuse(place, 8, SLIP, line_number, column);
+    if (kind != 'D' && end_below_begin(numbers))
+        return refuse(place, 11, SLIP, line_number, 11);
+    at = find((rows_in)blocks, numbers, 4);
+    /* "9 | key stands in an earlier row (A: in the book)" */
+    if (kind == 'A' && at < ROWS)
+        return refuse(place, 9, SLIP, line_number, 0);
+    /* "13 | slip names a block not in the book" */
+    if (kind != 'A' && at == ROWS)
+        return refuse(place, 13, SLIP, line_number, 0);
+    column = kind == 'D' ? 0 : lost_reference(book, numbers);
+    if (column)
+        return refuse(place, 10, SLIP, line_number, column);
+    if (kind == 'A')
+        insert(blocks, (const uint64_t *)numbers, 4);
+    else if (kind == 'R')
+        memcpy(blocks[at], numbers, sizeof blocks[at]);
+    else
+        delete(blocks, at);
+    return 0;
+}
+
+/* All lines of a slip, on a copy of the book's blocks. */
+static uint64_t take_slip(const uint8_t *slip, size_t length, rows_in book, uint64_t (*blocks)[NUMBERS], uint64_t place[4])
+{
+    struct line line;
+    uint64_t line_number;
+    size_t at = 0;
+
+    /* "Order: 16; 1; per line" */
+    if (length > TEXT_BYTES)
+        return refuse(place, 1, SLIP, 0, 0);
+    /* "An empty slip is accepted; a blank line is 12." */
+    for (line_number = 1; next_slip_line(slip, length, &at, &line); line_number++) {
+        /* "its lines are judged in turn on what the earlier ones left" */
+        uint64_t number = take_slip_line(slip, line, line_number, book, blocks, place);
+
+        if (number)
+            return number;
+    }
+    return accept(place);
+}
+
+uint64_t second_slip(const uint8_t *slip, size_t slip_length, uint64_t (*book)[11], size_t book_rows, uint64_t (*work)[11],
+    size_t work_rows, uint64_t place[4])
+{
+    uint64_t (*blocks)[NUMBERS];
+    uint64_t number;
+
+    /* "Book and working area each have one fixed size; one lent at another length is 16, before all else: that one stays
+     * as it came, and the rest ends as after any refusal." */
+    if (work_rows != WORK_ROWS)
+        return refuse_without_place(place, 16);
+    if (!is_book((rows_in)book, book_rows)) {
+        memset(work, 0, WORK_ROWS * sizeof work[0]);
+        return refuse_without_place(place, 16);
+    }
+    blocks = rows_of(book, VEHICLE_BLOCK);
+    memcpy(work, blocks, WORK_ROWS * sizeof work[0]);
+    number = take_slip(slip, slip_length, (rows_in)book, work, place);
+    /* "A slip is taken whole or not at all" */
+    if (number == 0)
+        memcpy(blocks, work, WORK_ROWS * sizeof work[0]);
+    /* "A working area lent to a call ends all zero." */
+    memset(work, 0, WORK_ROWS * sizeof work[0]);
+    return number;
+}
+
+/* ---- The writer */
+
+/* Header and rows: eleven names of at most 21 bytes and 512 rows of 54 digits, each byte string with one byte behind it. */
+enum { WRITTEN_BYTES = 11 * 22 + ROWS * (54 + 11) };
+
+/* Decimal, no leading zeros. */
+static size_t write_number(uint8_t *out, uint64_t number)
+{
+    uint8_t backwards[20];
+    size_t n = 0;
+    size_t i;
+
+    do {
+        backwards[n++] = (uint8_t)('0' + number % 10);
+        number /= 10;
+    } while (number > 0);
+    for (i = 0; i < n; i++)
+        out[i] = backwards[n - 1 - i];
+    return n;
+}
+
+/* "The written table has the 11 names above in order, no quotes, no leading zeros, line feeds, rows by rising key" */
+static size_t write_blocks(rows_in blocks, uint8_t out[WRITTEN_BYTES])
+{
+    size_t n = used(blocks);
+    size_t at = 0;
+    size_t i;
+    unsigned c;
+
+    for (c = 0; c < NUMBERS; c++) {
+        size_t length = strlen(tables[VEHICLE_BLOCK].columns[c].name);
+
+        memcpy(out + at, tables[VEHICLE_BLOCK].columns[c].name, length);
+        at += length;
+        out[at++] = c + 1 < NUMBERS ? ';' : '\n';
+    }
+    for (i = 0; i < n; i++)
+        for (c = 0; c < NUMBERS; c++) {
+            at += write_number(out + at, blocks[i][c]);
+            out[at++] = c + 1 < NUMBERS ? ';' : '\n';
+        }
+    return at;
+}
+
+uint64_t second_write(const uint64_t (*book)[11], size_t rows, uint8_t *out, size_t out_length, uint64_t length[1],
+    uint64_t place[4])
+{
+    uint8_t text[WRITTEN_BYTES];
+    size_t written;
+
+    /* "The answer is the text's length, 0 if refused. Order: 16, 14." */
+    length[0] = 0;
+    if (!is_book(book, rows))
+        return refuse_without_place(place, 16);
+    written = write_blocks(rows_of_in(book, VEHICLE_BLOCK), text);
+    /* "14 | output shorter than the text to write" */
+    if (out_length < written)
+        return refuse_without_place(place, 14);
+    /* "Bytes behind the text stay." */
+    memcpy(out, text, written);
+    length[0] = written;
+    return accept(place);
+}

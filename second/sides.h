@@ -1,0 +1,47 @@
+/* The two sides of a comparison: the library's six functions and six others of the same shape, each set in a struct, so
+ * that the host, the edges and the benchmark do the same with both. */
+#ifndef SECOND_SIDES_H
+#define SECOND_SIDES_H
+
+#include <stddef.h>
+#include <stdint.h>
+
+enum { NUMBERS = 11, TABLE_ROWS = 512, BOOK_ROWS = 2048, WORK_ROWS = 512 };
+
+typedef uint64_t row[NUMBERS];
+
+/* Bytes that are handed in: a table text or a slip. */
+struct text {
+    const uint8_t *bytes;
+    size_t length;
+};
+
+struct side {
+    const char *name;
+    uint64_t (*read)(const uint8_t *, size_t, const uint8_t *, size_t, const uint8_t *, size_t, const uint8_t *, size_t,
+        row *book, size_t rows, uint64_t place[4]);
+    uint64_t (*slip)(const uint8_t *, size_t, row *book, size_t rows, row *work, size_t work_rows, uint64_t place[4]);
+    uint64_t (*cell)(const uint8_t *, size_t, uint64_t table, uint64_t line, uint64_t column, uint64_t answer[4],
+        uint64_t place[4]);
+    uint64_t (*type)(const row *book, size_t rows, uint64_t version, uint64_t number, uint64_t answer[2],
+        uint64_t place[4]);
+    uint64_t (*block)(const row *book, size_t rows, uint64_t version, uint64_t day_type, uint64_t depot, uint64_t block,
+        uint64_t answer[7], uint64_t place[4]);
+    uint64_t (*write)(const row *book, size_t rows, uint8_t *out, size_t out_length, uint64_t length[1],
+        uint64_t place[4]);
+};
+
+/* The library, or what stands in for it: built with -DSELF the second reader, with -DPLAIN the benchmark's plain one. */
+extern const struct side library_side;
+
+/* The second reader. */
+extern const struct side second_side;
+
+/* A reading of four texts at once. */
+static inline uint64_t side_read(const struct side *side, const struct text t[4], row *book, size_t rows, uint64_t place[4])
+{
+    return side->read(t[0].bytes, t[0].length, t[1].bytes, t[1].length, t[2].bytes, t[2].length, t[3].bytes, t[3].length,
+        book, rows, place);
+}
+
+#endif
