@@ -5,15 +5,18 @@ use mathlib.Core.Bool.{Bool, true, false}
 use Prim.Native.Nat.{ℕ, zero, suc, _+_, _≤_, _<_}
 use native.Mathlib.Omega.{arith}
 use native.Mathlib.Nat.{not-suc-le-zero}
+use lib.Dec.{eqb}
 use lib.ListN.{length, getD, take, drop, set}
-use Rattle.words.specs.Words.{Row}
+use borrow.Author.Tests.{eqb-true, eqb-false}
+use Rattle.words.specs.Words.{Row, if_then_else_}
 use Rattle.rows.specs.declared.Order.{Order}
 use Rattle.rows.specs.declared.Order.the-variants.{Less, Same, More}
 use Rattle.rows.specs.declared.Spot.{Spot}
 use Rattle.rows.specs.declared.Spot.the-variants.{At, Gap}
-use Rattle.rows.specs.Rows.{keyOrder, stands, found, inserted, replaced, removed, rising}
-use Rattle.rows.specs.Room.{spotFrom, spot}
+use Rattle.rows.specs.Rows.{column, keyOrder, stands, found, inserted, replaced, removed, rising}
+use Rattle.rows.specs.Room.{used, Holds, spotFrom, spot}
 use Rattle.rows.proofs.Keys.{Tri, lt, eq, gt, tri, less-trans, less-more, more-less, same-same, same-right}
+use Rattle.rows.proofs.Room.{used-row, used-goes-on, used-stops}
 use Rattle.rows.proofs.Rising.{Above, Rising, above-less, rising-at, rising-true}
 
 -- a place, by what stands before it and at it
@@ -40,17 +43,15 @@ spot-at k i row (x ∷ xs) (suc m) h b a =
     rw (b 0 (omega arith))
     (spot-at k (suc i) row xs m (omega arith) (λ j l. b (suc j) (omega arith)) a ∙ ap At (omega arith))
 
--- low and high bracket the place of row among xs
+-- low and high bracket the place of row among xs; high may lie in the room behind them
 pub record Bracket (k : ℕ) (row : Row) (xs : List Row) (low high : ℕ) : Type 0 where
-  pub in-order : low ≤ high
-  pub within : high ≤ length xs
+  pub reached : low ≤ length xs
   pub below : (j : ℕ) → j < low → keyOrder k row (getD xs j []) ≡ More
   pub above : (j : ℕ) → high ≤ j → j < length xs → keyOrder k row (getD xs j []) ≡ Less
 
-pub bracket-start : (k : ℕ) (row : Row) (xs : List Row) (n : ℕ) → n ≡ length xs → Bracket k row xs 0 n
-bracket-start k row xs n e = record {
-  in-order = omega arith;
-  within = omega arith;
+pub bracket-start : (k : ℕ) (row : Row) (xs : List Row) (n : ℕ) → length xs ≤ n → Bracket k row xs 0 n
+bracket-start k row xs n h = record {
+  reached = omega arith;
   below = λ j l. absurd (not-suc-le-zero l);
   above = λ j l l′. absurd (omega arith);
 }
@@ -59,27 +60,25 @@ module _ (k : ℕ) (row : Row) (xs : List Row) (low high : ℕ) (rises : rising 
   rising-in : (p q : ℕ) → p < q → q < length xs → keyOrder k (getD xs p []) (getD xs q []) ≡ Less
   rising-in = rising-at k xs (rising-true k xs rises)
 
-  module _ (m : ℕ) (lm : low ≤ m) (mh : m < high) where
-    pub bracket-in : m < length xs
-    bracket-in = omega (arith, b .within)
+  bracket-room : (m : ℕ) → length xs ≤ m → Bracket k row xs low m
+  bracket-room m h = record { reached = b .reached; below = b .below; above = λ j l l′. absurd (omega arith) }
 
-    pub bracket-up : keyOrder k row (getD xs m []) ≡ More → Bracket k row xs (m + 1) high
+  module _ (m : ℕ) (within : m < length xs) where
+    bracket-up : keyOrder k row (getD xs m []) ≡ More → Bracket k row xs (m + 1) high
     bracket-up e = record {
-      in-order = omega arith;
-      within = b .within;
+      reached = omega arith;
       below = λ j l. go j (tri j m) l;
       above = b .above;
     }
       where
         go : (j : ℕ) → Tri j m → j < m + 1 → keyOrder k row (getD xs j []) ≡ More
-        go j (lt h) l = less-more k _ _ (less-trans k _ _ _ (rising-in j m h bracket-in) (more-less k _ _ e))
+        go j (lt h) l = less-more k _ _ (less-trans k _ _ _ (rising-in j m h within) (more-less k _ _ e))
         go j (eq h) l = rw h e
         go j (gt h) l = absurd (omega arith)
 
-    pub bracket-down : keyOrder k row (getD xs m []) ≡ Less → Bracket k row xs low m
+    bracket-down : keyOrder k row (getD xs m []) ≡ Less → Bracket k row xs low m
     bracket-down e = record {
-      in-order = lm;
-      within = omega (arith, bracket-in);
+      reached = b .reached;
       below = b .below;
       above = λ j l h. go j (tri m j) l h;
     }
@@ -89,16 +88,47 @@ module _ (k : ℕ) (row : Row) (xs : List Row) (low high : ℕ) (rises : rising 
         go j (eq g) l h = rw (← g) e
         go j (gt g) l h = absurd (omega arith)
 
-    pub bracket-at : keyOrder k row (getD xs m []) ≡ Same → spot k row xs ≡ At m
+    bracket-at : keyOrder k row (getD xs m []) ≡ Same → spot k row xs ≡ At m
     bracket-at e =
-        spot-at k 0 row xs m bracket-in
-        (λ j l. less-more k _ _ (sym (same-right k (getD xs j []) _ _ (same-same k _ _ e)) ∙ rising-in j m l bracket-in))
+        spot-at k 0 row xs m within
+        (λ j l. less-more k _ _ (sym (same-right k (getD xs j []) _ _ (same-same k _ _ e)) ∙ rising-in j m l within))
         e
         ∙ ap At (omega arith)
 
   pub bracket-gap : high ≤ low → spot k row xs ≡ Gap low
-  bracket-gap d =
-      spot-gap k 0 row xs low (omega (arith, b .in-order, b .within)) (b .below) (λ l. b .above low d l) ∙ ap Gap (omega arith)
+  bracket-gap d = spot-gap k 0 row xs low (b .reached) (b .below) (λ l. b .above low d l) ∙ ap Gap (omega arith)
+
+-- the same by the order to a row of the slice, where an unused row lies above every key
+abbrev pub orderAt : ℕ → Row → List Row → ℕ → Order
+orderAt k row slice m = if eqb (column 1 (getD slice m [])) 0 then Less else keyOrder k row (getD slice m [])
+
+module _ (k : ℕ) (row : Row) (slice : List Row) (low high : ℕ) (table : Holds k slice) (b : Bracket k row (used slice) low high) (m : ℕ) (h : m < length slice) where
+  in-use : eqb (column 1 (getD slice m [])) 0 ≡ false → m < length (used slice)
+  in-use n = used-goes-on slice (table .rest) m h (eqb-false _ _ n)
+
+  used-order : (n : eqb (column 1 (getD slice m [])) 0 ≡ false) (o : Order) → orderAt k row slice m ≡ o → keyOrder k row (getD (used slice) m []) ≡ o
+  used-order n o e = rw (used-row slice m (in-use n)) (rw n at e)
+
+  pub slice-down : orderAt k row slice m ≡ Less → Bracket k row (used slice) low m
+  slice-down e = go (eqb (column 1 (getD slice m [])) 0) refl
+    where
+      go : (u : Bool) → eqb (column 1 (getD slice m [])) 0 ≡ u → Bracket k row (used slice) low m
+      go true n = bracket-room k row (used slice) low high (table .rises) b m (used-stops slice m (eqb-true _ _ n))
+      go false n = bracket-down k row (used slice) low high (table .rises) b m (in-use n) (used-order n Less e)
+
+  pub slice-up : orderAt k row slice m ≡ More → Bracket k row (used slice) (m + 1) high
+  slice-up e = go (eqb (column 1 (getD slice m [])) 0) refl
+    where
+      go : (u : Bool) → eqb (column 1 (getD slice m [])) 0 ≡ u → Bracket k row (used slice) (m + 1) high
+      go true n = let e′ : Less ≡ More = rw n at e in let z : _≡_ {A = ℕ} 0 1 = cc in absurd (omega arith)
+      go false n = bracket-up k row (used slice) low high (table .rises) b m (in-use n) (used-order n More e)
+
+  pub slice-at : orderAt k row slice m ≡ Same → spot k row (used slice) ≡ At m
+  slice-at e = go (eqb (column 1 (getD slice m [])) 0) refl
+    where
+      go : (u : Bool) → eqb (column 1 (getD slice m [])) 0 ≡ u → spot k row (used slice) ≡ At m
+      go true n = let e′ : Less ≡ Same = rw n at e in let z : _≡_ {A = ℕ} 0 1 = cc in absurd (omega arith)
+      go false n = bracket-at k row (used slice) low high (table .rises) b m (in-use n) (used-order n Same e)
 
 -- a key that stands at a place: what the changes make of the rows there
 pub record StandsAt (k i : ℕ) (row : Row) (xs : List Row) (place : ℕ) : Type 0 where

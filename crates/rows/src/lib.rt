@@ -3,9 +3,11 @@ ghost use mathlib.Core.Path.{_≡_};
 ghost use mathlib.Core.List.{[], _∷_, _++_};
 ghost use mathlib.Core.Bool.{true, false};
 ghost use Prim.Native.Nat.{suc, _-_, _≤_, _<_};
-ghost use lib.ListN.{length, take, drop, replicate};
-ghost use Rattle.words.specs.Words.{same};
-ghost use Rattle.rows.specs.Rows.{byOrder, keyOrder, stands, found, inserted, replaced, removed, rising};
+ghost use lib.Dec.{eqb};
+ghost use lib.ListN.{length, getD, take, drop, replicate};
+ghost use Rattle.words.specs.Words.{if_then_else_, same};
+ghost use Rattle.rows.specs.declared.Order.the-variants.{Less};
+ghost use Rattle.rows.specs.Rows.{column, byOrder, keyOrder, stands, found, inserted, replaced, removed, rising};
 ghost use Rattle.rows.specs.Room.{zeros, filled, used, Holds, sameRows, holds, spot, rowOf};
 
 // A row's numbers; its key is the first k of them.
@@ -66,17 +68,16 @@ pub fn count(list: &[Row]) -> usize
     low
 }
 
-// Where a key stands, or would stand. (By halving.)
+// Where a key stands, or would stand. (By halving over the whole slice: the used rows need not be counted.)
 pub fn seek(list: &[Row], k: usize, row: Row) -> Spot
     requires { ⌜ Holds k (now list) ⌝ }
     ensures { λ r. ⌜ r ≡ spot k row (used (now (list .entry))) ⌝ }
 {
     let mut low = 0;
-    let mut high = count(list);
+    let mut high = list.len();
     'rows: while low < high {
         let mid = low + ((high - low) >> 1);
-        let there = list[mid];
-        match compare(row, there, k) {
+        match order_at(list, mid, k, row) {
             Order::Less => {
                 high = mid;
             }
@@ -186,6 +187,18 @@ pub fn copy(from: &[Row], to: &mut [Row])
         to[i] = row;
         i += 1;
     }
+}
+
+// The order of a row to the one at a place; an unused row lies above every key.
+fn order_at(list: &[Row], at: usize, k: usize, row: Row) -> Order
+    requires { ⌜ at < length (now list) ⌝ }
+    ensures { λ r. ⌜ r ≡ (if eqb (column 1 (getD (now (list .entry)) at [])) 0 then Less else keyOrder k row (getD (now (list .entry)) at [])) ⌝ }
+{
+    if list[at][0] == 0 {
+        return Order::Less;
+    }
+    let there = list[at];
+    compare(row, there, k)
 }
 
 // A row at place `at` among the first n, whose rows from there on move one further.
