@@ -1,6 +1,6 @@
 -- Lists whose elements move one on or one back, and what that leaves of a filled slice. Assumes nothing.
 use mathlib.Core.Path.{_≡_, sym, ap, _∙_}
-use mathlib.Core.List.{List, _∷_, _++_, append-assoc}
+use mathlib.Core.List.{List, [], _∷_, _++_, append-assoc}
 use mathlib.Core.Bool.{false}
 use Prim.Native.Nat.{ℕ, zero, suc, _+_, _-_, _≤_, _<_}
 use native.Mathlib.Omega.{arith}
@@ -12,7 +12,7 @@ use Rattle.words.specs.Words.{Row}
 use Rattle.rows.specs.declared.Spot.the-variants.{At, Gap}
 use Rattle.rows.specs.Rows.{stands, inserted, replaced, removed}
 use Rattle.rows.specs.Room.{zeros, filled, used, Holds, spot}
-use Rattle.rows.proofs.Room.{used-within}
+use Rattle.rows.proofs.Room.{used-within, used-stops}
 use Rattle.rows.proofs.Places.{at-within, at-inserted, at-replaced, at-removed, gap-within, gap-inserted, gap-missing}
 use Rattle.rows.proofs.Changes.{replaced-missing, removed-missing}
 
@@ -136,6 +136,14 @@ module _ (k : ℕ) (row : Row) (xs : List Row) (table : Holds k xs) where
         let l : length (take i us ++ (row ∷ drop i us)) ≡ suc n = simp (length-append, length-take, length-drop) (omega arith) in
         let m : length xs - length us ≡ suc (length xs - suc n) = omega arith in
         ap (putIn n i row) (table .rest) ∙ putIn-front us _ row i n (sym as-many) (omega arith) ∙ rw (gap-inserted k row us i here, l, m)
+
+    -- a gap at an unused row is one behind the used rows
+    pub filled-appended : getD (getD xs i []) 0 0 ≡ 0 → length us < length xs → set xs i row ≡ filled (length xs) (inserted k row us)
+    filled-appended unused room =
+        let e : i ≡ length us = omega (arith, used-stops xs i unused, gap-within k row us i here) in
+        let r : i < length xs = omega arith in
+        let l : i ≤ i = omega arith in
+        ap (λ (l : List Row). set l i row) (opened-start [] xs i r) ∙ opened-set [] xs i r i row l ∙ filled-inserted i e r
 
     missing : stands k row us ≡ false
     missing = gap-missing k row us i here (table .rises)

@@ -113,16 +113,20 @@ pub fn row_of(list: &[Row], k: usize, row: Row) -> Row
     }
 }
 
-// One more row, where there is room and its key does not stand yet.
+// One more row, where there is room and its key does not stand yet. In a gap at an unused row nothing has to move.
 pub fn insert(list: &mut [Row], k: usize, row: Row)
     requires { ⌜ Holds k (now list) × (length (used (now list)) < length (now list)) ⌝ }
     ensures { λ _. ⌜ now (list .exit) ≡ filled (length (now (list .entry))) (inserted k row (used (now (list .entry)))) ⌝ }
 {
-    let n = count(&list[..]);
     match seek(&list[..], k, row) {
         Spot::At(_) => {}
         Spot::Gap(i) => {
-            put_in(list, n, i, row);
+            if list[i][0] == 0 {
+                list[i] = row;
+            } else {
+                let n = count(&list[..]);
+                put_in(list, n, i, row);
+            }
         }
     }
 }
