@@ -2,10 +2,10 @@
 -- changes keep a book in order. Assumes nothing.
 use mathlib.Core.Path.{_≡_, refl, sym, ap, _∙_}
 use mathlib.Core.List.{List, [], _++_, append-assoc, append-nil}
-use mathlib.Core.Bool.{true, false}
+use mathlib.Core.Bool.{true, false, not}
 use Prim.Native.Nat.{ℕ, _+_, _-_, _*_, _≤_, _<_}
 use native.Mathlib.Omega.{arith}
-use lib.Dec.{lit≤}
+use lib.Dec.{eqb, leb, lit≤}
 use lib.ListN.{length, take, drop, getD, length-append, length-take, length-drop, take-append-drop, replicate, replicate-append-replicate}
 use lib.Seq.{take-at, drop-at, take-all, drop-drop, getD-take, getD-drop}
 use borrow.Author.Tests.{leb-false}
@@ -17,7 +17,7 @@ use Rattle.tables.proofs.Figures.{part-below, keys-some}
 use Rattle.rows.specs.Rows.{column, replaced, removed, rising}
 use Rattle.rows.specs.Room.{zeros, filled, used, Holds, holds}
 use Rattle.rows.proofs.Rising.{rising-inserted, rising-replaced, rising-removed}
-use Rattle.rows.proofs.Room.{Versioned, used-versioned, used-within, used-row, used-filled, length-filled, holds-filled}
+use Rattle.rows.proofs.Room.{Versioned, used-versioned, used-within, used-row, used-filled, length-filled, full-last, holds-filled}
 use Rattle.rows.proofs.Changes.{length-inserted-most, length-replaced, length-removed-most, versioned-inserted, versioned-replaced, versioned-removed}
 use Rattle.book.specs.Book.{Book, empty, rows, with-rows, entered, full}
 use Rattle.book.specs.Room.{laid, part, bookOf, Sound}
@@ -80,17 +80,29 @@ module _ (t : Table) (xs : List Row) (sound : Sound xs) (from : ℕ) (here : fro
   pub lent-length : length lent ≡ 512
   lent-length = ap length (part-lent t xs from here) ∙ length-part xs (sound .long) t
 
--- a used row of a table is read at its place in the slice
+-- a row of a part is read at its place in the slice
+part-row : (t : Table) (xs : List Row) (from i : ℕ) → from ≡ partOf t * 512 → i < 512 → getD (part (partOf t) xs) i [] ≡ getD xs (from + i) []
+part-row t xs from i e m =
+    getD-take 512 (drop (partOf t * 512) xs) i [] m ∙ getD-drop (partOf t * 512) xs i [] ∙ ap (λ (n : ℕ). getD xs (n + i) []) (sym e)
+
 pub row-at : (t : Table) (xs : List Row) (from i : ℕ) → from ≡ partOf t * 512 → length xs ≡ 2048 → i < length (rows t (bookOf xs)) → getD (rows t (bookOf xs)) i [] ≡ getD xs (from + i) []
 row-at t xs from i e l h =
     let us = used (part (partOf t) xs) in
     let g : i < length us = rw (rows-part t xs) at h in
     let m : i < 512 = omega (arith, used-within (part (partOf t) xs), length-part xs l t) in
-    ap (λ (r : List Row). getD r i []) (rows-part t xs)
-    ∙ used-row (part (partOf t) xs) i g
-    ∙ getD-take 512 (drop (partOf t * 512) xs) i [] m
-    ∙ getD-drop (partOf t * 512) xs i []
-    ∙ ap (λ (n : ℕ). getD xs (n + i) []) (sym e)
+    ap (λ (r : List Row). getD r i []) (rows-part t xs) ∙ used-row (part (partOf t) xs) i g ∙ part-row t xs from i e m
+
+-- a table is full where the last row of its part is used
+pub full-part : (t : Table) (xs : List Row) (from : ℕ) → from ≡ partOf t * 512 → Sound xs → full t (bookOf xs) ≡ not (eqb (getD (getD xs (from + 512 - 1) []) 0 0) 0)
+full-part t xs from e sound =
+    let p = part (partOf t) xs in
+    let l : length p ≡ 512 = length-part xs (sound .long) t in
+    let m : from + 511 ≡ from + 512 - 1 = omega arith in
+    let last : getD p 511 [] ≡ getD xs (from + 512 - 1) [] = part-row t xs from 511 e (omega arith) ∙ ap (λ (n : ℕ). getD xs n []) m in
+    ap (λ (us : List Row). leb 512 (length us)) (rows-part t xs)
+    ∙ ap (λ (n : ℕ). leb n (length (used p))) (sym l)
+    ∙ full-last p (sound .tables t .rest) 511 (sym l)
+    ∙ ap (λ (r : Row). not (eqb (getD r 0 0) 0)) last
 
 -- a book in order ------------------------------------------------------------------------------------------------------------------
 

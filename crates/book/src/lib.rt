@@ -86,11 +86,14 @@ pub fn row_at(book: &[Row], t: Table, i: usize) -> Row
     book[from + i]
 }
 
+// A table is full where the last row of its part is used.
 pub fn is_full(book: &[Row], t: Table) -> bool
     requires { ⌜ Sound (now book) ⌝ }
     ensures { λ r. ⌜ r ≡ full t (bookOf (now (book .entry))) ⌝ }
 {
-    ROWS <= count_rows(book, t)
+    let from = first_row(t);
+    let last = from + ROWS - 1;
+    book[last][0] != 0
 }
 
 // 11. Only a block has times.

@@ -1,5 +1,5 @@
 -- `rows::seek` meets its contract: low and high bracket the place among the used rows. Assumes nothing.
-use mathlib.Core.Path.{sym, _∙_}
+use mathlib.Core.Path.{_≡_, sym, _∙_}
 use Prim.Native.Nat.{_+_, _-_, _/_, _≤_}
 use native.Mathlib.Omega.{arith}
 use lib.ListN.{length}
@@ -31,6 +31,13 @@ order-at-requires c κs = search needs
 enum-told : tie.Need-enum-told Inv-rows μ-rows
 enum-told c = search needs
 
+-- what the row at the middle says
+seen : (c : tie.After-order-at Inv-rows μ-rows) →
+    let at = c .before .before in
+    let st = at .before in
+    places.orderAt (st .args .k) (st .args .row) (st .args .list .now) (at .rows .low + (at .rows .high - at .rows .low) / 2) ≡ c .order-at .result
+seen c = sym (c .order-at .ensures)
+
 rows-less : tie.Need-rows-less Inv-rows μ-rows
 rows-less c = search needs
 
@@ -41,7 +48,7 @@ rows-again c =
     let mid = at .rows .low + (at .rows .high - at .rows .low) / 2 in (
       search needs,
       places.slice-down (st .args .k) (st .args .row) (st .args .list .now) (at .rows .low) (at .rows .high) (st .pre) (at .rows .inv .1)
-          mid (search needs) (sym (c .before .before .order-at .ensures) ∙ c .enum-told .given .1),
+          mid (search needs) (seen (c .before .before) ∙ c .enum-told .given .1),
     )
 
 enum-told-2 : tie.Need-enum-told-2 Inv-rows μ-rows
@@ -53,7 +60,7 @@ returns c =
     let st = at .before in
     let mid = at .rows .low + (at .rows .high - at .rows .low) / 2 in
     sym (places.slice-at (st .args .k) (st .args .row) (st .args .list .now) (at .rows .low) (at .rows .high) (st .pre) (at .rows .inv .1)
-    mid (search needs) (sym (c .before .before .order-at .ensures) ∙ c .enum-told2 .given .1))
+    mid (search needs) (seen (c .before .before) ∙ c .enum-told2 .given .1))
 
 enum-told-3 : tie.Need-enum-told-3 Inv-rows μ-rows
 enum-told-3 c = search needs
@@ -71,7 +78,7 @@ rows-again-2 c =
     let mid = at .rows .low + (at .rows .high - at .rows .low) / 2 in (
       search needs,
       places.slice-up (st .args .k) (st .args .row) (st .args .list .now) (at .rows .low) (at .rows .high) (st .pre) (at .rows .inv .1)
-          mid (search needs) (sym (c .before .before .order-at .ensures) ∙ c .enum-told3 .given .1),
+          mid (search needs) (seen (c .before .before) ∙ c .enum-told3 .given .1),
     )
 
 returns-2 : tie.Need-returns-2 Inv-rows μ-rows
