@@ -29,16 +29,19 @@ pub enum Spot {
 }
 
 // The order of two rows by their first k numbers, for every k: past their end both rows read as 0.
-pub fn compare(a: Row, b: Row, k: usize) -> Order
-    ensures { λ r. ⌜ r ≡ keyOrder k a b ⌝ }
+pub fn compare(a: &Row, b: &Row, k: usize) -> Order
+    ensures { λ r. ⌜ r ≡ keyOrder k (now (a .entry)) (now (b .entry)) ⌝ }
 {
+    // As slices: a slice of a row is known to have 11 numbers, what a reference to one refers to is not.
+    let left = &a[..];
+    let right = &b[..];
     let mut i = 0;
     'keys: while i < 11 {
         if i == k {
             return Order::Same;
         }
-        let x = a[i];
-        let y = b[i];
+        let x = left[i];
+        let y = right[i];
         if x < y {
             return Order::Less;
         }
@@ -77,7 +80,7 @@ pub fn seek(list: &[Row], k: usize, row: Row) -> Spot
     let mut high = list.len();
     'rows: while low < high {
         let mid = low + ((high - low) >> 1);
-        match order_at(list, mid, k, row) {
+        match order_at(list, mid, k, &row) {
             Order::Less => {
                 high = mid;
             }
@@ -194,15 +197,14 @@ pub fn copy(from: &[Row], to: &mut [Row])
 }
 
 // The order of a row to the one at a place; an unused row lies above every key.
-fn order_at(list: &[Row], at: usize, k: usize, row: Row) -> Order
+fn order_at(list: &[Row], at: usize, k: usize, row: &Row) -> Order
     requires { ⌜ at < length (now list) ⌝ }
-    ensures { λ r. ⌜ r ≡ (if eqb (column 1 (getD (now (list .entry)) at [])) 0 then Less else keyOrder k row (getD (now (list .entry)) at [])) ⌝ }
+    ensures { λ r. ⌜ r ≡ (if eqb (column 1 (getD (now (list .entry)) at [])) 0 then Less else keyOrder k (now (row .entry)) (getD (now (list .entry)) at [])) ⌝ }
 {
     if list[at][0] == 0 {
         return Order::Less;
     }
-    let there = list[at];
-    compare(row, there, k)
+    compare(row, &list[at], k)
 }
 
 // A row at place `at` among the first n, whose rows from there on move one further.
@@ -248,8 +250,8 @@ fn first_unused(list: &[Row]) -> usize
 }
 
 // Whether the key of a is below that of b.
-fn below(a: Row, b: Row, k: usize) -> bool
-    ensures { λ r. ⌜ r ≡ byOrder (keyOrder k a b) true false false ⌝ }
+fn below(a: &Row, b: &Row, k: usize) -> bool
+    ensures { λ r. ⌜ r ≡ byOrder (keyOrder k (now (a .entry)) (now (b .entry))) true false false ⌝ }
 {
     match compare(a, b, k) {
         Order::Less => true,
@@ -265,9 +267,7 @@ fn rises(list: &[Row], n: usize, k: usize) -> bool
 {
     let mut i = 1;
     'rows: while i < n {
-        let before = list[i - 1];
-        let here = list[i];
-        if !below(before, here, k) {
+        if !below(&list[i - 1], &list[i], k) {
             return false;
         }
         i += 1;
@@ -275,12 +275,14 @@ fn rises(list: &[Row], n: usize, k: usize) -> bool
     true
 }
 
-fn blank(row: Row) -> bool
-    ensures { λ r. ⌜ r ≡ same row zeros ⌝ }
+fn blank(row: &Row) -> bool
+    ensures { λ r. ⌜ r ≡ same (now (row .entry)) zeros ⌝ }
 {
+    // As a slice, for its length, as in `compare`.
+    let numbers = &row[..];
     let mut i = 0;
     'columns: while i < 11 {
-        if row[i] != 0 {
+        if numbers[i] != 0 {
             return false;
         }
         i += 1;
@@ -295,8 +297,7 @@ fn blank_from(list: &[Row], n: usize) -> bool
 {
     let mut i = n;
     'rows: while i < list.len() {
-        let row = list[i];
-        if !blank(row) {
+        if !blank(&list[i]) {
             return false;
         }
         i += 1;

@@ -17,11 +17,11 @@ abbrev μ-rows : tie.MeasureT-rows
 rows-holds : tie.Need-rows-holds Inv-rows μ-rows
 rows-holds c = (search needs, refl)
 
-mul-row : tie.Need-mul-row Inv-rows μ-rows
-mul-row c = search needs
+mul-blank : tie.Need-mul-blank Inv-rows μ-rows
+mul-blank c = search needs
 
-shared-slice-copy-out-row : tie.Need-shared-slice-copy-out-row Inv-rows μ-rows
-shared-slice-copy-out-row c = search needs
+shared-slice-element-blank : tie.Need-shared-slice-element-blank Inv-rows μ-rows
+shared-slice-element-blank c = search needs
 
 blank-requires : tie.Need-blank-requires Inv-rows μ-rows
 blank-requires c κs = search needs
@@ -56,8 +56,8 @@ blank-from-spec =
     Inv-rows
     μ-rows
     rows-holds
-    mul-row
-    shared-slice-copy-out-row
+    mul-blank
+    shared-slice-element-blank
     blank-requires
     returns
     add-i

@@ -9,13 +9,13 @@ use Rattle.rows.proofs.compare.Statement.{statement}
 use Rattle.rows.proofs.compare.Tie as tie
 
 abbrev Inv-keys : tie.InvT-keys
-Inv-keys k a b i₀ i = (i ≤ k) × (i ≤ 11) × (keyOrder k a b ≡ orderFrom (k - i) i a b)
+Inv-keys a b k left right i₀ i = (i ≤ k) × (i ≤ 11) × (keyOrder k a b ≡ orderFrom (k - i) i a b)
 
 abbrev μ-keys : tie.MeasureT-keys
-μ-keys k a b i₀ i = 11 - i
+μ-keys a b k left right i₀ i = 11 - i
 
 keys-holds : tie.Need-keys-holds Inv-keys μ-keys
-keys-holds c = (search needs, search needs, (let e : c .args .k - 0 ≡ c .args .k = omega arith in rw e))
+keys-holds c = (search needs, search needs, (let k = c .before .before .args .k in let e : k - 0 ≡ k = omega arith in rw e))
 
 returns : tie.Need-returns Inv-keys μ-keys
 returns c =
@@ -25,23 +25,23 @@ returns c =
 mul-x : tie.Need-mul-x Inv-keys μ-keys
 mul-x c = search needs
 
-array-read-x : tie.Need-array-read-x Inv-keys μ-keys
-array-read-x c = search needs
+shared-slice-read-x : tie.Need-shared-slice-read-x Inv-keys μ-keys
+shared-slice-read-x c = search needs
 
 mul-y : tie.Need-mul-y Inv-keys μ-keys
 mul-y c = search needs
 
-array-read-y : tie.Need-array-read-y Inv-keys μ-keys
-array-read-y c = search needs
+shared-slice-read-y : tie.Need-shared-slice-read-y Inv-keys μ-keys
+shared-slice-read-y c = search needs
 
 returns-2 : tie.Need-returns-2 Inv-keys μ-keys
 returns-2 c =
-    let at = c .before .before .before in
+    let at = c .before .before .before .before .before in
     sym (at .keys .inv .2 ∙ keys.next-lt _ _ _ _ (omega arith) (c .if2 .taken))
 
 returns-3 : tie.Need-returns-3 Inv-keys μ-keys
 returns-3 c =
-    let at = c .before .before .before .before in
+    let at = c .before .before .before .before .before .before in
     sym (at .keys .inv .2 ∙ keys.next-gt _ _ _ _ (omega arith) (c .if3 .taken))
 
 add-i : tie.Need-add-i Inv-keys μ-keys
@@ -52,13 +52,13 @@ keys-less c = search needs
 
 keys-again : tie.Need-keys-again Inv-keys μ-keys
 keys-again c =
-    let at = c .before .before .before .before in
+    let at = c .before .before .before .before .before .before in
     (search needs, search needs, at .keys .inv .2 ∙ keys.next-eq _ _ _ _ (omega arith) (omega arith))
 
 returns-4 : tie.Need-returns-4 Inv-keys μ-keys
 returns-4 c =
     let at = c .before in
-    sym (at .keys .inv .2 ∙ keys.order-end _ _ _ _ (search needs) (search needs))
+    sym (at .keys .inv .2 ∙ keys.order-end _ _ _ _ (omega (arith, c .before .before .before .left .given .0)) (omega (arith, c .before .before .right .given .0)))
 
 pub compare-spec : {M : Type 1} → statement M
 compare-spec =
@@ -69,9 +69,9 @@ compare-spec =
     keys-holds
     returns
     mul-x
-    array-read-x
+    shared-slice-read-x
     mul-y
-    array-read-y
+    shared-slice-read-y
     returns-2
     returns-3
     add-i

@@ -16,11 +16,11 @@ index-2-if1 c = search needs
 returns : tie.Need-returns
 returns c = simp (eq-eqb _ _ (c .if1 .taken))
 
-mul-there : tie.Need-mul-there
-mul-there c = search needs
+mul-compare : tie.Need-mul-compare
+mul-compare c = search needs
 
-shared-slice-copy-out-there : tie.Need-shared-slice-copy-out-there
-shared-slice-copy-out-there c = search needs
+shared-slice-element-compare : tie.Need-shared-slice-element-compare
+shared-slice-element-compare c = search needs
 
 compare-requires : tie.Need-compare-requires
 compare-requires c κs = search needs
@@ -36,7 +36,7 @@ order-at-spec =
     index-1-if1
     index-2-if1
     returns
-    mul-there
-    shared-slice-copy-out-there
+    mul-compare
+    shared-slice-element-compare
     compare-requires
     returns-2)

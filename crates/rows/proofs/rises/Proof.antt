@@ -18,20 +18,20 @@ abbrev μ-rows : tie.MeasureT-rows
 rows-holds : tie.Need-rows-holds Inv-rows μ-rows
 rows-holds c = (search needs, refl)
 
-sub-before : tie.Need-sub-before Inv-rows μ-rows
-sub-before c = search needs
+sub-below : tie.Need-sub-below Inv-rows μ-rows
+sub-below c = search needs
 
-mul-before : tie.Need-mul-before Inv-rows μ-rows
-mul-before c = search needs
+mul-below : tie.Need-mul-below Inv-rows μ-rows
+mul-below c = search needs
 
-shared-slice-copy-out-before : tie.Need-shared-slice-copy-out-before Inv-rows μ-rows
-shared-slice-copy-out-before c = search needs
+shared-slice-element-below : tie.Need-shared-slice-element-below Inv-rows μ-rows
+shared-slice-element-below c = search needs
 
-mul-here : tie.Need-mul-here Inv-rows μ-rows
-mul-here c = search needs
+mul-below-2 : tie.Need-mul-below-2 Inv-rows μ-rows
+mul-below-2 c = search needs
 
-shared-slice-copy-out-here : tie.Need-shared-slice-copy-out-here Inv-rows μ-rows
-shared-slice-copy-out-here c = search needs
+shared-slice-element-below-2 : tie.Need-shared-slice-element-below-2 Inv-rows μ-rows
+shared-slice-element-below-2 c = search needs
 
 below-requires : tie.Need-below-requires Inv-rows μ-rows
 below-requires c κs = search needs
@@ -71,11 +71,11 @@ rises-spec =
     Inv-rows
     μ-rows
     rows-holds
-    sub-before
-    mul-before
-    shared-slice-copy-out-before
-    mul-here
-    shared-slice-copy-out-here
+    sub-below
+    mul-below
+    shared-slice-element-below
+    mul-below-2
+    shared-slice-element-below-2
     below-requires
     returns
     add-i

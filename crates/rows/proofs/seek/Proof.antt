@@ -17,7 +17,7 @@ abbrev μ-rows : tie.MeasureT-rows
 μ-rows list k row low₀ high₀ low high = high - low
 
 rows-holds : tie.Need-rows-holds Inv-rows μ-rows
-rows-holds c = let xs = c .args .list .now in (search needs, places.bracket-start (c .args .k) (c .args .row) (used xs) (length xs) (used-within xs))
+rows-holds c = let xs = c .args .list .now in (search needs, places.bracket-start (c .args .k) (c .args .t3) (used xs) (length xs) (used-within xs))
 
 sub-mid : tie.Need-sub-mid Inv-rows μ-rows
 sub-mid c = search needs
@@ -33,9 +33,9 @@ enum-told c = search needs
 
 -- what the row at the middle says
 seen : (c : tie.After-order-at Inv-rows μ-rows) →
-    let at = c .before .before in
+    let at = c .before .before .before in
     let st = at .before in
-    places.orderAt (st .args .k) (st .args .row) (st .args .list .now) (at .rows .low + (at .rows .high - at .rows .low) / 2) ≡ c .order-at .result
+    places.orderAt (st .args .k) (st .args .t3) (st .args .list .now) (at .rows .low + (at .rows .high - at .rows .low) / 2) ≡ c .order-at .result
 seen c = sym (c .order-at .ensures)
 
 rows-less : tie.Need-rows-less Inv-rows μ-rows
@@ -43,11 +43,11 @@ rows-less c = search needs
 
 rows-again : tie.Need-rows-again Inv-rows μ-rows
 rows-again c =
-    let at = c .before .before .before .before in
+    let at = c .before .before .before .before .before in
     let st = at .before in
     let mid = at .rows .low + (at .rows .high - at .rows .low) / 2 in (
       search needs,
-      places.slice-down (st .args .k) (st .args .row) (st .args .list .now) (at .rows .low) (at .rows .high) (st .pre) (at .rows .inv .1)
+      places.slice-down (st .args .k) (st .args .t3) (st .args .list .now) (at .rows .low) (at .rows .high) (st .pre) (at .rows .inv .1)
           mid (search needs) (seen (c .before .before) ∙ c .enum-told .given .1),
     )
 
@@ -56,10 +56,10 @@ enum-told-2 c = search needs
 
 returns : tie.Need-returns Inv-rows μ-rows
 returns c =
-    let at = c .before .before .before .before in
+    let at = c .before .before .before .before .before in
     let st = at .before in
     let mid = at .rows .low + (at .rows .high - at .rows .low) / 2 in
-    sym (places.slice-at (st .args .k) (st .args .row) (st .args .list .now) (at .rows .low) (at .rows .high) (st .pre) (at .rows .inv .1)
+    sym (places.slice-at (st .args .k) (st .args .t3) (st .args .list .now) (at .rows .low) (at .rows .high) (st .pre) (at .rows .inv .1)
     mid (search needs) (seen (c .before .before) ∙ c .enum-told2 .given .1))
 
 enum-told-3 : tie.Need-enum-told-3 Inv-rows μ-rows
@@ -73,11 +73,11 @@ rows-less-2 c = search needs
 
 rows-again-2 : tie.Need-rows-again-2 Inv-rows μ-rows
 rows-again-2 c =
-    let at = c .before .before .before .before in
+    let at = c .before .before .before .before .before in
     let st = at .before in
     let mid = at .rows .low + (at .rows .high - at .rows .low) / 2 in (
       search needs,
-      places.slice-up (st .args .k) (st .args .row) (st .args .list .now) (at .rows .low) (at .rows .high) (st .pre) (at .rows .inv .1)
+      places.slice-up (st .args .k) (st .args .t3) (st .args .list .now) (at .rows .low) (at .rows .high) (st .pre) (at .rows .inv .1)
           mid (search needs) (seen (c .before .before) ∙ c .enum-told3 .given .1),
     )
 
@@ -85,7 +85,7 @@ returns-2 : tie.Need-returns-2 Inv-rows μ-rows
 returns-2 c =
     let at = c .before in
     let st = at .before in
-    sym (places.bracket-gap (st .args .k) (st .args .row) (used (st .args .list .now)) (at .rows .low) (at .rows .high) (st .pre .rises) (at .rows .inv .1) (c .rows-test .left))
+    sym (places.bracket-gap (st .args .k) (st .args .t3) (used (st .args .list .now)) (at .rows .low) (at .rows .high) (st .pre .rises) (at .rows .inv .1) (c .rows-test .left))
 
 pub seek-spec : {M : Type 1} → statement M
 seek-spec =
