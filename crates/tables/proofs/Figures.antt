@@ -1,23 +1,18 @@
 -- The figures of the four tables: what the constant tables hold is what the definition lists, and the bounds that callers need. Assumes nothing.
 use mathlib.Core.Path.{_≡_, refl, ap, sym, _∙_}
-use mathlib.Core.List.{List, [], _∷_, map}
+use mathlib.Core.List.{List, [], _∷_}
 use mathlib.Core.Bool.{Bool, true, false, _&&_}
 use Prim.Native.Nat.{ℕ, zero, suc, _+_, _≤_, _<_}
-use native.Mathlib.Nat.{zero-add}
 use native.Mathlib.Omega.{arith}
-use lib.Dec.{eqb, leb, lit≤}
-use lib.ListN.{length, take, drop, getD, List·getD-map}
-use lib.Seq.{getD-take, getD-drop}
+use lib.Dec.{leb, lit≤}
+use lib.ListN.{length, take, getD, List·getD-eq-default}
+use lib.Seq.{getD-take}
 use borrow.Author.Tests.{leb-true}
-use Rattle.words.specs.Words.{if_then_else_}
-use Rattle.words.proofs.Lists.{every, every-at, and-left, and-right, listed, getD-listed}
+use Rattle.words.proofs.Lists.{every, every-at, and-left, and-right}
 use Rattle.tables.specs.declared.Table.{Table}
 use Rattle.tables.specs.declared.Table.the-variants.{VehicleType, Depot, Stop, Block}
 use Rattle.tables.specs.declared.Sort.{Sort}
 use Rattle.tables.specs.declared.Sort.the-variants.{Decimal, Text}
-use Rattle.tables.specs.declared.Rules.{Rules}
-use Rattle.tables.specs.declared.Reference.{Reference}
-use Rattle.tables.specs.Listing.{allColumns}
 use Rattle.tables.specs.Columns.{Column, columnsOf, columnAt, noColumn, version, keyWidth, keptWidth, partOf, references, ref}
 
 -- the code's tables -----------------------------------------------------------------------------------------------------------
@@ -35,65 +30,6 @@ figured f Depot = refl
 figured f Stop = refl
 figured f Block = refl
 
--- where a table's columns begin in the list of all
-abbrev pub firstColumn : Table → ℕ
-firstColumn VehicleType = 0
-firstColumn Depot = 11
-firstColumn Stop = 13
-firstColumn Block = 16
-
-columns-here : (t : Table) → columnsOf t ≡ take (length (columnsOf t)) (drop (firstColumn t) allColumns)
-unfolding columnsOf allColumns
-columns-here VehicleType = refl
-columns-here Depot = refl
-columns-here Stop = refl
-columns-here Block = refl
-
-columns-end : (t : Table) → firstColumn t + length (columnsOf t) ≤ 27
-unfolding columnsOf
-columns-end VehicleType = lit≤ tt
-columns-end Depot = lit≤ tt
-columns-end Stop = lit≤ tt
-columns-end Block = lit≤ tt
-
-pub place-below : (t : Table) (i : ℕ) → i < length (columnsOf t) → firstColumn t + i < 27
-place-below t i h = omega (arith, columns-end t)
-
-pub column-read : (t : Table) (i : ℕ) → i < length (columnsOf t) → getD allColumns (firstColumn t + i) noColumn ≡ columnAt t i
-column-read t i h =
-    sym (ap (λ (l : List Column). getD l i noColumn) (columns-here t) ∙ (getD-take (length (columnsOf t)) (drop (firstColumn t) allColumns) i noColumn h ∙ getD-drop (firstColumn t) allColumns i noColumn))
-
--- the constant tables hold a byte or a figure of each column: d or c for its sort, K and r for its marks, - for a mark that it lacks
-abbrev pub kindByte : Sort → ℕ
-kindByte Decimal = 100
-kindByte Text = 99
-
-abbrev pub markByte : ℕ → Bool → ℕ
-markByte m true = m
-markByte m false = 45
-
--- the rules that are read from them at a place
-abbrev pub rulesAt : ℕ → Rules
-rulesAt k =
-    record {
-      sort = if eqb (getD (map (λ x. kindByte (x .rules .sort)) allColumns) k 0) 100 then Decimal else Text;
-      width = getD (map (λ x. x .rules .width) allColumns) k 0;
-      low = getD (map (λ x. x .rules .low) allColumns) k 0;
-      high = getD (map (λ x. x .rules .high) allColumns) k 0;
-      key = eqb (getD (map (λ x. markByte 75 (x .rules .key)) allColumns) k 0) 75;
-      required = eqb (getD (map (λ x. markByte 114 (x .rules .required)) allColumns) k 0) 114;
-    }
-
--- put together again, they are the definition's columns: one test over the whole table, computed
-whole : listed rulesAt 0 27 ≡ map (λ x. x .rules) allColumns
-unfolding allColumns columnsOf
-whole = refl
-
-pub rules-read : (k : ℕ) → k < 27 → rulesAt k ≡ getD allColumns k noColumn .rules
-rules-read k h =
-    let d = noColumn .rules in
-    ap rulesAt (sym (zero-add k)) ∙ (sym (getD-listed rulesAt d 27 0 k h) ∙ (ap (λ (l : List Rules). getD l k d) whole ∙ List·getD-map (λ (x : Column). x .rules) allColumns k noColumn))
-
 -- only a block has references
 pub references-few : (t : Table) → length (references t) ≤ 4
 references-few VehicleType = lit≤ tt
@@ -101,17 +37,16 @@ references-few Depot = lit≤ tt
 references-few Stop = lit≤ tt
 references-few Block = lit≤ tt
 
-abbrev pub referenceAt : ℕ → Reference
-referenceAt i = ref (getD (map (λ x. x .column) (references Block)) i 0) (getD (map (λ x. x .to) (references Block)) i VehicleType)
+-- its reference of a number
+pub reference-read : (t : Table) (i k : ℕ) → i ≡ k → i < length (references t) → getD (references Block) k (ref 0 VehicleType) ≡ getD (references t) i (ref 0 VehicleType)
+reference-read VehicleType i k e h = absurd (omega arith)
+reference-read Depot i k e h = absurd (omega arith)
+reference-read Stop i k e h = absurd (omega arith)
+reference-read Block i k e h = ap (λ (n : ℕ). getD (references Block) n (ref 0 VehicleType)) (sym e)
 
-pub reference-read : (t : Table) (i : ℕ) → i < length (references t) → referenceAt i ≡ getD (references t) i (ref 0 VehicleType)
-reference-read VehicleType i h = absurd (omega arith)
-reference-read Depot i h = absurd (omega arith)
-reference-read Stop i h = absurd (omega arith)
-reference-read Block i h =
-    let none = ref 0 VehicleType in
-    ap (λ (k : ℕ). ref k (getD (map (λ (x : Reference). x .to) (references Block)) i VehicleType)) (List·getD-map (λ (x : Reference). x .column) (references Block) i none) ∙
-    ap (λ (t : Table). ref (getD (references Block) i none .column) t) (List·getD-map (λ (x : Reference). x .to) (references Block) i none)
+-- past the last column there is none
+pub past-the-last : (t : Table) (i : ℕ) → length (columnsOf t) ≤ i → noColumn .rules ≡ columnAt t i .rules
+past-the-last t i h = ap (λ (x : Column). x .rules) (sym (List·getD-eq-default (columnsOf t) noColumn {n = i} h))
 
 -- bounds ----------------------------------------------------------------------------------------------------------------------
 

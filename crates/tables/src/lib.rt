@@ -8,8 +8,7 @@ ghost use lib.ListN.{length, getD};
 ghost use Rattle.words.specs.Words.{if_then_else_, same};
 ghost use Rattle.text.specs.Cells.{content};
 ghost use Rattle.text.specs.Numbers.{decimalOf};
-ghost use Rattle.tables.specs.Columns.{columnsOf, columnAt, columnNumber, number, keyWidth, keptWidth, partOf, numbered, references, ref, noColumn, inRange};
-ghost use Rattle.tables.specs.Listing.{allColumns};
+ghost use Rattle.tables.specs.Columns.{columnsOf, columnAt, columnNumber, number, keyWidth, keptWidth, partOf, numbered, references, ref, inRange};
 ghost use Rattle.tables.specs.Values.{valueOf, checkOf};
 use refusals::Check;
 use refusals::Place;
@@ -107,146 +106,242 @@ pub const ARR_STOPPING_POINT_NR: [u8; 21] = *b"ARR_STOPPING_POINT_NR";
 
 pub const END_OF_BLOCK: [u8; 12] = *b"END_OF_BLOCK";
 
-// The rules of the 27 columns, one table behind the other.
-const WIDTH: [usize; 27] = [
-    // vehicle_type
-    2,
-    8,
-    3,
-    3,
-    3,
-    40,
-    4,
-    4,
-    4,
-    4,
-    1,
-    // depot
-    2,
-    5,
-    // stop
-    2,
-    5,
-    50,
-    // vehicle_block
-    2,
-    9,
-    5,
-    8,
-    2,
-    6,
-    2,
-    6,
-    6,
-    2,
-    6,
+// What columns must keep to: D decimal or C text, and its width; KEY, as which it is required too; REQUIRED.
+const VERSION_KEY: Rules = Rules {
+    sort: Sort::Decimal,
+    width: 2,
+    low: 1,
+    high: 99,
+    key: true,
+    required: true,
+};
+
+const STOP_KEY: Rules = Rules {
+    sort: Sort::Decimal,
+    width: 5,
+    low: 1,
+    high: 99999,
+    key: true,
+    required: true,
+};
+
+const D5_KEY: Rules = Rules {
+    sort: Sort::Decimal,
+    width: 5,
+    low: 0,
+    high: 99999,
+    key: true,
+    required: true,
+};
+
+const D8_KEY: Rules = Rules {
+    sort: Sort::Decimal,
+    width: 8,
+    low: 0,
+    high: 99999999,
+    key: true,
+    required: true,
+};
+
+const D9_KEY: Rules = Rules {
+    sort: Sort::Decimal,
+    width: 9,
+    low: 0,
+    high: 999999999,
+    key: true,
+    required: true,
+};
+
+const D2_REQUIRED: Rules = Rules {
+    sort: Sort::Decimal,
+    width: 2,
+    low: 0,
+    high: 99,
+    key: false,
+    required: true,
+};
+
+const D6_REQUIRED: Rules = Rules {
+    sort: Sort::Decimal,
+    width: 6,
+    low: 0,
+    high: 999999,
+    key: false,
+    required: true,
+};
+
+const D3: Rules = Rules {
+    sort: Sort::Decimal,
+    width: 3,
+    low: 0,
+    high: 999,
+    key: false,
+    required: false,
+};
+
+const D4: Rules = Rules {
+    sort: Sort::Decimal,
+    width: 4,
+    low: 0,
+    high: 9999,
+    key: false,
+    required: false,
+};
+
+const ACCESS_EQUIP: Rules = Rules {
+    sort: Sort::Decimal,
+    width: 1,
+    low: 0,
+    high: 2,
+    key: false,
+    required: false,
+};
+
+const C4: Rules = Rules {
+    sort: Sort::Text,
+    width: 4,
+    low: 0,
+    high: 0,
+    key: false,
+    required: false,
+};
+
+const C40: Rules = Rules {
+    sort: Sort::Text,
+    width: 40,
+    low: 0,
+    high: 0,
+    key: false,
+    required: false,
+};
+
+const C50_REQUIRED: Rules = Rules {
+    sort: Sort::Text,
+    width: 50,
+    low: 0,
+    high: 0,
+    key: false,
+    required: true,
+};
+
+const NO_COLUMN: Rules = Rules {
+    sort: Sort::Text,
+    width: 0,
+    low: 0,
+    high: 0,
+    key: false,
+    required: false,
+};
+
+// The columns of the tables. They are read at fixed places: read at a variable one, a constant table is laid out anew each time.
+const VEHICLE_TYPE: [Rules; 11] = [
+    VERSION_KEY,
+    D8_KEY,
+    D3,
+    D3,
+    D3,
+    C40,
+    C4,
+    D4,
+    D4,
+    D4,
+    ACCESS_EQUIP,
 ];
 
-// d: decimal, c: text.
-const KIND: [u8; 27] = *b"dddddccddddddddcddddddddddd";
+const DEPOT: [Rules; 2] = [VERSION_KEY, D5_KEY];
 
-const LOW: [u64; 27] = [
-    // vehicle_type
-    1,
-    0,
-    0,
-    0,
-    0,
-    0,
-    0,
-    0,
-    0,
-    0,
-    0,
-    // depot
-    1,
-    0,
-    // stop
-    1,
-    1,
-    0,
-    // vehicle_block
-    1,
-    0,
-    0,
-    0,
-    0,
-    0,
-    0,
-    0,
-    0,
-    0,
-    0,
+const STOP: [Rules; 3] = [VERSION_KEY, STOP_KEY, C50_REQUIRED];
+
+const BLOCK: [Rules; 11] = [
+    VERSION_KEY,
+    D9_KEY,
+    D5_KEY,
+    D8_KEY,
+    D2_REQUIRED,
+    D6_REQUIRED,
+    D2_REQUIRED,
+    D6_REQUIRED,
+    D6_REQUIRED,
+    D2_REQUIRED,
+    D6_REQUIRED,
 ];
-
-const HIGH: [u64; 27] = [
-    // vehicle_type
-    99,
-    99999999,
-    999,
-    999,
-    999,
-    0,
-    0,
-    9999,
-    9999,
-    9999,
-    2,
-    // depot
-    99,
-    99999,
-    // stop
-    99,
-    99999,
-    0,
-    // vehicle_block
-    99,
-    999999999,
-    99999,
-    99999999,
-    99,
-    999999,
-    99,
-    999999,
-    999999,
-    99,
-    999999,
-];
-
-// K: key.
-const KEY: [u8; 27] = *b"KK---------KKKK-KKKK-------";
-
-// r: required, as every key is.
-const REQUIRED: [u8; 27] = *b"rr---------rrrrrrrrrrrrrrrr";
 
 // The references of a block: the column, counted from 1, and the table in which its number stands.
-const REFERRING_COLUMN: [usize; 4] = [3, 5, 6, 9];
+const BLOCK_REFERENCES: [Reference; 4] = [
+    Reference {
+        column: 3,
+        to: Table::Depot,
+    },
+    Reference {
+        column: 5,
+        to: Table::VehicleType,
+    },
+    Reference {
+        column: 6,
+        to: Table::Stop,
+    },
+    Reference {
+        column: 9,
+        to: Table::Stop,
+    },
+];
 
-const REFERRED_TABLE: [Table; 4] = [Table::Depot, Table::VehicleType, Table::Stop, Table::Stop];
-
-fn sort_of(kind: u8) -> Sort
-    ensures { λ r. ⌜ r ≡ (if eqb kind 100 then Sort.Decimal else Sort.Text) ⌝ }
+fn type_rules(i: usize) -> Rules
+    ensures { λ r. ⌜ r ≡ columnAt Table.VehicleType i .rules ⌝ }
 {
-    if kind == b'd' {
-        Sort::Decimal
-    } else {
-        Sort::Text
+    match i {
+        0 => VEHICLE_TYPE[0],
+        1 => VEHICLE_TYPE[1],
+        2 => VEHICLE_TYPE[2],
+        3 => VEHICLE_TYPE[3],
+        4 => VEHICLE_TYPE[4],
+        5 => VEHICLE_TYPE[5],
+        6 => VEHICLE_TYPE[6],
+        7 => VEHICLE_TYPE[7],
+        8 => VEHICLE_TYPE[8],
+        9 => VEHICLE_TYPE[9],
+        10 => VEHICLE_TYPE[10],
+        _ => NO_COLUMN,
     }
 }
 
-// The rules at place k of the constant tables.
-fn rules_at(k: usize) -> Rules
-    requires { ⌜ k < 27 ⌝ }
-    ensures { λ r. ⌜ r ≡ getD allColumns k noColumn .rules ⌝ }
+fn depot_rules(i: usize) -> Rules
+    ensures { λ r. ⌜ r ≡ columnAt Table.Depot i .rules ⌝ }
 {
-    let sort = sort_of(KIND[k]);
-    Rules {
-        sort,
-        width: WIDTH[k],
-        low: LOW[k],
-        high: HIGH[k],
-        key: KEY[k] == b'K',
-        required: REQUIRED[k] == b'r',
+    match i {
+        0 => DEPOT[0],
+        1 => DEPOT[1],
+        _ => NO_COLUMN,
+    }
+}
+
+fn stop_rules(i: usize) -> Rules
+    ensures { λ r. ⌜ r ≡ columnAt Table.Stop i .rules ⌝ }
+{
+    match i {
+        0 => STOP[0],
+        1 => STOP[1],
+        2 => STOP[2],
+        _ => NO_COLUMN,
+    }
+}
+
+fn block_rules(i: usize) -> Rules
+    ensures { λ r. ⌜ r ≡ columnAt Table.Block i .rules ⌝ }
+{
+    match i {
+        0 => BLOCK[0],
+        1 => BLOCK[1],
+        2 => BLOCK[2],
+        3 => BLOCK[3],
+        4 => BLOCK[4],
+        5 => BLOCK[5],
+        6 => BLOCK[6],
+        7 => BLOCK[7],
+        8 => BLOCK[8],
+        9 => BLOCK[9],
+        10 => BLOCK[10],
+        _ => NO_COLUMN,
     }
 }
 
@@ -351,9 +446,6 @@ impl Table {
 
     pub const REFERENCES: [usize; 4] = [0, 0, 0, 4];
 
-    // Where a table's columns begin in the constant tables.
-    const FIRST: [usize; 4] = [0, 11, 13, 16];
-
     // The constructor by number.
     pub fn numbered(n: u64) -> Named
         ensures { λ r. ⌜ r ≡ numbered n ⌝ }
@@ -382,15 +474,23 @@ impl Table {
     fn figure(self, figures: [usize; 4]) -> usize
         ensures { λ r. ⌜ r ≡ getD figures (partOf self) 0 ⌝ }
     {
-        let part = self.part();
-        figures[part]
+        match self {
+            Table::VehicleType => figures[0],
+            Table::Depot => figures[1],
+            Table::Stop => figures[2],
+            Table::Block => figures[3],
+        }
     }
 
     pub fn number(self) -> u64
         ensures { λ r. ⌜ r ≡ number self ⌝ }
     {
-        let part = self.part();
-        Table::NUMBER[part]
+        match self {
+            Table::VehicleType => Table::NUMBER[0],
+            Table::Depot => Table::NUMBER[1],
+            Table::Stop => Table::NUMBER[2],
+            Table::Block => Table::NUMBER[3],
+        }
     }
 
     pub fn columns(self) -> usize
@@ -415,17 +515,12 @@ impl Table {
     pub fn rules(self, i: usize) -> Rules
         ensures { λ r. ⌜ r ≡ columnAt self i .rules ⌝ }
     {
-        if self.columns() <= i {
-            return Rules {
-                sort: Sort::Text,
-                width: 0,
-                low: 0,
-                high: 0,
-                key: false,
-                required: false,
-            };
+        match self {
+            Table::VehicleType => type_rules(i),
+            Table::Depot => depot_rules(i),
+            Table::Stop => stop_rules(i),
+            Table::Block => block_rules(i),
         }
-        rules_at(self.figure(Table::FIRST) + i)
     }
 
     // The number of the column of that name, counted from 1, or 0.
@@ -451,9 +546,11 @@ impl Table {
         requires { ⌜ i < length (references self) ⌝ }
         ensures { λ r. ⌜ r ≡ getD (references self) i (ref 0 Table.VehicleType) ⌝ }
     {
-        Reference {
-            column: REFERRING_COLUMN[i],
-            to: REFERRED_TABLE[i],
+        match i {
+            0 => BLOCK_REFERENCES[0],
+            1 => BLOCK_REFERENCES[1],
+            2 => BLOCK_REFERENCES[2],
+            _ => BLOCK_REFERENCES[3],
         }
     }
 }
