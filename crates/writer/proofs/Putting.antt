@@ -1,15 +1,15 @@
 -- A text put at the head of a buffer, a byte behind it, and the rest of the buffer lent on. Assumes nothing.
-use Prim.Native.Nat.{ℕ, _+_, _-_, _/_, _%_, _≤_, _<_}
+use Prim.Native.Nat.{ℕ, suc, _+_, _-_, _/_, _%_, _≤_, _<_}
 use native.Mathlib.Numerals.{add-one}
 use native.Mathlib.Omega.{arith}
 use mathlib.Core.Path.{_≡_, ap, sym, _∙_}
 use mathlib.Core.List.{[], _∷_, _++_, append-assoc, append-nil}
 use lib.ListN.{length, take, drop, getD, set, length-append, length-drop, drop-of-length-le, take-append-drop}
-use lib.Seq.{take-append-seam, drop-append-seam, drop-drop, drop-cons, set-append-seam, take-suc, take-all, length-take-le, drop-append-add}
+use lib.Seq.{take-append-seam, drop-append-seam, drop-drop, drop-cons, drop-at, set-append-seam, set-split, take-suc, take-all, length-take-le, drop-append-add}
 use borrow.Rule.Slice.PartMut.{same-len-mid}
 use Rattle.words.specs.Words.{Bytes}
 use Rattle.text.specs.Numbers.{decimal}
-use Rattle.text.proofs.Writing.{decimal-one, decimal-more}
+use Rattle.text.proofs.Writing.{decimal-one, decimal-more, decimal-more-length}
 use Rattle.writer.specs.Calls.{put}
 
 pub length-put : (t o : Bytes) → length t ≤ length o → length (put t o) ≡ length o
@@ -26,12 +26,17 @@ put-set t o b h = rw (drop-cons o (length t) 0 h, set-append-seam, length-append
 pub put-byte : (t o p : Bytes) (a b : ℕ) → a ≡ length t → p ≡ put t o → a < length o → set p a b ≡ put (t ++ (b ∷ [])) o
 put-byte t o p a b ea ep h = rw (ep, ea) (put-set t o b (omega arith))
 
--- a number of one digit, and the last digit behind the others
+-- a number of one digit; and of more, whose last is stored before the others are put
 pub put-one : (n : ℕ) (o : Bytes) → n < 10 → 0 < length o → set o 0 (48 + n) ≡ put (decimal n) o
 put-one n o h l = rw (decimal-one n h) (put-set [] o (48 + n) l)
 
-pub put-last : (n r : ℕ) (o p : Bytes) → 10 ≤ n → r < length o → r ≡ length (decimal (n / 10)) → p ≡ put (decimal (n / 10)) o → set p r (48 + n % 10) ≡ put (decimal n) o
-put-last n r o p h l e q = rw (decimal-more n h) (put-byte (decimal (n / 10)) o p r (48 + n % 10) e q l)
+drop-set : (o : Bytes) (i b : ℕ) → i < length o → drop i (set o i b) ≡ b ∷ drop (suc i) o
+drop-set o i b h = rw (set-split o i b h) (drop-at (take i o) (b ∷ drop (suc i) o) i (length-take-le i o (omega arith)))
+
+pub put-others : (n i : ℕ) (o : Bytes) → 10 ≤ n → i + 1 ≡ length (decimal n) → i < length o → put (decimal (n / 10)) (set o i (48 + n % 10)) ≡ put (decimal n) o
+put-others n i o h e l =
+    let others : length (decimal (n / 10)) ≡ i = omega (arith, decimal-more-length n h) in
+    rw (others, drop-set o i (48 + n % 10) l, ← e, add-one, decimal-more n h, append-assoc)
 
 -- the first bytes of a text, and the next one
 pub put-next : (s o p : Bytes) (i : ℕ) → i < length s → i < length o → p ≡ put (take i s) o → set p i (getD s i 0) ≡ put (take (i + 1) s) o

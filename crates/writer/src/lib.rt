@@ -20,6 +20,9 @@ const SEMICOLON: u8 = 59;
 
 const LINE_FEED: u8 = 10;
 
+// 10 to the 19 is the last power of ten in 64 bits.
+const LAST_POWER: usize = 19;
+
 // How long the header line is, with its line feed.
 const HEADER: usize = 145;
 
@@ -34,26 +37,32 @@ pub fn digit_count(n: u64) -> usize
     ensures { λ r. ⌜ r ≡ length (decimal n) ⌝ }
 {
     let mut count = 1;
-    let mut left = n;
-    'digits: while left >= 10 {
-        left = left / 10;
+    let mut bound: u64 = 10;
+    'digits: while bound <= n {
+        if count == LAST_POWER {
+            return LAST_POWER + 1;
+        }
+        bound = bound * 10;
         count += 1;
     }
     count
 }
 
-// The digits of n at the head of the output; answers how many.
+// The digits of n at the head of the output, the last of them first; answers how many.
 pub fn write_number(out: &mut [u8], n: u64) -> usize
     requires { ⌜ length (decimal n) ≤ length (now out) ⌝ }
     ensures { λ r. ⌜ (r ≡ length (decimal n)) × (now (out .exit) ≡ put (decimal n) (now (out .entry))) ⌝ }
 {
-    if n < 10 {
-        out[0] = 48 + n as u8;
-        return 1;
+    let count = digit_count(n);
+    let mut i = count;
+    let mut left = n;
+    'digits: while left >= 10 {
+        i -= 1;
+        out[i] = 48 + (left % 10) as u8;
+        left = left / 10;
     }
-    let at = write_number(out, n / 10);
-    out[at] = 48 + (n % 10) as u8;
-    at + 1
+    out[0] = 48 + left as u8;
+    count
 }
 
 // Bytes as they are (names, separators).
