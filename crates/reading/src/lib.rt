@@ -183,9 +183,7 @@ pub fn read_header(line: &[u8], t: Table) -> Heading
             if 32 < cells {
                 return no_heading(Check::too_many_cells());
             }
-            let start = marks.start;
-            let end = marks.end;
-            map_names(line, &start, &end, cells, t)
+            map_names(line, &marks.start, &marks.end, cells, t)
         }
     }
 }
@@ -262,9 +260,7 @@ pub fn read_row(line: &[u8], t: Table, cells: usize, at: &[usize; 12]) -> Judged
             if count != cells {
                 return no_row(Check::cell_count());
             }
-            let start = marks.start;
-            let end = marks.end;
-            read_columns(line, &start, &end, t, at)
+            read_columns(line, &marks.start, &marks.end, t, at)
         }
     }
 }
@@ -530,11 +526,9 @@ fn cell_in_row(
             if count != cells {
                 return refused(Check::cell_count(), t.number(), line);
             }
-            let start = marks.start;
-            let end = marks.end;
             let number = at[column];
-            let from = begin + mark_of(&start, number);
-            numbered_cell(row, &start, &end, number, from, t, line, column)
+            let from = begin + mark_of(&marks.start, number);
+            numbered_cell(row, &marks.start, &marks.end, number, from, t, line, column)
         }
     }
 }

@@ -66,12 +66,12 @@ mark-of-requires c κs = search needs
 
 add-from : tie.Need-add-from
 add-from c =
-    let a = c .before .before .before .before .before .before .before .before .before .before .before .args in
+    let a = c .before .before .before .before .before .before .before .before .before .before .args in
     let row = a .row .now in
-    let r = c .before .before .before .before .before .before .before .before .before .cells-of in
-    let g = c .before .before .before .before .before .before .before .answer2 .given in
-    let m = marks-of row (r .result) (g .0 .0) (r .ensures) (g .1) (omega (arith, c .before .before .before .before .before .if1 .left, c .before .before .before .before .before .before .before .before .before .before .before .pre .3)) in
-    omega (arith, c .mark-of .ensures, mark-within row (r .result .start) (r .result .end) (getD (a .at .now) (a .column) 0) m, c .before .before .before .before .before .before .before .before .before .before .before .pre .0)
+    let r = c .before .before .before .before .before .before .before .before .cells-of in
+    let g = c .before .before .before .before .before .before .answer2 .given in
+    let m = marks-of row (r .result) (g .0 .0) (r .ensures) (g .1) (omega (arith, c .before .before .before .before .if1 .left, c .before .before .before .before .before .before .before .before .before .before .pre .3)) in
+    omega (arith, c .mark-of .ensures, mark-within row (r .result .start) (r .result .end) (getD (a .at .now) (a .column) 0) m, c .before .before .before .before .before .before .before .before .before .before .pre .0)
 
 numbered-cell-requires : tie.Need-numbered-cell-requires
 numbered-cell-requires c κs =
@@ -80,7 +80,7 @@ numbered-cell-requires c κs =
     let r = c .before .before .before .before .before .before .before .before .before .before .before .cells-of in
     let g = c .before .before .before .before .before .before .before .before .before .answer2 .given in
     let m = marks-of row (r .result) (g .0 .0) (r .ensures) (g .1) (omega (arith, c .before .before .before .before .before .before .before .if1 .left, c .before .before .before .before .before .before .before .before .before .before .before .before .before .pre .3)) in
-    (m, omega (arith, c .before .before .mark-of .ensures, mark-within row (r .result .start) (r .result .end) (getD (a .at .now) (a .column) 0) m, c .before .before .before .before .before .before .before .before .before .before .before .before .before .pre .0), c .before .before .before .before .before .before .before .before .before .before .before .before .before .pre .1)
+    (m, omega (arith, c .before .before .before .mark-of .ensures, mark-within row (r .result .start) (r .result .end) (getD (a .at .now) (a .column) 0) m, c .before .before .before .before .before .before .before .before .before .before .before .before .before .pre .0), c .before .before .before .before .before .before .before .before .before .before .before .before .before .pre .1)
 
 returns-2 : tie.Need-returns-2
 returns-2 c =
@@ -101,7 +101,7 @@ returns-3 c =
     let n : length (cellsOf (cut row)) ≡ a .cells = good-count (cut row) (r .result) (g .0 .0) (r .ensures) (g .1) ∙ c .before .before .before .before .before .before .before .before .if1 .left in
     λ h k.
     c .numbered-cell .ensures
-    ∙ row-cell (a .t) h (a .line) (a .column) (a .begin) row (good-cells (cut row) (r .result) (g .0 .0) (r .ensures) (g .1)) (a .at .now) (r .result .start) (getD (a .at .now) (a .column) 0) (a .begin + c .before .before .before .mark-of .result) (n ∙ k .count) (omega (arith, k .count, c .before .before .before .before .before .before .before .before .before .before .before .before .before .before .pre .3)) (k .spots) (ap (λ (x : Cells). x .start) (r .ensures)) (c .before .before .before .before .before .before .before .before .before .before .before .before .before .before .pre .1) (c .before .before .before .before .before .before .before .before .before .before .before .before .before .before .pre .2) refl (ap (λ (x : ℕ). a .begin + x) (c .before .before .before .mark-of .ensures))
+    ∙ row-cell (a .t) h (a .line) (a .column) (a .begin) row (good-cells (cut row) (r .result) (g .0 .0) (r .ensures) (g .1)) (a .at .now) (r .result .start) (getD (a .at .now) (a .column) 0) (a .begin + c .before .before .before .before .mark-of .result) (n ∙ k .count) (omega (arith, k .count, c .before .before .before .before .before .before .before .before .before .before .before .before .before .before .pre .3)) (k .spots) (ap (λ (x : Cells). x .start) (r .ensures)) (c .before .before .before .before .before .before .before .before .before .before .before .before .before .before .pre .1) (c .before .before .before .before .before .before .before .before .before .before .before .before .before .before .pre .2) refl (ap (λ (x : ℕ). a .begin + x) (c .before .before .before .before .mark-of .ensures))
 
 pub cell-in-row-spec : {M : Type 1} → statement M
 cell-in-row-spec =

@@ -51,10 +51,10 @@ returns c =
 
 map-names-requires : tie.Need-map-names-requires
 map-names-requires c κs =
-    let line = c .before .before .before .before .before .before .before .before .before .before .args .line .now in
-    let r = c .before .before .before .before .before .before .before .before .cells-of in
-    let g = c .before .before .before .before .before .before .answer2 .given in
-    (marks-of line (r .result) (g .0 .0) (r .ensures) (g .1) (c .before .before .before .before .if1 .left), sym (good-count (cut line) (r .result) (g .0 .0) (r .ensures) (g .1)))
+    let line = c .before .before .before .before .before .before .before .before .before .args .line .now in
+    let r = c .before .before .before .before .before .before .before .cells-of in
+    let g = c .before .before .before .before .before .answer2 .given in
+    (marks-of line (r .result) (g .0 .0) (r .ensures) (g .1) (c .before .before .before .if1 .left), sym (good-count (cut line) (r .result) (g .0 .0) (r .ensures) (g .1)))
 
 returns-2 : tie.Need-returns-2
 returns-2 c =
@@ -67,12 +67,12 @@ returns-2 c =
 
 returns-3 : tie.Need-returns-3
 returns-3 c =
-    let a = c .before .before .before .before .before .before .before .before .before .before .before .args in
+    let a = c .before .before .before .before .before .before .before .before .before .before .args in
     let line = a .line .now in
     let h = header (a .t) (cellsOf (cut line)) in
-    let r = c .before .before .before .before .before .before .before .before .before .cells-of in
-    let g = c .before .before .before .before .before .before .before .answer2 .given in
-    let l : length (cellsOf (cut line)) ≤ 32 = omega (arith, good-count (cut line) (r .result) (g .0 .0) (r .ensures) (g .1), c .before .before .before .before .before .if1 .left) in
+    let r = c .before .before .before .before .before .before .before .before .cells-of in
+    let g = c .before .before .before .before .before .before .answer2 .given in
+    let l : length (cellsOf (cut line)) ≤ 32 = omega (arith, good-count (cut line) (r .result) (g .0 .0) (r .ensures) (g .1), c .before .before .before .before .if1 .left) in
     c .map-names .ensures ∙ ap (λ (q : Check). headed q h) (sym (header-names (a .t) line (good-cells (cut line) (r .result) (g .0 .0) (r .ensures) (g .1)) l))
 
 pub read-header-spec : {M : Type 1} → statement M

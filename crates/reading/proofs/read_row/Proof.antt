@@ -48,11 +48,11 @@ returns c =
 
 read-columns-requires : tie.Need-read-columns-requires
 read-columns-requires c κs =
-    let a = c .before .before .before .before .before .before .before .before .before .before .args in
+    let a = c .before .before .before .before .before .before .before .before .before .args in
     let line = a .line .now in
-    let r = c .before .before .before .before .before .before .before .before .cells-of in
-    let g = c .before .before .before .before .before .before .answer2 .given in
-    marks-of line (r .result) (g .0 .0) (r .ensures) (g .1) (omega (arith, c .before .before .before .before .if1 .left, c .before .before .before .before .before .before .before .before .before .before .pre))
+    let r = c .before .before .before .before .before .before .before .cells-of in
+    let g = c .before .before .before .before .before .answer2 .given in
+    marks-of line (r .result) (g .0 .0) (r .ensures) (g .1) (omega (arith, c .before .before .before .if1 .left, c .before .before .before .before .before .before .before .before .before .pre))
 
 returns-2 : tie.Need-returns-2
 returns-2 c =
@@ -64,12 +64,12 @@ returns-2 c =
 
 returns-3 : tie.Need-returns-3
 returns-3 c =
-    let a = c .before .before .before .before .before .before .before .before .before .before .before .args in
+    let a = c .before .before .before .before .before .before .before .before .before .before .args in
     let line = a .line .now in
-    let r = c .before .before .before .before .before .before .before .before .before .cells-of in
-    let g = c .before .before .before .before .before .before .before .answer2 .given in
+    let r = c .before .before .before .before .before .before .before .before .cells-of in
+    let g = c .before .before .before .before .before .before .answer2 .given in
     let m = good-count (cut line) (r .result) (g .0 .0) (r .ensures) (g .1) in
-    λ h k. c .read-columns .ensures h (k .spots) ∙ ap (λ (z : Check). rowed z (rowRead (a .t) h line)) (sym (line-cells h line (cellsCheck (a .t) h line) (good-cells (cut line) (r .result) (g .0 .0) (r .ensures) (g .1)) (m ∙ c .before .before .before .before .before .if1 .left ∙ k .count)))
+    λ h k. c .read-columns .ensures h (k .spots) ∙ ap (λ (z : Check). rowed z (rowRead (a .t) h line)) (sym (line-cells h line (cellsCheck (a .t) h line) (good-cells (cut line) (r .result) (g .0 .0) (r .ensures) (g .1)) (m ∙ c .before .before .before .before .if1 .left ∙ k .count)))
 
 pub read-row-spec : {M : Type 1} → statement M
 read-row-spec =
