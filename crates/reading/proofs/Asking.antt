@@ -1,27 +1,26 @@
 -- The question for a cell: where its line begins, where it begins on its line, what is said of it, and the order of the checks. Assumes nothing.
 use mathlib.Core.Path.{_≡_, refl, ap, sym, _∙_}
-use mathlib.Core.List.{List, [], _∷_, _++_}
+use mathlib.Core.List.{List, [], _∷_}
 use mathlib.Core.Bool.{Bool, true, false, _||_}
 use Prim.Native.Nat.{ℕ, zero, suc, _+_, _-_, _≤_, _<_}
 use native.Mathlib.Omega.{arith}
 use lib.Dec.{eqb, ltb}
 use lib.ListN.{length, take, drop, getD, length-take, length-drop, length-append}
-use borrow.Author.Tests.{eq-eqb, ne-eqb, eqb-true, eqb-false, lt-ltb, le-ltb, ltb-true, ltb-false}
+use borrow.Author.Tests.{eq-eqb, ne-eqb, eqb-false, lt-ltb, le-ltb, ltb-true, ltb-false}
 use Rattle.words.specs.Words.{Bytes, if_then_else_}
-use Rattle.refusals.specs.Verdicts.{_⊳_, _when_, _before_, place, placed, nowhere, inText, inHeader, notThere, textTooLong, tooManyCells, cellFault, quoteFault, cellCount}
+use Rattle.refusals.specs.Verdicts.{_⊳_, _when_, _before_, placed, nowhere, inText, inHeader, notThere, textTooLong, cellFault, quoteFault, cellCount}
 use Rattle.refusals.specs.declared.Check.{Check}
 use Rattle.refusals.specs.declared.Check.the-variants.{Passes, Fails}
 use Rattle.refusals.specs.declared.Verdict.{Verdict}
 use Rattle.refusals.specs.declared.Verdict.the-variants.{Accepted, Refused}
 use Rattle.refusals.specs.declared.Cell.{Cell}
 use Rattle.refusals.specs.declared.Cell.the-variants.{Number, Text, Empty}
-use Rattle.text.specs.Lines.{lines, headLine, lineStart, lineLength, lineRoom, lineAt, overlong}
+use Rattle.text.specs.Lines.{lines, headLine, lineStart, lineLength, lineAt}
 use Rattle.text.specs.Cells.{Cut, faulty, cells, cut, cellsOf, quoted, stretch, content}
 use Rattle.text.specs.Fields.{parted}
 use Rattle.text.specs.Marks.{startsFrom, padded, marked}
-use Rattle.text.specs.Numbers.{value}
 use Rattle.text.specs.declared.Line.{Line}
-use Rattle.text.proofs.Lining.{line-start, head-line, start-step, start-le, start-within, start-past, length-room, room-le}
+use Rattle.text.proofs.Lining.{line-start, start-step, start-le, start-within, start-past, length-room, room-le}
 use Rattle.text.proofs.Cutting.{cells-parted}
 use Rattle.text.proofs.Contents.{content-le, quoted-some}
 use Rattle.text.proofs.Marking.{Stands, getD-padded, length-starts}
@@ -36,10 +35,9 @@ use Rattle.tables.specs.declared.Sort.{Sort}
 use Rattle.tables.specs.declared.Sort.the-variants as sort-is
 use Rattle.tables.specs.declared.Value.{Value}
 use Rattle.tables.specs.declared.Value.the-variants as value-is
-use Rattle.reading.specs.Header.{Header, header, badCut, headerCheck, cutCheck, under, offset}
+use Rattle.reading.specs.Header.{Header, headerCheck, cutCheck, under, offset}
 use Rattle.reading.specs.Reading.{headerOf, topFaults}
-use Rattle.reading.specs.Heading.{placeFrom, places, headed, heading, cellNumbered, KeptOf, MarksOf}
-use Rattle.reading.specs.declared.Heading.{Heading}
+use Rattle.reading.specs.Heading.{placeFrom, places, cellNumbered, MarksOf}
 use Rattle.reading.specs.CellQuestion.{answered, said, cellSaid, cutAt, cellAt, cellStart, cellVerdict, tableCell, askedOf, cellAsked, stretchOf}
 use Rattle.reading.specs.Asking.{cellJudged, rowAnswer}
 use Rattle.reading.specs.declared.CellAnswer.{CellAnswer}
@@ -217,41 +215,10 @@ line-row line s begin r h e f =
     let z : r .end - begin ≡ lineLength (drop begin s) = ap (λ (x : Line). x .end - begin) f ∙ omega arith in
     rw (z, e) (sym (line-start line s h))
 
-pub head-row : (s : Bytes) (r : Line) → r ≡ lineAt s 0 → take (r .end - 0) (drop 0 s) ≡ headLine (lines s)
-head-row s r f =
-    let z : r .end - 0 ≡ lineLength s = ap (λ (x : Line). x .end - 0) f ∙ omega arith in
-    rw z (sym (head-line s))
-
 pub head-within : (s : Bytes) (r : Line) → r ≡ lineAt s 0 → r .end ≤ length s
 head-within s r f =
     let z : r .end ≡ 0 + lineLength s = ap (λ (x : Line). x .end) f in
     omega (arith, length-room s, room-le s)
-
--- a header ------------------------------------------------------------------------------------------------------------------------
-
-headed-check : (c : Check) (h : Header) → headed c h .check ≡ c
-headed-check Passes h = refl
-headed-check (Fails n k) h = refl
-
-module _ (t : Table) (line : Bytes) (g : Heading) (is : g ≡ heading t line) where
-  pub heading-check : g .check ≡ headerCheck t line
-  heading-check = ap (λ (x : Heading). x .check) is ∙ headed-check (headerCheck t line) (header t (cellsOf (cut line)))
-
-  module _ (passing : g .check ≡ Passes) where
-    whole : g ≡ headed Passes (header t (cellsOf (cut line)))
-    whole = is ∙ ap (λ (c : Check). headed c (header t (cellsOf (cut line)))) (sym heading-check ∙ passing)
-
-    pub heading-kept : KeptOf (header t (cellsOf (cut line))) (g .cells) (g .at)
-    heading-kept = record { count = ap (λ (x : Heading). x .cells) whole; spots = ap (λ (x : Heading). x .at) whole }
-
-    pub heading-few : g .cells ≤ 32
-    unfolding headerCheck
-    heading-few = rw (ap (λ (x : Heading). x .cells) whole) (ltb-false 32 (length (header t (cellsOf (cut line)))) (few (badCut (cut line)) (ltb 32 (length (header t (cellsOf (cut line))))) _ (sym heading-check ∙ passing)))
-      where
-        few : (a : Check) (b : Bool) (d : Check) → (a ⊳ (tooManyCells when b) ⊳ d) ≡ Passes → b ≡ false
-        few Passes true d e = cc
-        few Passes false d e = refl
-        few (Fails n k) b d e = cc
 
 -- the order of the checks ---------------------------------------------------------------------------------------------------------
 

@@ -1,21 +1,19 @@
 -- Laws of a line taken into a lent book, of the rows of a text, of a table and of a delivery. Assumes nothing.
 use mathlib.Core.Path.{_≡_, refl, ap, sym, subst, _∙_}
-use mathlib.Core.List.{List, [], _∷_}
-use mathlib.Core.Bool.{Bool, true, false}
-use Prim.Native.Nat.{ℕ, zero, suc, _+_, _-_, _≤_, _<_}
+use mathlib.Core.List.{List}
+use Prim.Native.Nat.{ℕ, suc, _+_, _-_, _≤_, _<_}
 use native.Mathlib.Omega.{arith}
 use native.Mathlib.Numerals.{add-one}
-use lib.Dec.{eqb, ltb}
 use lib.ListN.{length, take, drop}
 use borrow.Author.Tests.{lt-ltb, le-ltb, eq-eqb, ne-eqb}
-use Rattle.words.specs.Words.{Bytes, Row, if_then_else_}
+use Rattle.words.specs.Words.{Bytes, Row}
 use Rattle.refusals.specs.Verdicts.{placed, nowhere, textTooLong, badLoan}
 use Rattle.refusals.specs.declared.Place.{Place}
 use Rattle.refusals.specs.declared.Check.{Check}
 use Rattle.refusals.specs.declared.Check.the-variants.{Passes, Fails}
 use Rattle.refusals.specs.declared.Verdict.{Verdict}
 use Rattle.refusals.specs.declared.Verdict.the-variants.{Accepted, Refused}
-use Rattle.text.specs.Lines.{lines, headLine, rowLines, lineLength, lineRoom, lineAt}
+use Rattle.text.specs.Lines.{lines, headLine, lineLength, lineRoom, lineAt}
 use Rattle.text.specs.Cells.{cut, cellsOf}
 use Rattle.text.specs.declared.Line.{Line}
 use Rattle.text.proofs.Lining.{line-from, lines-none, head-line, row-lines}
@@ -25,9 +23,9 @@ use Rattle.book.specs.Book.{Book, empty, entered}
 use Rattle.book.specs.Room.{laid, bookOf, Sound}
 use Rattle.book.proofs.Laying.{orderly-book, orderly-entered, orderly-empty, book-laid, sound-laid, laid-book}
 use Rattle.reading.specs.Header.{Header, header, headerCheck}
-use Rattle.reading.specs.Reading.{Result, refused, leaves, unless, _▹_, judged, rowRead, rowsRead, headerOf, tableRead, Delivery, reading}
+use Rattle.reading.specs.Reading.{refused, leaves, unless, judged, rowRead, rowsRead, tableRead, Delivery, reading}
 use Rattle.reading.specs.Heading.{headed, heading, KeptOf, judgement, Taken}
-use Rattle.reading.specs.Calls.{outcome, readCall, readOutcome, resultOf}
+use Rattle.reading.specs.Calls.{outcome, readCall, resultOf}
 use Rattle.reading.specs.declared.Heading.{Heading}
 use Rattle.reading.specs.declared.Judged.{Judged}
 use Rattle.reading.proofs.Names as names
@@ -91,6 +89,11 @@ module _ (t : Table) (h : Header) (n : ℕ) (s : Bytes) (i : ℕ) (b : Book) whe
 
 -- a header ------------------------------------------------------------------------------------------------------------------------
 
+pub head-row : (s : Bytes) (r : Line) → r ≡ lineAt s 0 → take (r .end - 0) (drop 0 s) ≡ headLine (lines s)
+head-row s r e =
+    let z : r .end - 0 ≡ lineLength s = ap (λ (x : Line). x .end - 0) e ∙ (omega arith) in
+    rw z (sym (head-line s))
+
 headed-check : (c : Check) (h : Header) → headed c h .check ≡ c
 headed-check Passes h = refl
 headed-check (Fails n k) h = refl
@@ -117,13 +120,8 @@ module _ (t : Table) (s : Bytes) (b : Book) (xs : List Row) where
   table-long l v e = rw (lt-ltb 65536 (length s) l, e)
 
   module _ (few : length s ≤ 65536) (r : Line) (e : r ≡ lineAt s 0) (g : Heading) (is : g ≡ heading t (take (r .end - 0) (drop 0 s))) where
-    first : take (r .end - 0) (drop 0 s) ≡ headLine (lines s)
-    first =
-        let z : r .end - 0 ≡ lineLength s = ap (λ (x : Line). x .end - 0) e ∙ (omega arith) in
-        rw z (sym (head-line s))
-
     top : headerCheck t (headLine (lines s)) ≡ g .check
-    top = sym (heading-check t (take (r .end - 0) (drop 0 s)) g is ∙ ap (headerCheck t) first)
+    top = sym (heading-check t (take (r .end - 0) (drop 0 s)) g is ∙ ap (headerCheck t) (head-row s r e))
 
     pub table-headed : (c : Check) (n k : ℕ) → c ≡ Fails n k → g .check ≡ c → (v : Verdict) → v ≡ placed (number t) 1 c → resultOf v xs ≡ tableRead t s b
     unfolding tableRead
@@ -136,7 +134,7 @@ module _ (t : Table) (s : Bytes) (b : Book) (xs : List Row) where
     table-rows q =
         let z : headerCheck t (headLine (lines s)) ≡ Passes = top ∙ q in
         let y : r .next ≡ lineRoom s = ap (λ (x : Line). x .next) e ∙ (omega arith) in
-        rw (le-ltb 65536 (length s) few, z, first, y, row-lines s)
+        rw (le-ltb 65536 (length s) few, z, head-row s r e, y, row-lines s)
 
 -- a delivery ------------------------------------------------------------------------------------------------------------------------
 

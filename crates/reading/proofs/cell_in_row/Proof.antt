@@ -1,14 +1,12 @@
 -- `reading::cell_in_row` meets its contract: a faulty row, one of another cell count, and the cell of any other. Assumes nothing.
 use mathlib.Core.Path.{_≡_, refl, sym, ap, _∙_}
 use native.Mathlib.Omega.{arith}
-use Prim.Native.Nat.{ℕ, _+_, _≤_}
+use Prim.Native.Nat.{ℕ, _+_}
 use lib.ListN.{length, getD}
 use Rattle.text.specs.Cells.{cells, cut, cellsOf}
 use Rattle.text.proofs.Marking.{good-cells, good-count, bad-cell}
 use Rattle.text.specs.declared.Cells.{Cells}
 use Rattle.tables.specs.Columns.{number}
-use Rattle.reading.specs.Heading.{MarksOf}
-use Rattle.reading.specs.declared.CellAnswer.{CellAnswer}
 use Rattle.reading.proofs.Columns.{marks-of}
 use Rattle.reading.proofs.Asking.{fault-answer, mark-within, row-faulty, row-count, row-cell}
 use borrow.Author.Needs.{needs}

@@ -1,14 +1,14 @@
 -- `reading::cell_in_table` meets its contract: the column, the length, the header, and then the line. Assumes nothing.
 use mathlib.Core.Path.{_≡_, refl, sym, ap, _∙_}
 use native.Mathlib.Omega.{arith}
-use Prim.Native.Nat.{ℕ, _≤_}
+use Prim.Native.Nat.{_≤_}
 use lib.ListN.{length}
 use Rattle.refusals.specs.declared.Cell.the-variants.{Empty}
 use Rattle.text.specs.Lines.{lines, headLine}
 use Rattle.tables.specs.Columns.{columnsOf, number}
 use Rattle.reading.specs.Heading.{heading}
-use Rattle.reading.specs.declared.Heading.{Heading}
-use Rattle.reading.proofs.Asking.{fault-answer, head-row, head-within, heading-check, heading-kept, heading-few, top-passes, column-zero, column-past, text-long, header-faults}
+use Rattle.reading.proofs.Taking.{head-row, heading-check, heading-kept, heading-few}
+use Rattle.reading.proofs.Asking.{fault-answer, head-within, top-passes, column-zero, column-past, text-long, header-faults}
 use borrow.Author.Needs.{needs}
 use Rattle.reading.proofs.cell_in_table.Statement.{statement}
 use Rattle.reading.proofs.cell_in_table.Tie as tie

@@ -5,7 +5,7 @@ use Prim.Native.Nat.{ℕ, _<_, _≤_}
 use lib.ListN.{length}
 use Rattle.refusals.specs.declared.Check.{Check}
 use Rattle.refusals.specs.declared.Check.the-variants.{Fails}
-use Rattle.text.specs.Cells.{cells, cut, cellsOf}
+use Rattle.text.specs.Cells.{cut, cellsOf}
 use Rattle.text.proofs.Marking.{good-cells, good-count, bad-cell}
 use Rattle.reading.specs.Header.{header}
 use Rattle.reading.specs.Heading.{headed}
