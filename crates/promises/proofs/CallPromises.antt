@@ -1,5 +1,5 @@
 -- Demand 1: what the calls answer and leave behind, for good and bad input alike. Assumes nothing.
-use Prim.Native.Nat.{ℕ, _-_, _≤_}
+use Prim.Native.Nat.{ℕ, _≤_}
 use native.Mathlib.Omega.{arith}
 use mathlib.Core.Path.{_≡_, refl, ap, sym, subst, _∙_}
 use mathlib.Core.Bool.{Bool, true, false, not, _&&_}
@@ -13,7 +13,6 @@ use Rattle.refusals.specs.declared.Place.{Place}
 use Rattle.refusals.specs.declared.Verdict.{Verdict}
 use Rattle.refusals.specs.declared.Verdict.the-variants.{Accepted, Refused}
 use Rattle.rows.specs.Room.{zeros}
-use Rattle.tables.specs.declared.Table.the-variants.{VehicleType, Depot, Stop, Block}
 use Rattle.book.specs.Book.{Book, empty}
 use Rattle.book.specs.Room.{laid, bookOf}
 use Rattle.book.specs.Keeping.{keepsRule}
@@ -25,13 +24,14 @@ use Rattle.writer.specs.Writing.{written}
 use Rattle.writer.specs.Calls.{put, wrote, writeCall}
 use Rattle.writer.specs.Calls as writing
 use Rattle.reading.specs.Calls as reading-is
+use Rattle.book.proofs.Laying.{book-laid, sound-laid, orderly-empty}
 use Rattle.words.proofs.Lists.{take-seam, and-left}
 use Rattle.promises.proofs.BackPromises.{reads-back}
 use Rattle.sheet.specs.Sheet.{sheetText, refusalText}
 use Rattle.sheet.specs.Calls.{shortFor}
 use Rattle.promises.specs.Promises as promises
-use Rattle.promises.proofs.DeliveryLaws.{Standing, nothing-held}
-use Rattle.promises.proofs.RuleLaws.{laid-long, laid-keeps, book-laid}
+use Rattle.promises.proofs.DeliveryLaws.{Standing}
+use Rattle.promises.proofs.RuleLaws.{laid-keeps, standing-orderly}
 use Rattle.promises.proofs.RulePromises.{left-standing, rule-tested}
 use Rattle.promises.proofs.SlipPromises.{rule-kept, run-reads-afresh}
 
@@ -111,15 +111,12 @@ bad-book-refused book h =
 
 -- lengths ----------------------------------------------------------------------------------------------------------------
 
-empty-standing : Standing empty
-empty-standing = record { types = nothing-held VehicleType empty; depots = nothing-held Depot empty; stops = nothing-held Stop empty; blocks = nothing-held Block empty }
-
 read-length : (d : Delivery) (slice : List Row) → length (readCall d slice .book) ≡ length slice
 read-length d slice = go (eqb (length slice) 2048) refl
   where
     long : (r : Result) → reading d ≡ r → length (readOutcome r .book) ≡ 2048
-    long (refused p) e = laid-long empty empty-standing
-    long (leaves b) e = laid-long b (left-standing b (d, e))
+    long (refused p) e = sound-laid empty orderly-empty .long
+    long (leaves b) e = sound-laid b (standing-orderly b (left-standing b (d, e))) .long
 
     go : (q : Bool) → eqb (length slice) 2048 ≡ q → length (readCall d slice .book) ≡ length slice
     go true e = rw e (long (reading d) refl ∙ sym (eqb-true (length slice) 2048 e))
@@ -138,9 +135,9 @@ slip-length s book work = go (keepsRule book && workSized work) refl
         let l = rule-tested book .0 k in
         let b : Book = l .0 in
         let st : Standing b = left-standing b (l .1) in
-        let same : bookOf book ≡ b = ap bookOf (l .2) ∙ book-laid b st in
-        laid-long c (left-standing c (leaves-left s b c (l .1) (subst (λ (z : Book). posting s z ≡ leaves c) same e)))
-        ∙ sym (ap length (l .2) ∙ laid-long b st)
+        let same : bookOf book ≡ b = ap bookOf (l .2) ∙ book-laid b (standing-orderly b st) in
+        sound-laid c (standing-orderly c (left-standing c (leaves-left s b c (l .1) (subst (λ (z : Book). posting s z ≡ leaves c) same e)))) .long
+        ∙ sym (ap length (l .2) ∙ sound-laid b (standing-orderly b st) .long)
 
     go : (q : Bool) → (keepsRule book && workSized work) ≡ q → length (slipCall s book work .book) ≡ length book
     go true e =
@@ -184,7 +181,7 @@ write-laid b out l =
     wrote (nowhere (badLoan when not q) before nowhere (outputShort when ltb (length out) (length (written (bookOf (laid b))))))
     (written (bookOf (laid b))) out)
     (laid-keeps b st)
-    ∙ ap (λ (z : Book). wrote (nowhere (outputShort when ltb (length out) (length (written z)))) (written z) out) (book-laid b st)
+    ∙ ap (λ (z : Book). wrote (nowhere (outputShort when ltb (length out) (length (written z)))) (written z) out) (book-laid b (standing-orderly b st))
 
 pub write-call-answers : promises.WriteCallAnswers
 write-call-answers b out l = (
@@ -209,7 +206,7 @@ slip-call-answers s b work l n =
     let st : Standing b = left-standing b l in
     ap (λ (q : Bool). slipOutcome (unless (nowhere (badLoan when not (q && workSized work))) (posting s (bookOf (laid b)))) (laid b) work) (laid-keeps b st)
     ∙ ap (λ (q : Bool). slipOutcome (unless (nowhere (badLoan when not q)) (posting s (bookOf (laid b)))) (laid b) work) (eq-eqb (length work) 512 n)
-    ∙ ap (λ (z : Book). slipOutcome (posting s z) (laid b) work) (book-laid b st)
+    ∙ ap (λ (z : Book). slipOutcome (posting s z) (laid b) work) (book-laid b (standing-orderly b st))
 
 outcome-book : (r : Result) (b : Book) (work : List Row) → slipOutcome r (laid b) work .book ≡ laid (kept b r)
 outcome-book (refused p) b work = refl

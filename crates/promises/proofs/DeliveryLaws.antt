@@ -22,7 +22,7 @@ pub record Standing (b : Book) : Type 0 where
   pub stops : Held Stop b (b .stops)
   pub blocks : Held Block b (b .blocks)
 
-pub nothing-held : (t : Table) (b : Book) → Held t b []
+nothing-held : (t : Table) (b : Book) → Held t b []
 unfolding EachGood rises
 nothing-held t b = record { rising = refl; good = tt; size = omega arith }
 

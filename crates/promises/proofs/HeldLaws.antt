@@ -28,6 +28,7 @@ use Rattle.book.specs.Keeping.{ranged}
 use Rattle.reading.specs.Header.{Header, cutCheck, contents, contentsFrom}
 use Rattle.reading.specs.Reading.{Result, leaves, refused, unless, _▹_, badCell, judged, rowRead, rowsRead, tableRead, headerOf, topFaults}
 use Rattle.writer.specs.Writing.{linesWritten}
+use Rattle.book.proofs.Laying.{rows-with, with-same}
 use Rattle.promises.proofs.TestLaws.{both, unfailed, going-on}
 use Rattle.rows.proofs.Rising.{rising-true, rising-inserted}
 use Rattle.rows.proofs.Changes.{length-inserted}
@@ -37,18 +38,6 @@ use Rattle.promises.proofs.LineLaws.{Unbroken, EachUnbroken, lines-writ
 use Rattle.promises.proofs.PlainLaws.{plainNames, plainHeader, plainLine, plainText, Eleven, eleven-long, kept-numeric, cells-ranged, row-read, row-judged, unbroken-line, unbroken-plain, names-good, names-read, names-short, line-short}
 
 -- a book's tables are apart ----------------------------------------------------------------------------------------------
-
-pub rows-with : (t : Table) (xs : List Row) (b : Book) → rows t (with-rows t xs b) ≡ xs
-rows-with VehicleType xs b = refl
-rows-with Depot xs b = refl
-rows-with Stop xs b = refl
-rows-with Block xs b = refl
-
-pub with-own : (t : Table) (b : Book) → with-rows t (rows t b) b ≡ b
-with-own VehicleType b = refl
-with-own Depot b = refl
-with-own Stop b = refl
-with-own Block b = refl
 
 pub with-with : (t : Table) (xs ys : List Row) (b : Book) → with-rows t xs (with-rows t ys b) ≡ with-rows t xs b
 with-with VehicleType xs ys b = refl
@@ -174,7 +163,7 @@ pub held-read : (t : Table) (h : Header) (i : ℕ) (ls : List Bytes) (b c : Book
 unfolding rowsRead
 held-read t h i [] b c held e =
     let f : b ≡ c = cc in
-    subst (λ (z : Book). (z ≡ with-rows t (rows t z) b) × Held t z (rows t z)) f (sym (with-own t b), held)
+    subst (λ (z : Book). (z ≡ with-rows t (rows t z) b) × Held t z (rows t z)) f (sym (with-same t b), held)
 held-read t h i (l ∷ ls) b c held e = go (judged t h l b) refl (held-read t h (suc i) ls (entered t (rowRead t h l) b) c) e
   where
     go : (v : Check) → judged t h l b ≡ v →

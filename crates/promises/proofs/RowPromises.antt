@@ -27,7 +27,8 @@ use Rattle.promises.proofs.TestLaws.{going-on}
 use Rattle.rows.proofs.Keys.{order-refl, less-more}
 use Rattle.rows.proofs.Rising.{Above, Rising}
 use Rattle.rows.proofs.Changes.{stands-key, found-key, stands-inserted, found-inserted, other-stands-inserted, other-found-inserted, length-inserted}
-use Rattle.promises.proofs.HeldLaws.{Held, Taken, judged-taken, rows-with, plain-short}
+use Rattle.book.proofs.Laying.{rows-with}
+use Rattle.promises.proofs.HeldLaws.{Held, Taken, judged-taken, plain-short}
 use Rattle.promises.proofs.RuleLaws.{type-asked, block-asked}
 use Rattle.promises.proofs.DeliveryLaws.{Standing, ReadTo, Accepted, left-by, written-plain}
 

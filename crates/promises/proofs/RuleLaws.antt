@@ -1,11 +1,9 @@
 -- The test of the book rule, and the book as it is laid out in its slice. Assumes nothing.
-use Prim.Native.Nat.{ℕ, _+_, _-_, _≤_}
-use native.Mathlib.Omega.{arith}
+use Prim.Native.Nat.{ℕ, _≤_}
 use mathlib.Core.Path.{_≡_, refl, ap, sym, subst, _∙_}
 use mathlib.Core.Bool.{Bool, true, not, _&&_}
-use mathlib.Core.List.{List, [], _∷_, _++_}
-use lib.ListN.{length, take, drop, length-append}
-use lib.Seq.{take-at, drop-at, take-all, drop-drop}
+use mathlib.Core.List.{List, [], _∷_}
+use lib.ListN.{length, take}
 use lib.Dec.{leb, eqb}
 use borrow.Author.Tests.{leb-true, le-leb, eq-eqb, not-true}
 use Rattle.words.specs.Words.{Row, same}
@@ -15,17 +13,18 @@ use Rattle.tables.specs.Columns.{columnsOf, keyWidth, keptWidth}
 use Rattle.tables.specs.declared.Table.{Table}
 use Rattle.tables.specs.declared.Table.the-variants.{VehicleType, Depot, Stop, Block}
 use Rattle.rows.specs.Rows.{wide, column, rising, stands, found}
-use Rattle.rows.specs.Room.{filled, used, sameRows}
+use Rattle.rows.specs.Room.{sameRows}
 use Rattle.book.specs.Book.{Book, rows, knows}
 use Rattle.book.specs.Questions.{secondsOf, countOf, seven}
 use Rattle.book.specs.Calls.{typeAnswered, typeCall, blockAnswered, blockCall}
 use Rattle.book.specs.declared.TypeAnswer.{TypeAnswer}
 use Rattle.book.specs.declared.BlockAnswer.{BlockAnswer}
 use Rattle.book.specs.Rules.{timeFault, unknown}
-use Rattle.book.specs.Room.{laid, part, bookOf}
+use Rattle.book.specs.Room.{laid, bookOf}
 use Rattle.book.specs.Keeping.{ranged, all, lawful, lawfulTable, lawfulBook, keepsRule}
+use Rattle.book.proofs.Laying.{Orderly, book-laid, sound-laid}
 use Rattle.promises.proofs.TestLaws.{and-both, and-three, and-four, passed}
-use Rattle.rows.proofs.Room.{Versioned, used-filled, length-filled, sameRows-refl}
+use Rattle.rows.proofs.Room.{Versioned, sameRows-refl}
 use Rattle.promises.proofs.PlainLaws.{Eleven, eleven}
 use Rattle.promises.proofs.HeldLaws.{Good, EachGood, Held, good-eleven}
 use Rattle.promises.proofs.DeliveryLaws.{Standing}
@@ -100,65 +99,22 @@ unfolding Versioned EachGood
 versioned t b [] h = tt
 versioned t b (x ∷ xs) h = let g : Good t b x = h .0 in (first-versioned t x (good-eleven t x (g .shape)) (g .inside), versioned t b xs (h .1))
 
-module _ (b : Book) (h : Standing b) where
-  one : length (filled 512 (b .types)) ≡ 512
-  one = length-filled 512 (b .types) (h .types .size)
+pub standing-orderly : (b : Book) → Standing b → Orderly b
+standing-orderly b h = record { few = λ t. held t .size; rises = λ t. held t .rising; versioned = λ t. versioned t b (rows t b) (held t .good) }
+  where
+    held : (t : Table) → Held t b (rows t b)
+    held VehicleType = h .types
+    held Depot = h .depots
+    held Stop = h .stops
+    held Block = h .blocks
 
-  two : length (filled 512 (b .depots)) ≡ 512
-  two = length-filled 512 (b .depots) (h .depots .size)
-
-  three : length (filled 512 (b .stops)) ≡ 512
-  three = length-filled 512 (b .stops) (h .stops .size)
-
-  four : length (filled 512 (b .blocks)) ≡ 512
-  four = length-filled 512 (b .blocks) (h .blocks .size)
-
-  abbrev from-two : List Row
-  from-two = filled 512 (b .depots) ++ (filled 512 (b .stops) ++ filled 512 (b .blocks))
-
-  abbrev from-three : List Row
-  from-three = filled 512 (b .stops) ++ filled 512 (b .blocks)
-
-  pub laid-long : length (laid b) ≡ 2048
-  laid-long =
-      length-append (filled 512 (b .types)) from-two
-      ∙ omega (arith, one, two, three, four, length-append (filled 512 (b .depots)) from-three, length-append (filled 512 (b .stops)) (filled 512 (b .blocks)))
-
-  behind-one : drop 512 (laid b) ≡ from-two
-  behind-one = drop-at (filled 512 (b .types)) from-two 512 one
-
-  behind-two : drop 1024 (laid b) ≡ from-three
-  behind-two = sym (drop-drop 512 512 (laid b)) ∙ ap (λ (l : List Row). drop 512 l) behind-one ∙ drop-at (filled 512 (b .depots)) from-three 512 two
-
-  behind-three : drop 1536 (laid b) ≡ filled 512 (b .blocks)
-  behind-three = sym (drop-drop 512 1024 (laid b)) ∙ ap (λ (l : List Row). drop 512 l) behind-two ∙ drop-at (filled 512 (b .stops)) (filled 512 (b .blocks)) 512 three
-
-  part-one : part 0 (laid b) ≡ filled 512 (b .types)
-  part-one = take-at (filled 512 (b .types)) from-two 512 one
-
-  part-two : part 1 (laid b) ≡ filled 512 (b .depots)
-  part-two = ap (λ (l : List Row). take 512 l) behind-one ∙ take-at (filled 512 (b .depots)) from-three 512 two
-
-  part-three : part 2 (laid b) ≡ filled 512 (b .stops)
-  part-three = ap (λ (l : List Row). take 512 l) behind-two ∙ take-at (filled 512 (b .stops)) (filled 512 (b .blocks)) 512 three
-
-  part-four : part 3 (laid b) ≡ filled 512 (b .blocks)
-  part-four = ap (λ (l : List Row). take 512 l) behind-three ∙ take-all 512 (filled 512 (b .blocks)) (omega (arith, four))
-
-  pub book-laid : bookOf (laid b) ≡ b
-  book-laid =
-      let u1 : used (part 0 (laid b)) ≡ b .types = ap used part-one ∙ used-filled 512 (b .types) (versioned VehicleType b (b .types) (h .types .good)) in
-      let u2 : used (part 1 (laid b)) ≡ b .depots = ap used part-two ∙ used-filled 512 (b .depots) (versioned Depot b (b .depots) (h .depots .good)) in
-      let u3 : used (part 2 (laid b)) ≡ b .stops = ap used part-three ∙ used-filled 512 (b .stops) (versioned Stop b (b .stops) (h .stops .good)) in
-      let u4 : used (part 3 (laid b)) ≡ b .blocks = ap used part-four ∙ used-filled 512 (b .blocks) (versioned Block b (b .blocks) (h .blocks .good)) in
-      rw (u1, u2, u3, u4)
-
-  pub laid-keeps : keepsRule (laid b) ≡ true
-  laid-keeps =
-      and-both (eqb (length (laid b)) 2048 && lawfulBook (bookOf (laid b))) (sameRows (laid b) (laid (bookOf (laid b))))
-      (and-both (eqb (length (laid b)) 2048) (lawfulBook (bookOf (laid b))) (eq-eqb (length (laid b)) 2048 laid-long)
-      (subst (λ (z : Book). lawfulBook z ≡ true) (sym book-laid) (standing-lawful b h)))
-      (subst (λ (z : Book). sameRows (laid b) (laid z) ≡ true) (sym book-laid) (sameRows-refl (laid b)))
+pub laid-keeps : (b : Book) → Standing b → keepsRule (laid b) ≡ true
+laid-keeps b h =
+    let o : Orderly b = standing-orderly b h in
+    and-both (eqb (length (laid b)) 2048 && lawfulBook (bookOf (laid b))) (sameRows (laid b) (laid (bookOf (laid b))))
+    (and-both (eqb (length (laid b)) 2048) (lawfulBook (bookOf (laid b))) (eq-eqb (length (laid b)) 2048 (sound-laid b o .long))
+    (subst (λ (z : Book). lawfulBook z ≡ true) (sym (book-laid b o)) (standing-lawful b h)))
+    (subst (λ (z : Book). sameRows (laid b) (laid z) ≡ true) (sym (book-laid b o)) (sameRows-refl (laid b)))
 
 -- the questions on a book that keeps the rule ------------------------------------------------------------------------------
 
@@ -169,7 +125,7 @@ type-asked b h version type =
     let answer : Bool → Book → TypeAnswer =
     λ q z. typeAnswered (nowhere (badLoan when not q) before nowhere (notThere when not (knows VehicleType (version ∷ type ∷ []) z)))
     (secondsOf version type (z .blocks)) (countOf version type (z .blocks)) in
-    ap (λ (q : Bool). answer q (bookOf (laid b))) (laid-keeps b h) ∙ ap (λ (z : Book). answer true z) (book-laid b h)
+    ap (λ (q : Bool). answer q (bookOf (laid b))) (laid-keeps b h) ∙ ap (λ (z : Book). answer true z) (book-laid b (standing-orderly b h))
 
 pub block-asked : (b : Book) → Standing b → (version day depot block : ℕ) →
     let key = version ∷ day ∷ depot ∷ block ∷ [] in
@@ -178,4 +134,4 @@ block-asked b h version day depot block =
     let key : Row = version ∷ day ∷ depot ∷ block ∷ [] in
     let answer : Bool → Book → BlockAnswer =
     λ q z. blockAnswered (nowhere (badLoan when not q) before nowhere (notThere when not (knows Block key z))) (seven (found 4 key (z .blocks))) in
-    ap (λ (q : Bool). answer q (bookOf (laid b))) (laid-keeps b h) ∙ ap (λ (z : Book). answer true z) (book-laid b h)
+    ap (λ (q : Bool). answer q (bookOf (laid b))) (laid-keeps b h) ∙ ap (λ (z : Book). answer true z) (book-laid b (standing-orderly b h))
