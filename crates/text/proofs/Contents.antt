@@ -1,5 +1,5 @@
 -- What a cell holds: its stretch, its content, and their lengths. Assumes nothing.
-use mathlib.Core.Path.{_≡_, refl}
+use mathlib.Core.Path.{_≡_}
 use mathlib.Core.List.{[], _∷_}
 use mathlib.Core.Bool.{Bool, true, false}
 use Prim.Native.Nat.{ℕ, _+_, _-_, _≤_, _<_}
@@ -11,17 +11,19 @@ use Rattle.words.proofs.Lists.{drop-step}
 use Rattle.text.specs.Cells.{quoted, stretch, once, content}
 
 -- the first byte says whether a cell is quoted
-pub quoted-none : (cell : Bytes) → length cell ≡ 0 → quoted cell ≡ false
-quoted-none [] h = refl
-quoted-none (b ∷ bs) h = absurd (omega arith)
+module _ (line : Bytes) (i : ℕ) where
+  pub quoted-byte : i < length line → quoted (drop i line) ≡ eqb (getD line i 0) 34
+  quoted-byte h = rw (drop-step 0 line i h)
 
-pub quoted-first : (cell : Bytes) → (length cell ≡ 0 → ⊥) → quoted cell ≡ eqb (getD cell 0 0) 34
-quoted-first [] h = absurd (h refl)
-quoted-first (b ∷ bs) h = refl
+  pub quoted-none : length line ≤ i → quoted (drop i line) ≡ false
+  quoted-none h = rw (drop-of-length-le line h)
 
 pub quoted-some : (cell : Bytes) → quoted cell ≡ true → 0 < length cell
 quoted-some [] h = let z : _≡_ {A = ℕ} 0 1 = cc in absurd (omega arith)
 quoted-some (b ∷ bs) h = omega arith
+
+pub quoted-within : (line : Bytes) (i : ℕ) → quoted (drop i line) ≡ true → i < length line
+quoted-within line i q = let l : length (drop i line) ≡ length line - i = length-drop i line in omega (arith, quoted-some (drop i line) q)
 
 -- the length of what a quote counted once leaves, byte by byte
 module _ (s : Bytes) (i : ℕ) where

@@ -1,10 +1,10 @@
--- How a line is cut into cells, or fields, step by step, and that they make up the line. Assumes nothing.
+-- What a line is cut into, that its cells, or fields, make it up, and how fields are cut step by step. Assumes nothing.
 use mathlib.Core.Path.{_≡_, refl, ap, sym, subst, _∙_}
 use mathlib.Core.List.{List, [], _∷_, _++_, append-assoc, append-nil}
 use mathlib.Core.Bool.{Bool, true, false, _||_}
 use Prim.Native.Nat.{ℕ, suc, _+_, _≤_, _<_}
 use native.Mathlib.Omega.{arith}
-use borrow.Author.Tests.{lt-ltb, le-ltb, ltb-true, ltb-false, eqb-true}
+use borrow.Author.Tests.{lt-ltb, ltb-true, eqb-true}
 use lib.Dec.{eqb, ltb}
 use lib.ListN.{length, drop, getD, drop-of-length-le}
 use Rattle.words.specs.Words.{Bytes, if_then_else_}
@@ -12,7 +12,6 @@ use Rattle.words.proofs.Lists.{drop-step}
 use Rattle.text.specs.Lines.{onto}
 use Rattle.text.specs.Cells.{kind, next, Cut, faulty, cells, grown, after, reached, cutFrom, cut}
 use Rattle.text.specs.Fields.{fields, parted}
-use Rattle.text.specs.declared.Kind.{Kind}
 use Rattle.text.specs.declared.Kind.the-variants.{Quote, Semicolon, Control, Other, End}
 use Rattle.text.specs.declared.State.{State}
 use Rattle.text.specs.declared.State.the-variants.{Fresh, Plain, Inside, Closed, Over, Fault}
@@ -49,78 +48,19 @@ grownBy-nil (faulty n) = refl
 grownBy-nil (cells []) = refl
 grownBy-nil (cells (c ∷ cs)) = refl
 
-pub grownBy-more : (p : Bytes) (b : ℕ) (u : Cut) → grownBy (p ++ (b ∷ [])) u ≡ grownBy p (grown b u)
-grownBy-more p b (faulty n) = refl
-grownBy-more p b (cells []) = refl
-grownBy-more p b (cells (c ∷ cs)) = rw append-assoc
+pub grownBy-one : (b : ℕ) (u : Cut) → grownBy (b ∷ []) u ≡ grown b u
+grownBy-one b (faulty n) = refl
+grownBy-one b (cells []) = refl
+grownBy-one b (cells (c ∷ cs)) = refl
+
+pub grownBy-more : (p q : Bytes) (u : Cut) → grownBy (p ++ q) u ≡ grownBy p (grownBy q u)
+grownBy-more p q (faulty n) = refl
+grownBy-more p q (cells []) = refl
+grownBy-more p q (cells (c ∷ cs)) = rw append-assoc
 
 pub grownBy-after : (p : Bytes) (u : Cut) → grownBy p (after u) ≡ before p u
 grownBy-after p (faulty n) = refl
 grownBy-after p (cells cs) = rw append-nil
-
--- cells, step by step -------------------------------------------------------------------------------------------------------
-
--- the kind of the byte at a place, or of the line's end
-abbrev pub kindAt : Bytes → ℕ → Kind
-kindAt line i = if ltb i (length line) then kind (getD line i 0) else End
-
--- a cell goes on in this state
-abbrev pub Goes : State → Type 0
-Goes Over = ⊥
-Goes Fault = ⊥
-Goes Fresh = Unit {0}
-Goes Plain = Unit {0}
-Goes Inside = Unit {0}
-Goes Closed = Unit {0}
-
-reached-go : (t : State) (over : Cut) (on : State → Cut) → Goes t → reached t over on ≡ on t
-reached-go Over over on h = absurd h
-reached-go Fault over on h = absurd h
-reached-go Fresh over on h = refl
-reached-go Plain over on h = refl
-reached-go Inside over on h = refl
-reached-go Closed over on h = refl
-
--- the line's end stops each cell
-stops : (s : State) → Goes (next s End) → ⊥
-stops Fresh h = h
-stops Plain h = h
-stops Inside h = h
-stops Closed h = h
-stops Over h = h
-stops Fault h = h
-
-module _ (line : Bytes) (s : State) (i : ℕ) where
-  cut-byte : i < length line → cutFrom s (drop i line) ≡ reached (next s (kindAt line i)) (after (cutFrom Fresh (drop (i + 1) line))) (λ t. grown (getD line i 0) (cutFrom t (drop (i + 1) line)))
-  unfolding cutFrom
-  cut-byte h = rw (drop-step 0 line i h, lt-ltb i (length line) h)
-
-  cut-end : length line ≤ i → cutFrom s (drop i line) ≡ reached (next s (kindAt line i)) (cells ([] ∷ [])) (λ t. faulty 1)
-  unfolding cutFrom
-  cut-end h = rw (drop-of-length-le line h, le-ltb i (length line) h)
-
-  pub cut-fault : next s (kindAt line i) ≡ Fault → cutFrom s (drop i line) ≡ faulty 1
-  cut-fault e = go (ltb i (length line)) refl
-    where
-      go : (t : Bool) → ltb i (length line) ≡ t → cutFrom s (drop i line) ≡ faulty 1
-      go true q = cut-byte (ltb-true i (length line) q) ∙ rw e
-      go false q = cut-end (ltb-false i (length line) q) ∙ rw e
-
-  pub cut-over : i < length line → next s (kindAt line i) ≡ Over → cutFrom s (drop i line) ≡ after (cutFrom Fresh (drop (i + 1) line))
-  cut-over h e = cut-byte h ∙ rw e
-
-  pub cut-last : length line ≤ i → next s (kindAt line i) ≡ Over → cutFrom s (drop i line) ≡ after (cells [])
-  cut-last h e = cut-end h ∙ rw e
-
-  pub goes-inside : Goes (next s (kindAt line i)) → i < length line
-  goes-inside h = go (ltb i (length line)) refl
-    where
-      go : (t : Bool) → ltb i (length line) ≡ t → i < length line
-      go true q = ltb-true i (length line) q
-      go false q = absurd (stops s (rw q at h))
-
-  pub cut-go : Goes (next s (kindAt line i)) → cutFrom s (drop i line) ≡ grown (getD line i 0) (cutFrom (next s (kindAt line i)) (drop (i + 1) line))
-  cut-go h = cut-byte (goes-inside h) ∙ reached-go (next s (kindAt line i)) _ _ h
 
 -- what is cut makes up the line -------------------------------------------------------------------------------------------
 

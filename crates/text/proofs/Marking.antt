@@ -12,7 +12,7 @@ use Rattle.text.specs.Marks.{startsFrom, endsFrom, padded, marked, field
 use Rattle.text.specs.declared.Answer.the-variants.{Bad, Good}
 use Rattle.text.specs.declared.Cells.{Cells}
 use Rattle.text.specs.declared.Fields.{Fields}
-use Rattle.text.proofs.Cutting.{before, ahead, ahead-more, ahead-faulty, ahead-none, grownBy, grownBy-nil, grownBy-more, grownBy-after, cells-parted, fields-parted}
+use Rattle.text.proofs.Cutting.{ahead, ahead-more, ahead-faulty, ahead-none, grownBy, grownBy-nil, grownBy-one, grownBy-more, grownBy-after, cells-parted, fields-parted}
 
 -- one number more, dropped where the array is full
 pub padded-more : (room : ℕ) (xs : List ℕ) (v : ℕ) → set (padded room xs) (length xs) v ≡ padded room (xs ++ (v ∷ []))
@@ -107,19 +107,22 @@ module _ (room : ℕ) (whole : Cut) where
       }
 
   module _ (xs ys : List ℕ) (n from i : ℕ) (rest : Cut) where
-    -- one byte more
-    pub byte-more : (b : ℕ) → Sofar room whole xs ys n from i (grown b rest) → Sofar room whole xs ys n from (i + 1) rest
-    byte-more b s =
+    -- some bytes more
+    pub bytes-more : (q : Bytes) → Sofar room whole xs ys n from i (grownBy q rest) → Sofar room whole xs ys n from (i + length q) rest
+    bytes-more q s =
         record {
           found = s .found;
-          part = s .part ++ (b ∷ []);
+          part = s .part ++ q;
           counted = s .counted;
           begins = s .begins;
           reaches = rw length-append (omega arith);
-          made-up = s .made-up ∙ ap (ahead (s .found)) (sym (grownBy-more (s .part) b rest));
+          made-up = s .made-up ∙ ap (ahead (s .found)) (sym (grownBy-more (s .part) q rest));
           starts-kept = s .starts-kept;
           ends-kept = s .ends-kept;
         }
+
+    pub byte-more : (b : ℕ) → Sofar room whole xs ys n from i (grown b rest) → Sofar room whole xs ys n from (i + 1) rest
+    byte-more b s = bytes-more (b ∷ []) (rw (grownBy-one b rest) s)
 
     -- one cell more
     pub cell-more : (xs′ ys′ : List ℕ) → Sofar room whole xs ys n from i (after rest) → xs′ ≡ set xs n from → ys′ ≡ set ys n i → Sofar room whole xs′ ys′ (n + 1) (i + 1) (i + 1) rest

@@ -4,3 +4,4 @@ pub mod Cells
 pub mod Numbers
 pub mod Fields
 pub mod Marks
+pub mod Ends

@@ -5,14 +5,15 @@ ghost use Prim.Native.Nat.{ℕ, _+_, _≤_, _<_};
 ghost use lib.ListN.{length, drop, getD, set};
 ghost use lib.Dec.{eqb, leb, ltb};
 ghost use Rattle.words.specs.Words.{if_then_else_};
-ghost use Rattle.text.specs.declared.Kind.the-variants.{End};
+ghost use Rattle.text.specs.declared.State.the-variants.{Fresh, Plain, Inside};
 ghost use Rattle.text.specs.Lines.{lineLength, slipLength, lineAt, slipLineAt};
-ghost use Rattle.text.specs.Cells.{kind, next, cut, quoted, stretch, once, content};
+ghost use Rattle.text.specs.Cells.{kind, cut, quoted, stretch, once, content};
 ghost use Rattle.text.specs.Numbers.{decimalOf};
 ghost use Rattle.text.specs.Fields.{fields};
 ghost use Rattle.text.specs.Marks.{marked, fieldMarks};
+ghost use Rattle.text.specs.Ends.{stays, endFrom, stopAt};
 
-// What a byte, or the line's end, is to a cell.
+// What a byte, or the line's end, is to a cell. The specification alone speaks of kinds and states.
 pub enum Kind {
     Quote,
     Semicolon,
@@ -29,6 +30,12 @@ pub enum State {
     Closed,
     Over,
     Fault,
+}
+
+// Where a cell ends: nowhere if it is faulty.
+enum CellEnd {
+    Nowhere,
+    At(usize),
 }
 
 // A line's first faulty cell, counted from 1, or how many cells it has.
@@ -119,70 +126,94 @@ pub fn next_slip_line(text: &[u8], at: usize) -> Line
     Line { end, next: end + 1 }
 }
 
-// What a byte, or the line's end, makes of a cell.
-fn next_state(s: State, k: Kind) -> State
-    ensures { λ r. ⌜ r ≡ next s k ⌝ }
-{
-    match s {
-        State::Fresh => match k {
-            Kind::Quote => State::Inside,
-            Kind::Semicolon => State::Over,
-            Kind::Control => State::Fault,
-            Kind::Other => State::Plain,
-            Kind::End => State::Over,
-        },
-        State::Plain => match k {
-            Kind::Quote => State::Fault,
-            Kind::Semicolon => State::Over,
-            Kind::Control => State::Fault,
-            Kind::Other => State::Plain,
-            Kind::End => State::Over,
-        },
-        State::Inside => match k {
-            Kind::Quote => State::Closed,
-            Kind::Semicolon => State::Inside,
-            Kind::Control => State::Fault,
-            Kind::Other => State::Inside,
-            Kind::End => State::Fault,
-        },
-        State::Closed => match k {
-            Kind::Quote => State::Inside,
-            Kind::Semicolon => State::Over,
-            Kind::Control => State::Fault,
-            Kind::Other => State::Fault,
-            Kind::End => State::Over,
-        },
-        State::Over => State::Fault,
-        State::Fault => State::Fault,
-    }
-}
-
-fn kind_of(b: u8) -> Kind
-    ensures { λ r. ⌜ r ≡ kind b ⌝ }
-{
-    if b == 34 {
-        return Kind::Quote;
-    }
-    if b == 59 {
-        return Kind::Semicolon;
-    }
-    if b < 32 {
-        return Kind::Control;
-    }
-    if b == 127 {
-        return Kind::Control;
-    }
-    Kind::Other
-}
-
-// The kind of the byte at a place, or of the line's end.
-fn kind_at(line: &[u8], i: usize) -> Kind
-    ensures { λ r. ⌜ r ≡ (if ltb i (length (now (line .entry))) then kind (getD (now (line .entry)) i 0) else End) ⌝ }
+// Whether a quote stands at a place.
+fn quote_at(line: &[u8], i: usize) -> bool
+    ensures { λ r. ⌜ r ≡ quoted (drop i (now (line .entry))) ⌝ }
 {
     if i < line.len() {
-        return kind_of(line[i]);
+        return line[i] == 34;
     }
-    Kind::End
+    false
+}
+
+// Whether a byte leaves a cell inside its quotes: no quote and no control byte.
+fn stays_inside(b: u8) -> bool
+    ensures { λ r. ⌜ r ≡ stays Inside (kind b) ⌝ }
+{
+    if 34 < b {
+        return b != 127;
+    }
+    if b < 32 {
+        return false;
+    }
+    b != 34
+}
+
+// Whether a byte leaves a cell plain: no quote, no control byte and no semicolon.
+fn stays_plain(b: u8) -> bool
+    ensures { λ r. ⌜ r ≡ stays Plain (kind b) ⌝ }
+{
+    if b == 59 {
+        return false;
+    }
+    stays_inside(b)
+}
+
+// The end of a cell that goes on no further than to a place: a semicolon or the line's end must stand there.
+fn end_at(line: &[u8], i: usize) -> CellEnd
+    ensures { λ r. ⌜ r ≡ stopAt i (drop i (now (line .entry))) ⌝ }
+{
+    if line.len() <= i {
+        return CellEnd::At(i);
+    }
+    if line[i] == 59 {
+        return CellEnd::At(i);
+    }
+    CellEnd::Nowhere
+}
+
+// The end of a plain cell that is read up to a place.
+fn plain_end(line: &[u8], from: usize) -> CellEnd
+    ensures { λ r. ⌜ r ≡ endFrom Plain from (drop from (now (line .entry))) ⌝ }
+{
+    let mut i = from;
+    'bytes: while i < line.len() {
+        if stays_plain(line[i]) {
+            i += 1;
+        } else {
+            return end_at(line, i);
+        }
+    }
+    CellEnd::At(i)
+}
+
+// The end of a quoted cell that is read up to a place inside its quotes.
+fn quoted_end(line: &[u8], from: usize) -> CellEnd
+    ensures { λ r. ⌜ r ≡ endFrom Inside from (drop from (now (line .entry))) ⌝ }
+{
+    let mut i = from;
+    'bytes: while i < line.len() {
+        if stays_inside(line[i]) {
+            i += 1;
+        } else if line[i] != 34 {
+            return CellEnd::Nowhere;
+        } else if quote_at(line, i + 1) {
+            i += 2;
+        } else {
+            return end_at(line, i + 1);
+        }
+    }
+    CellEnd::Nowhere
+}
+
+// The end of the cell that begins at a place.
+fn cell_end(line: &[u8], from: usize) -> CellEnd
+    ensures { λ r. ⌜ r ≡ endFrom Fresh from (drop from (now (line .entry))) ⌝ }
+{
+    if quote_at(line, from) {
+        return quoted_end(line, from + 1);
+    }
+    plain_end(line, from)
 }
 
 // Notes a place as number n, where there is room for it.
@@ -194,27 +225,24 @@ fn note(places: &mut [usize], n: usize, place: usize)
     }
 }
 
-// The cells of a line, in one pass.
+// The cells of a line, one by one.
 pub fn cells_of(line: &[u8]) -> Cells
     ensures { λ r. ⌜ r ≡ marked (cut (now (line .entry))) ⌝ }
 {
     let mut start = [0usize; 32];
     let mut end = [0usize; 32];
-    let mut state = State::Fresh;
     let mut n: usize = 0;
     let mut from: usize = 0;
-    let mut i: usize = 0;
     'cells: loop {
-        let reached = next_state(state, kind_at(line, i));
-        match reached {
-            State::Fault => {
+        match cell_end(line, from) {
+            CellEnd::Nowhere => {
                 return Cells {
                     answer: Answer::Bad(n + 1),
                     start: [0; 32],
                     end: [0; 32],
                 };
             }
-            State::Over => {
+            CellEnd::At(i) => {
                 note(&mut start, n, from);
                 note(&mut end, n, i);
                 n += 1;
@@ -225,13 +253,7 @@ pub fn cells_of(line: &[u8]) -> Cells
                         end,
                     };
                 }
-                i += 1;
-                from = i;
-                state = State::Fresh;
-            }
-            _ => {
-                state = reached;
-                i += 1;
+                from = i + 1;
             }
         }
     }
@@ -279,10 +301,7 @@ pub fn fields_of(line: &[u8]) -> Fields
 pub fn is_quoted(cell: &[u8]) -> bool
     ensures { λ r. ⌜ r ≡ quoted (now (cell .entry)) ⌝ }
 {
-    if cell.len() == 0 {
-        return false;
-    }
-    cell[0] == 34
+    quote_at(cell, 0)
 }
 
 // The bytes between a cell's quotes, or the whole cell where it has none.

@@ -1,81 +1,62 @@
+-- `text::cells_of` meets its contract: the cells found, and what the rest of the line is cut into, make up what the line is cut into. Assumes nothing.
 use mathlib.Core.Path.{_≡_, ap, sym, subst, _∙_}
-use mathlib.Core.Logic.{⊎-elim}
-use mathlib.Core.List.{[], _∷_}
-use Prim.Native.Nat.{_+_, _-_, _≤_, _<_}
+use mathlib.Core.List.{[]}
+use Prim.Native.Nat.{_+_, _-_, _≤_}
 use native.Mathlib.Omega.{arith}
 use lib.ListN.{length, drop}
-use Rattle.text.specs.Cells.{next, Cut, faulty, cells, after, cutFrom, cut}
+use Rattle.text.specs.Cells.{Cut, faulty, cells, after, cut}
 use Rattle.text.specs.Marks.{marked}
-use Rattle.text.specs.declared.State.{State}
-use Rattle.text.specs.declared.State.the-variants.{Fresh, Plain, Inside, Closed, Over, Fault}
-use Rattle.text.proofs.State.{the-type}
-use denote.Enum.Declared.{tagOf}
-use types.Run.{OneOf}
-use Rattle.text.proofs.Cutting.{kindAt, Goes, cut-fault, cut-over, cut-last, cut-go, goes-inside}
-use Rattle.text.proofs.Marking.{Sofar, nothing-yet, byte-more, cell-more, starts-long, ends-long, fault-found, cells-marked}
+use Rattle.text.specs.Ends.{endFrom}
+use Rattle.text.specs.declared.State.the-variants.{Fresh}
+use Rattle.text.specs.declared.CellEnd.the-variants.{At}
+use Rattle.text.proofs.Marking.{Sofar, nothing-yet, cell-more, starts-long, ends-long, fault-found, cells-marked}
+use Rattle.text.proofs.Ending.{faulty-cell, cell-found, ends-behind, ends-within, following, following-last, following-next}
 use borrow.Author.Needs.{needs}
 use Rattle.text.proofs.cells_of.Statement.{statement}
 use Rattle.text.proofs.cells_of.Tie as tie
 
 abbrev Inv-cells : tie.InvT-cells
-Inv-cells line start₀ end₀ state₀ n₀ from₀ i₀ start end state n from i =
-    Sofar 32 (cut line) start end n from i (cutFrom state (drop i line)) × (n ≤ i) × (i ≤ length line)
+Inv-cells line start₀ end₀ n₀ from₀ start end n from =
+    Sofar 32 (cut line) start end n from from (cut (drop from line)) × (n ≤ from) × (from ≤ length line)
 
 abbrev μ-cells : tie.MeasureT-cells
-μ-cells line start₀ end₀ state₀ n₀ from₀ i₀ start end state n from i = length line - i
+μ-cells line start₀ end₀ n₀ from₀ start end n from = length line - from
 
--- the arm `_` of the match, by its tags
-goes : (t : State) → OneOf (0 ∷ 1 ∷ 2 ∷ 3 ∷ []) (tagOf the-type t) → Goes t
-goes Fresh h = tt
-goes Plain h = tt
-goes Inside h = tt
-goes Closed h = tt
-goes Over h = ⊎-elim (λ z. omega arith) (⊎-elim (λ z. omega arith) (⊎-elim (λ z. omega arith) (λ z. omega arith))) h
-goes Fault h = ⊎-elim (λ z. omega arith) (⊎-elim (λ z. omega arith) (⊎-elim (λ z. omega arith) (λ z. omega arith))) h
+-- where the cell ends
+told : (c : tie.After-i Inv-cells μ-cells) → endFrom Fresh (c .before .before .before .cells .from) (drop (c .before .before .before .cells .from) (c .before .before .before .before .before .args .line .now)) ≡ At (c .i .given .0 .0)
+told c = sym (c .before .before .cell-end .ensures) ∙ c .i .given .1
 
--- what the two calls of a turn found
-moved : (c : tie.After-next-state Inv-cells μ-cells) → c .next-state .result ≡ next (c .before .before .cells .state) (kindAt (c .before .before .before .before .args .line .now) (c .before .before .cells .i))
-moved c = c .next-state .ensures ∙ ap (next (c .before .before .cells .state)) (c .before .kind-at .ensures)
+behind : (c : tie.After-i Inv-cells μ-cells) → c .before .before .before .cells .from ≤ c .i .given .0 .0
+behind c = ends-behind (c .before .before .before .before .before .args .line .now) (c .before .before .before .cells .from) (c .i .given .0 .0) (c .before .before .before .cells .inv .2) (told c)
 
-over : (c : tie.After-enum-told2 Inv-cells μ-cells) → next (c .before .before .before .before .cells .state) (kindAt (c .before .before .before .before .before .before .args .line .now) (c .before .before .before .before .cells .i)) ≡ Over
-over c = sym (moved (c .before .before)) ∙ c .enum-told2 .given .1
-
-going : (c : tie.At-match-keys3 Inv-cells μ-cells) → Goes (next (c .before .before .before .cells .state) (kindAt (c .before .before .before .before .before .args .line .now) (c .before .before .before .cells .i)))
-going c = subst Goes (moved (c .before)) (goes (c .before .next-state .result) (c .match .keys3))
-
-inside : (c : tie.At-match-keys3 Inv-cells μ-cells) → c .before .before .before .cells .i < length (c .before .before .before .before .before .args .line .now)
-inside c = goes-inside (c .before .before .before .before .before .args .line .now) (c .before .before .before .cells .state) (c .before .before .before .cells .i) (going c)
+within : (c : tie.After-i Inv-cells μ-cells) → c .i .given .0 .0 ≤ length (c .before .before .before .before .before .args .line .now)
+within c = ends-within (c .before .before .before .before .before .args .line .now) (c .before .before .before .cells .from) (c .i .given .0 .0) (c .before .before .before .cells .inv .2) (told c)
 
 -- behind the notes: one cell more
-ended : (c : tie.After-end2 Inv-cells μ-cells) (rest : Cut)
-    → cutFrom (c .before .before .before .before .before .before .before .before .before .before .cells .state) (drop (c .before .before .before .before .before .before .before .before .before .before .cells .i) (c .before .before .before .before .before .before .before .before .before .before .before .before .args .line .now)) ≡ after rest
-    → Sofar 32 (cut (c .before .before .before .before .before .before .before .before .before .before .before .before .args .line .now)) (c .before .before .before .before .note .last .0) (c .before .note2 .last .0) (c .before .before .before .before .before .before .before .before .before .before .cells .n + 1) (c .before .before .before .before .before .before .before .before .before .before .cells .i + 1) (c .before .before .before .before .before .before .before .before .before .before .cells .i + 1) rest
+ended : (c : tie.After-end2 Inv-cells μ-cells) (rest : Cut) → following (drop (c .before .before .before .before .before .before .before .i .given .0 .0) (c .before .before .before .before .before .before .before .before .before .before .before .before .args .line .now)) ≡ rest
+    → Sofar 32 (cut (c .before .before .before .before .before .before .before .before .before .before .before .before .args .line .now)) (c .before .before .before .before .note .last .0) (c .before .note2 .last .0) (c .before .before .before .before .before .before .before .before .before .before .cells .n + 1) (c .before .before .before .before .before .before .before .i .given .0 .0 + 1) (c .before .before .before .before .before .before .before .i .given .0 .0 + 1) rest
 ended c rest e =
-    cell-more 32 _ _ _ _ _ _ rest _ _ (subst (Sofar 32 _ _ _ _ _ _) e (c .before .before .before .before .before .before .before .before .before .before .cells .inv .0)) (c .before .before .before .before .note .ensures) (c .before .note2 .ensures)
+    cell-more 32 _ _ _ _ _ _ rest _ _ (subst (Sofar 32 _ _ _ _ _ _) (ap after e) (cell-found (c .before .before .before .before .before .before .before .before .before .before .before .before .args .line .now) (c .before .before .before .before .before .before .before .before .before .before .cells .from) (c .before .before .before .before .before .before .before .i .given .0 .0) (c .before .before .before .before .before .before .before .before .before .before .cells .inv .2) (told (c .before .before .before .before .before .before .before)) 32 _ _ _ _ (c .before .before .before .before .before .before .before .before .before .before .cells .inv .0))) (c .before .before .before .before .note .ensures) (c .before .note2 .ensures)
 
 cells-holds : tie.Need-cells-holds Inv-cells μ-cells
 cells-holds c = (nothing-yet 32 _, omega arith, omega arith)
 
-kind-at-requires : tie.Need-kind-at-requires Inv-cells μ-cells
-kind-at-requires c κs = search needs
-
-next-state-requires : tie.Need-next-state-requires Inv-cells μ-cells
-next-state-requires c κs = search needs
+cell-end-requires : tie.Need-cell-end-requires Inv-cells μ-cells
+cell-end-requires c κs = search needs
 
 enum-told : tie.Need-enum-told Inv-cells μ-cells
 enum-told c = search needs
 
-add-t10 : tie.Need-add-t10 Inv-cells μ-cells
-add-t10 c = search needs
+add-t8 : tie.Need-add-t8 Inv-cells μ-cells
+add-t8 c = search needs
 
 returns : tie.Need-returns Inv-cells μ-cells
 returns c =
-    let e : cutFrom (c .before .before .before .before .cells .state) (drop (c .before .before .before .before .cells .i) (c .before .before .before .before .before .before .args .line .now)) ≡ faulty 1 =
-    cut-fault (c .before .before .before .before .before .before .args .line .now) (c .before .before .before .before .cells .state) (c .before .before .before .before .cells .i) (sym (moved (c .before .before)) ∙ c .enum-told .given .1) in
-    ap marked (sym (fault-found 32 _ _ _ _ _ _ (subst (Sofar 32 _ _ _ _ _ _) e (c .before .before .before .before .cells .inv .0))))
+    let e : cut (drop (c .before .before .before .cells .from) (c .before .before .before .before .before .args .line .now)) ≡ faulty 1 = faulty-cell (c .before .before .before .before .before .args .line .now) (c .before .before .before .cells .from) (sym (c .before .before .cell-end .ensures) ∙ c .enum-told .given .1) in
+    ap marked (sym (fault-found 32 _ _ _ _ _ _ (subst (Sofar 32 _ _ _ _ _ _) e (c .before .before .before .cells .inv .0))))
 
-enum-told-2 : tie.Need-enum-told-2 Inv-cells μ-cells
-enum-told-2 c = search needs
+enum-known-i : tie.Need-enum-known-i Inv-cells μ-cells
+enum-known-i c = search needs
 
 slice-aggregate-note : tie.Need-slice-aggregate-note Inv-cells μ-cells
 slice-aggregate-note c = starts-long 32 _ _ _ _ _ _ _ (c .before .before .before .before .before .cells .inv .0)
@@ -90,35 +71,22 @@ note-requires-2 : tie.Need-note-requires-2 Inv-cells μ-cells
 note-requires-2 c κs = search needs
 
 add-n : tie.Need-add-n Inv-cells μ-cells
-add-n c = search needs
+add-n c = omega (arith, c .before .before .before .before .before .before .before .before .before .before .cells .inv .1, c .before .before .before .before .before .before .before .before .before .before .cells .inv .2)
 
 returns-2 : tie.Need-returns-2 Inv-cells μ-cells
-returns-2 c = cells-marked _ _ _ _ _ _ (ended (c .before) (cells []) (cut-last (c .before .before .before .before .before .before .before .before .before .before .before .before .before .args .line .now) (c .before .before .before .before .before .before .before .before .before .before .before .cells .state) (c .before .before .before .before .before .before .before .before .before .before .before .cells .i) (omega (arith, c .if1 .taken)) (over (c .before .before .before .before .before .before .before))))
+returns-2 c = cells-marked _ _ _ _ _ _ (ended (c .before) (cells []) (following-last (c .before .before .before .before .before .before .before .before .before .before .before .before .before .args .line .now) (c .before .before .before .before .before .before .before .before .i .given .0 .0) (omega (arith, c .if1 .taken))))
 
-add-i : tie.Need-add-i Inv-cells μ-cells
-add-i c = search needs
+add-from : tie.Need-add-from Inv-cells μ-cells
+add-from c = omega (arith, c .if1 .left, within (c .before .before .before .before .before .before .before .before))
 
 cells-less : tie.Need-cells-less Inv-cells μ-cells
-cells-less c = search needs
+cells-less c = omega (arith, c .if1 .left, within (c .before .before .before .before .before .before .before .before), behind (c .before .before .before .before .before .before .before .before))
 
 cells-again : tie.Need-cells-again Inv-cells μ-cells
 cells-again c = (
-  ended (c .before) _ (cut-over (c .before .before .before .before .before .before .before .before .before .before .before .before .before .args .line .now) (c .before .before .before .before .before .before .before .before .before .before .before .cells .state) (c .before .before .before .before .before .before .before .before .before .before .before .cells .i) (omega (arith, c .if1 .left)) (over (c .before .before .before .before .before .before .before))),
-  omega arith,
-  omega (arith, c .if1 .left),
-)
-
-add-i-2 : tie.Need-add-i-2 Inv-cells μ-cells
-add-i-2 c = search needs
-
-cells-less-2 : tie.Need-cells-less-2 Inv-cells μ-cells
-cells-less-2 c = omega (arith, inside c)
-
-cells-again-2 : tie.Need-cells-again-2 Inv-cells μ-cells
-cells-again-2 c = (
-  rw (moved (c .before)) (byte-more 32 _ _ _ _ _ _ _ _ (subst (Sofar 32 _ _ _ _ _ _) (cut-go (c .before .before .before .before .before .args .line .now) (c .before .before .before .cells .state) (c .before .before .before .cells .i) (going c)) (c .before .before .before .cells .inv .0))),
-  omega arith,
-  omega (arith, inside c),
+  ended (c .before) _ (following-next (c .before .before .before .before .before .before .before .before .before .before .before .before .before .args .line .now) (c .before .before .before .before .before .before .before .before .i .given .0 .0) (omega (arith, c .if1 .left, within (c .before .before .before .before .before .before .before .before)))),
+  omega (arith, behind (c .before .before .before .before .before .before .before .before), c .before .before .before .before .before .before .before .before .before .before .before .cells .inv .1),
+  omega (arith, c .if1 .left, within (c .before .before .before .before .before .before .before .before)),
 )
 
 pub cells-of-spec : {M : Type 1} → statement M
@@ -128,21 +96,17 @@ cells-of-spec =
     Inv-cells
     μ-cells
     cells-holds
-    kind-at-requires
-    next-state-requires
+    cell-end-requires
     enum-told
-    add-t10
+    add-t8
     returns
-    enum-told-2
+    enum-known-i
     slice-aggregate-note
     note-requires
     slice-aggregate-note-2
     note-requires-2
     add-n
     returns-2
-    add-i
+    add-from
     cells-less
-    cells-again
-    add-i-2
-    cells-less-2
-    cells-again-2)
+    cells-again)
