@@ -233,39 +233,6 @@ const NO_COLUMN: Rules = Rules {
     required: false,
 };
 
-// The columns of the tables. They are read at fixed places: read at a variable one, a constant table is laid out anew each time.
-const VEHICLE_TYPE: [Rules; 11] = [
-    VERSION_KEY,
-    D8_KEY,
-    D3,
-    D3,
-    D3,
-    C40,
-    C4,
-    D4,
-    D4,
-    D4,
-    ACCESS_EQUIP,
-];
-
-const DEPOT: [Rules; 2] = [VERSION_KEY, D5_KEY];
-
-const STOP: [Rules; 3] = [VERSION_KEY, STOP_KEY, C50_REQUIRED];
-
-const BLOCK: [Rules; 11] = [
-    VERSION_KEY,
-    D9_KEY,
-    D5_KEY,
-    D8_KEY,
-    D2_REQUIRED,
-    D6_REQUIRED,
-    D2_REQUIRED,
-    D6_REQUIRED,
-    D6_REQUIRED,
-    D2_REQUIRED,
-    D6_REQUIRED,
-];
-
 // The references of a block: the column, counted from 1, and the table in which its number stands.
 const BLOCK_REFERENCES: [Reference; 4] = [
     Reference {
@@ -286,21 +253,22 @@ const BLOCK_REFERENCES: [Reference; 4] = [
     },
 ];
 
+// The columns of the tables. No array holds them: read at a variable place, a constant array is laid out anew each time.
 fn type_rules(i: usize) -> Rules
     ensures { λ r. ⌜ r ≡ columnAt Table.VehicleType i .rules ⌝ }
 {
     match i {
-        0 => VEHICLE_TYPE[0],
-        1 => VEHICLE_TYPE[1],
-        2 => VEHICLE_TYPE[2],
-        3 => VEHICLE_TYPE[3],
-        4 => VEHICLE_TYPE[4],
-        5 => VEHICLE_TYPE[5],
-        6 => VEHICLE_TYPE[6],
-        7 => VEHICLE_TYPE[7],
-        8 => VEHICLE_TYPE[8],
-        9 => VEHICLE_TYPE[9],
-        10 => VEHICLE_TYPE[10],
+        0 => VERSION_KEY,
+        1 => D8_KEY,
+        2 => D3,
+        3 => D3,
+        4 => D3,
+        5 => C40,
+        6 => C4,
+        7 => D4,
+        8 => D4,
+        9 => D4,
+        10 => ACCESS_EQUIP,
         _ => NO_COLUMN,
     }
 }
@@ -309,8 +277,8 @@ fn depot_rules(i: usize) -> Rules
     ensures { λ r. ⌜ r ≡ columnAt Table.Depot i .rules ⌝ }
 {
     match i {
-        0 => DEPOT[0],
-        1 => DEPOT[1],
+        0 => VERSION_KEY,
+        1 => D5_KEY,
         _ => NO_COLUMN,
     }
 }
@@ -319,9 +287,9 @@ fn stop_rules(i: usize) -> Rules
     ensures { λ r. ⌜ r ≡ columnAt Table.Stop i .rules ⌝ }
 {
     match i {
-        0 => STOP[0],
-        1 => STOP[1],
-        2 => STOP[2],
+        0 => VERSION_KEY,
+        1 => STOP_KEY,
+        2 => C50_REQUIRED,
         _ => NO_COLUMN,
     }
 }
@@ -330,17 +298,17 @@ fn block_rules(i: usize) -> Rules
     ensures { λ r. ⌜ r ≡ columnAt Table.Block i .rules ⌝ }
 {
     match i {
-        0 => BLOCK[0],
-        1 => BLOCK[1],
-        2 => BLOCK[2],
-        3 => BLOCK[3],
-        4 => BLOCK[4],
-        5 => BLOCK[5],
-        6 => BLOCK[6],
-        7 => BLOCK[7],
-        8 => BLOCK[8],
-        9 => BLOCK[9],
-        10 => BLOCK[10],
+        0 => VERSION_KEY,
+        1 => D9_KEY,
+        2 => D5_KEY,
+        3 => D8_KEY,
+        4 => D2_REQUIRED,
+        5 => D6_REQUIRED,
+        6 => D2_REQUIRED,
+        7 => D6_REQUIRED,
+        8 => D6_REQUIRED,
+        9 => D2_REQUIRED,
+        10 => D6_REQUIRED,
         _ => NO_COLUMN,
     }
 }

@@ -1,25 +1,18 @@
 -- `tables::depot_rules` meets its contract. Each arm is the definition's column of that number; past the last there is none. Assumes nothing.
 use native.Mathlib.Omega.{arith}
-use borrow.Author.Needs.{needs}
 use Rattle.tables.specs.Columns.{columnsOf}
 use Rattle.tables.specs.declared.Table.the-variants.{Depot}
 use Rattle.tables.proofs.Figures.{past-the-last}
 use Rattle.tables.proofs.depot_rules.Statement.{statement}
 use Rattle.tables.proofs.depot_rules.Tie as tie
 
-array-copy-out-result : tie.Need-array-copy-out-result
-array-copy-out-result c = search needs
-
-array-copy-out-result-2 : tie.Need-array-copy-out-result-2
-array-copy-out-result-2 c = search needs
-
 returns : tie.Need-returns
 unfolding columnsOf
-returns c = rw (c .before .match .keys1)
+returns c = rw (c .match .keys1)
 
 returns-2 : tie.Need-returns-2
 unfolding columnsOf
-returns-2 c = rw (c .before .match .keys2)
+returns-2 c = rw (c .match .keys2)
 
 returns-3 : tie.Need-returns-3
 unfolding columnsOf
@@ -29,8 +22,6 @@ pub depot-rules-spec : {M : Type 1} → statement M
 depot-rules-spec =
     tie.close
     (tie.spec
-    array-copy-out-result
-    array-copy-out-result-2
     returns
     returns-2
     returns-3)
