@@ -55,8 +55,8 @@ enum order { RISING, FALLING, SHUFFLED, ORDERS };
 
 static struct {
     size_t rows;
-    row types[TABLE_ROWS], depots[TABLE_ROWS], stops[TABLE_ROWS], blocks[TABLE_ROWS];
-    struct growing texts[ORDERS][4];
+    row types[TABLE_ROWS], depots[TABLE_ROWS], stops[TABLE_ROWS], points[TABLE_ROWS], blocks[TABLE_ROWS];
+    struct growing texts[ORDERS][TABLES]; /* in the order of reading */
     struct growing replacing, renewing; /* slips */
     row book[BOOK_ROWS];
 } work_load;
@@ -103,21 +103,25 @@ static void make_rows(size_t n)
     for (i = 0; i < n; i++) {
         uint64_t version = 1 + i / 64;
         size_t first = i / 64 * 64;
+        const uint64_t *dep_point = work_load.points[first + roll() % (i % 64 + 1)];
+        const uint64_t *arr_point = work_load.points[first + roll() % (i % 64 + 1)];
+        uint64_t *point = work_load.points[i];
         uint64_t *block = work_load.blocks[i];
 
-        work_load.types[i][0] = work_load.depots[i][0] = work_load.stops[i][0] = block[0] = version;
+        work_load.types[i][0] = work_load.depots[i][0] = work_load.stops[i][0] = point[0] = block[0] = version;
         work_load.types[i][1] = i % 64 + 10;
         work_load.depots[i][1] = 10000 + i * 150;
-        work_load.stops[i][1] = 20000 + i * 150;
+        work_load.stops[i][1] = point[1] = 20000 + i * 150;
+        point[2] = 1 + roll() % 9;
         block[1] = 100000000 + i % 64 / 8;
         block[2] = work_load.depots[first + i % 64 / 8 * 8][1];
         block[3] = 10000000 + i * 1000;
         block[4] = work_load.types[first + roll() % (i % 64 + 1)][1];
-        block[5] = work_load.stops[first + roll() % (i % 64 + 1)][1];
-        block[6] = 1 + roll() % 9;
+        block[5] = dep_point[1];
+        block[6] = dep_point[2];
         block[7] = 10000 + roll() % 40000;
-        block[8] = work_load.stops[first + roll() % (i % 64 + 1)][1];
-        block[9] = 1 + roll() % 9;
+        block[8] = arr_point[1];
+        block[9] = arr_point[2];
         block[10] = block[7] + roll() % 40000;
     }
 }
@@ -174,20 +178,22 @@ static void make_texts(enum order way)
     size_t n = work_load.rows;
     size_t t, i;
 
-    for (t = 0; t < 4; t++)
+    for (t = 0; t < TABLES; t++)
         texts[t].length = 0;
     put(&texts[0], "VERSION;VEH_TYPE_NR;VEH_TYPE_SEATS;VEH_TYPE_STRAPS;PLACES_FOR_DISABLED_PERSONS;VEH_TYPE_TEXT;STR_VEH_TYPE;"
                    "VEH_TYPE_DOOR_WIDTH;VEH_TYPE_WIDTH;VEH_TYPE_HEIGHT;VEH_TYPE_ACCESS_EQUIP\n");
     put(&texts[1], "VERSION;DEPOT_NR\n");
     put(&texts[2], "VERSION;STOP_NR;STOP_NAME\n");
-    put(&texts[3], "VERSION;DAY_TYPE_NR;DEPOT_NR;BLOCK_NR;VEH_TYP_NR;DEP_STOP_NR;DEP_STOPPING_POINT_NR;BEGIN_OF_BLOCK;"
+    put(&texts[3], "VERSION;STOP_NR;STOPPING_POINT_NR\n");
+    put(&texts[4], "VERSION;DAY_TYPE_NR;DEPOT_NR;BLOCK_NR;VEH_TYP_NR;DEP_STOP_NR;DEP_STOPPING_POINT_NR;BEGIN_OF_BLOCK;"
                    "ARR_STOP_NR;ARR_STOPPING_POINT_NR;END_OF_BLOCK\n");
     make_order(order, n, way);
     for (i = 0; i < n; i++) {
         print_type(&texts[0], work_load.types[order[i]]);
         print_key(&texts[1], work_load.depots[order[i]], "\n");
         print_key(&texts[2], work_load.stops[order[i]], ";Market place, town hall\n");
-        print_numbers(&texts[3], work_load.blocks[order[i]], NUMBERS, ";");
+        print_numbers(&texts[3], work_load.points[order[i]], 3, ";");
+        print_numbers(&texts[4], work_load.blocks[order[i]], NUMBERS, ";");
     }
 }
 
@@ -221,7 +227,7 @@ static void make_slips(void)
 static void make_load(size_t n)
 {
     uint64_t place[4];
-    struct text texts[4];
+    struct text texts[TABLES];
     size_t t;
     int way;
 
@@ -230,7 +236,7 @@ static void make_load(size_t n)
     for (way = 0; way < ORDERS; way++)
         make_texts((enum order)way);
     make_slips();
-    for (t = 0; t < 4; t++) {
+    for (t = 0; t < TABLES; t++) {
         texts[t].bytes = work_load.texts[RISING][t].bytes;
         texts[t].length = work_load.texts[RISING][t].length;
     }
@@ -263,14 +269,14 @@ static void turn_read(int s, const struct operation *operation)
     const struct growing *t = work_load.texts[operation->order];
 
     held[s].returned = sides[s]->read(t[0].bytes, t[0].length, t[1].bytes, t[1].length, t[2].bytes, t[2].length, t[3].bytes,
-        t[3].length, held[s].book, BOOK_ROWS, held[s].place);
+        t[3].length, t[4].bytes, t[4].length, held[s].book, BOOK_ROWS, held[s].place);
 }
 
 static size_t bytes_read(const struct operation *operation)
 {
     const struct growing *t = work_load.texts[operation->order];
 
-    return t[0].length + t[1].length + t[2].length + t[3].length;
+    return t[0].length + t[1].length + t[2].length + t[3].length + t[4].length;
 }
 
 static void slip(int s, const struct growing *text)

@@ -5,7 +5,13 @@
 
 #include <string.h>
 
-enum { ROWS = 512, BOOK_ROWS = 2048, TEXT_BYTES = 65536, HEADER_CELLS = 32, SLIP = 5 };
+enum { ROWS = 512, BOOK_ROWS = 2560, TEXT_BYTES = 65536, HEADER_CELLS = 32 };
+
+/* The tables' numbers, and the slip's in places. */
+enum { TYPES = 1, DEPOTS = 2, STOPS = 3, BLOCKS = 4, SLIP = 5, POINTS = 6 };
+
+/* Where their rows begin in a book. */
+enum { TYPES_AT = 0, DEPOTS_AT = 512, STOPS_AT = 1024, POINTS_AT = 1536, BLOCKS_AT = 2048 };
 
 typedef uint64_t row[11];
 
@@ -47,6 +53,12 @@ static const struct col stops_cols[] = {
     {NAME("STOP_NAME"), TEXT_OF(50, 1)},
 };
 
+static const struct col points_cols[] = {
+    {NAME("VERSION"), NUMBER(2, 1, 1, 99)},
+    {NAME("STOP_NR"), NUMBER(5, 1, 1, 99999)},
+    {NAME("STOPPING_POINT_NR"), NUMBER(2, 1, 0, 99)},
+};
+
 static const struct col blocks_cols[] = {
     {NAME("VERSION"), NUMBER(2, 1, 1, 99)},
     {NAME("DAY_TYPE_NR"), NUMBER(9, 1, 0, 999999999)},
@@ -61,18 +73,21 @@ static const struct col blocks_cols[] = {
     {NAME("END_OF_BLOCK"), NUMBER(6, 1, 0, 999999)},
 };
 
-/* The fifth column of vehicle_type and of vehicle_block has a second spelling. */
+/* By the table's number; what is no table has no columns. The fifth column of vehicle_type and of vehicle_block has a second
+ * spelling. */
 static const struct tab {
     const struct col *cols;
     unsigned count;
     const char *other;
     size_t other_length;
-} tabs[5] = {
+} tabs[7] = {
     {NULL, 0, NULL, 0},
     {types_cols, 11, NAME("HANDICAP_PLACES")},
     {depots_cols, 2, NULL, 0},
     {stops_cols, 3, NULL, 0},
     {blocks_cols, 11, NAME("VEH_TYPE_NR")},
+    {NULL, 0, NULL, 0},
+    {points_cols, 3, NULL, 0},
 };
 
 static uint64_t refuse(uint64_t place[4], uint64_t number, uint64_t table, uint64_t line, uint64_t column)
@@ -291,7 +306,7 @@ static inline uint64_t take_row(unsigned t, struct reader *r, uint64_t line, con
 
 /* ---- Keys */
 
-/* The keys of a table of types, depots or stops, packed and rising. */
+/* The keys of a table of types, depots, stops or stop points, packed and rising. */
 struct keys {
     uint64_t key[ROWS];
     size_t count;
@@ -300,6 +315,12 @@ struct keys {
 static inline uint64_t pack(uint64_t version, uint64_t number)
 {
     return version << 32 | number;
+}
+
+/* A point is below 100 and a stop below a million, so both have room beside the version. */
+static inline uint64_t pack_point(uint64_t version, uint64_t stop, uint64_t point)
+{
+    return pack(version, stop << 7 | point);
 }
 
 /* The first place whose key is not below this one. */
@@ -327,7 +348,7 @@ static inline int has(const struct keys *keys, uint64_t key)
 }
 
 struct book_keys {
-    struct keys of[4]; /* by table number */
+    struct keys types, depots, stops, points;
 };
 
 /* The column of a block whose reference finds no row, or 0. */
@@ -335,14 +356,18 @@ static inline unsigned lost(const struct book_keys *keys, const uint64_t *block)
 {
     uint64_t version = block[0];
 
-    if (!has(&keys->of[2], pack(version, block[2])))
+    if (!has(&keys->depots, pack(version, block[2])))
         return 3;
-    if (!has(&keys->of[1], pack(version, block[4])))
+    if (!has(&keys->types, pack(version, block[4])))
         return 5;
-    if (!has(&keys->of[3], pack(version, block[5])))
+    if (!has(&keys->stops, pack(version, block[5])))
         return 6;
-    if (!has(&keys->of[3], pack(version, block[8])))
+    if (!has(&keys->points, pack_point(version, block[5], block[6])))
+        return 7;
+    if (!has(&keys->stops, pack(version, block[8])))
         return 9;
+    if (!has(&keys->points, pack_point(version, block[8], block[9])))
+        return 10;
     return 0;
 }
 
@@ -411,7 +436,9 @@ static void lay_out(const struct order *order, const row *rows, row *blocks)
 
 /* ---- Reading */
 
-static uint64_t read_keys(unsigned t, const uint8_t *text, size_t length, struct keys *keys, uint64_t place[4])
+/* A table of keys. Those of stop points are packed in their own way and refer to the stops. */
+static inline uint64_t read_keys(unsigned t, const uint8_t *text, size_t length, struct keys *keys, const struct keys *stops,
+    uint64_t place[4])
 {
     struct reader r = {text, text + length};
     struct header header;
@@ -433,10 +460,12 @@ static uint64_t read_keys(unsigned t, const uint8_t *text, size_t length, struct
         number = take_row(t, &r, line, &header, numbers, place);
         if (number)
             return number;
-        key = pack(numbers[0], numbers[1]);
+        key = t == POINTS ? pack_point(numbers[0], numbers[1], numbers[2]) : pack(numbers[0], numbers[1]);
         at = keys->count > 0 && keys->key[keys->count - 1] < key ? keys->count : place_of(keys, key);
         if (at < keys->count && keys->key[at] == key)
             return refuse(place, 9, t, line, 0);
+        if (t == POINTS && !has(stops, pack(numbers[0], numbers[1])))
+            return refuse(place, 10, t, line, 2);
         memmove(keys->key + at + 1, keys->key + at, (keys->count - at) * sizeof keys->key[0]);
         keys->key[at] = key;
         keys->count++;
@@ -453,8 +482,8 @@ static uint64_t read_blocks(const uint8_t *text, size_t length, const struct boo
 
     order->count = 0;
     if (length > TEXT_BYTES)
-        return refuse(place, 1, 4, 0, 0);
-    number = take_header(4, &r, &header, place);
+        return refuse(place, 1, BLOCKS, 0, 0);
+    number = take_header(BLOCKS, &r, &header, place);
     if (number)
         return number;
     for (line = 2; r.at < r.end; line++) {
@@ -464,18 +493,18 @@ static uint64_t read_blocks(const uint8_t *text, size_t length, const struct boo
         size_t at;
 
         if (line > ROWS + 1)
-            return refuse(place, 5, 4, line, 0);
-        number = take_row(4, &r, line, &header, numbers, place);
+            return refuse(place, 5, BLOCKS, line, 0);
+        number = take_row(BLOCKS, &r, line, &header, numbers, place);
         if (number)
             return number;
         if (numbers[10] < numbers[7])
-            return refuse(place, 11, 4, line, 11);
+            return refuse(place, 11, BLOCKS, line, 11);
         at = place_of_block(order, (const row *)rows, numbers);
         if (stands(order, (const row *)rows, numbers, at))
-            return refuse(place, 9, 4, line, 0);
+            return refuse(place, 9, BLOCKS, line, 0);
         column = lost(keys, numbers);
         if (column)
-            return refuse(place, 10, 4, line, column);
+            return refuse(place, 10, BLOCKS, line, column);
         put_slot(order, at, slot);
     }
     return 0;
@@ -492,9 +521,21 @@ static void lay_out_keys(const struct keys *keys, row *rows)
     }
 }
 
+static void lay_out_points(const struct keys *keys, row *rows)
+{
+    size_t i;
+
+    memset(rows, 0, ROWS * sizeof(row));
+    for (i = 0; i < keys->count; i++) {
+        rows[i][0] = keys->key[i] >> 32;
+        rows[i][1] = (keys->key[i] & 0xFFFFFFFFu) >> 7;
+        rows[i][2] = keys->key[i] & 127;
+    }
+}
+
 uint64_t plain_read(const uint8_t *vehicle_type, size_t vehicle_type_length, const uint8_t *depot, size_t depot_length,
-    const uint8_t *stop, size_t stop_length, const uint8_t *vehicle_block, size_t vehicle_block_length,
-    uint64_t (*book)[11], size_t rows, uint64_t place[4])
+    const uint8_t *stop, size_t stop_length, const uint8_t *stop_point, size_t stop_point_length,
+    const uint8_t *vehicle_block, size_t vehicle_block_length, uint64_t (*book)[11], size_t rows, uint64_t place[4])
 {
     struct book_keys keys;
     struct order order;
@@ -503,21 +544,24 @@ uint64_t plain_read(const uint8_t *vehicle_type, size_t vehicle_type_length, con
 
     if (rows != BOOK_ROWS)
         return refuse(place, 16, 0, 0, 0);
-    number = read_keys(1, vehicle_type, vehicle_type_length, &keys.of[1], place);
+    number = read_keys(TYPES, vehicle_type, vehicle_type_length, &keys.types, NULL, place);
     if (!number)
-        number = read_keys(2, depot, depot_length, &keys.of[2], place);
+        number = read_keys(DEPOTS, depot, depot_length, &keys.depots, NULL, place);
     if (!number)
-        number = read_keys(3, stop, stop_length, &keys.of[3], place);
+        number = read_keys(STOPS, stop, stop_length, &keys.stops, NULL, place);
+    if (!number)
+        number = read_keys(POINTS, stop_point, stop_point_length, &keys.points, &keys.stops, place);
     if (!number)
         number = read_blocks(vehicle_block, vehicle_block_length, &keys, &order, blocks, place);
     if (number) {
         memset(book, 0, BOOK_ROWS * sizeof(row));
         return number;
     }
-    lay_out_keys(&keys.of[1], book);
-    lay_out_keys(&keys.of[2], book + ROWS);
-    lay_out_keys(&keys.of[3], book + 2 * ROWS);
-    lay_out(&order, (const row *)blocks, book + 3 * ROWS);
+    lay_out_keys(&keys.types, book + TYPES_AT);
+    lay_out_keys(&keys.depots, book + DEPOTS_AT);
+    lay_out_keys(&keys.stops, book + STOPS_AT);
+    lay_out_points(&keys.points, book + POINTS_AT);
+    lay_out(&order, (const row *)blocks, book + BLOCKS_AT);
     return refuse(place, 0, 0, 0, 0);
 }
 
@@ -536,20 +580,43 @@ static int all_zero(const row *rows, size_t count)
     return sum == 0;
 }
 
+/* The numbers of a row from the fourth on, all at once. */
+static inline uint64_t rest_of(const row numbers)
+{
+    return numbers[3] | numbers[4] | numbers[5] | numbers[6] | numbers[7] | numbers[8] | numbers[9] | numbers[10];
+}
+
 /* One of the first three tables; its keys, packed, are kept for the references. */
 static int check_keys(const row *rows, const struct col *col, struct keys *keys)
 {
     size_t n;
 
     for (n = 0; n < ROWS && rows[n][0] != 0; n++) {
-        uint64_t rest = rows[n][2] | rows[n][3] | rows[n][4] | rows[n][5] | rows[n][6] | rows[n][7] | rows[n][8] | rows[n][9]
-            | rows[n][10];
+        uint64_t rest = rows[n][2] | rest_of(rows[n]);
         uint64_t key;
 
         if (rows[n][0] > 99 || rows[n][1] < col->least || rows[n][1] > col->most || rest)
             return 0;
         key = pack(rows[n][0], rows[n][1]);
         if (n > 0 && keys->key[n - 1] >= key)
+            return 0;
+        keys->key[n] = key;
+    }
+    keys->count = n;
+    return n == ROWS || all_zero(rows + n, ROWS - n);
+}
+
+static int check_points(const row *rows, const struct keys *stops, struct keys *keys)
+{
+    size_t n;
+
+    for (n = 0; n < ROWS && rows[n][0] != 0; n++) {
+        uint64_t key;
+
+        if (rows[n][0] > 99 || rows[n][1] > points_cols[1].most || rows[n][2] > points_cols[2].most || rest_of(rows[n]))
+            return 0;
+        key = pack_point(rows[n][0], rows[n][1], rows[n][2]);
+        if ((n > 0 && keys->key[n - 1] >= key) || !has(stops, pack(rows[n][0], rows[n][1])))
             return 0;
         keys->key[n] = key;
     }
@@ -577,9 +644,10 @@ static int check_blocks(const row *rows, const struct book_keys *keys, size_t *c
 /* Whether the rows are a book; its keys and how many blocks it has. */
 static int check_book(const row *book, size_t rows, struct book_keys *keys, size_t *blocks)
 {
-    return rows == BOOK_ROWS && check_keys(book, &types_cols[1], &keys->of[1])
-        && check_keys(book + ROWS, &depots_cols[1], &keys->of[2]) && check_keys(book + 2 * ROWS, &stops_cols[1], &keys->of[3])
-        && check_blocks(book + 3 * ROWS, keys, blocks);
+    return rows == BOOK_ROWS && check_keys(book + TYPES_AT, &types_cols[1], &keys->types)
+        && check_keys(book + DEPOTS_AT, &depots_cols[1], &keys->depots)
+        && check_keys(book + STOPS_AT, &stops_cols[1], &keys->stops)
+        && check_points(book + POINTS_AT, &keys->stops, &keys->points) && check_blocks(book + BLOCKS_AT, keys, blocks);
 }
 
 /* ---- Questions */
@@ -596,7 +664,7 @@ uint64_t plain_cell(const uint8_t *text, size_t length, uint64_t table, uint64_t
     int behind;
 
     memset(answer, 0, 4 * sizeof answer[0]);
-    if (table < 1 || table > 4 || column < 1 || column > tabs[t].count)
+    if (table > POINTS || column < 1 || column > tabs[t].count)
         return refuse(place, 15, 0, 0, 0);
     if (length > TEXT_BYTES)
         return refuse(place, 1, t, 0, 0);
@@ -648,9 +716,9 @@ uint64_t plain_type(const uint64_t (*book)[11], size_t rows, uint64_t version, u
     answer[1] = 0;
     if (!check_book(book, rows, &keys, &count))
         return refuse(place, 16, 0, 0, 0);
-    if (version > 99 || number > 99999999 || !has(&keys.of[1], pack(version, number)))
+    if (version > 99 || number > 99999999 || !has(&keys.types, pack(version, number)))
         return refuse(place, 15, 0, 0, 0);
-    for (i = 3 * ROWS; i < 3 * ROWS + count; i++) {
+    for (i = BLOCKS_AT; i < BLOCKS_AT + count; i++) {
         uint64_t of_type = book[i][0] == version && book[i][4] == number;
 
         seconds += of_type * (book[i][10] - book[i][7]);
@@ -671,7 +739,7 @@ uint64_t plain_block(const uint64_t (*book)[11], size_t rows, uint64_t version, 
     memset(answer, 0, 7 * sizeof answer[0]);
     if (!check_book(book, rows, &keys, &count))
         return refuse(place, 16, 0, 0, 0);
-    low = 3 * ROWS;
+    low = BLOCKS_AT;
     high = low + count;
     while (low < high) {
         size_t middle = (low + high) / 2;
@@ -681,7 +749,7 @@ uint64_t plain_block(const uint64_t (*book)[11], size_t rows, uint64_t version, 
         else
             high = middle;
     }
-    if (low == 3 * ROWS + count || !key_equal(book[low], key))
+    if (low == BLOCKS_AT + count || !key_equal(book[low], key))
         return refuse(place, 15, 0, 0, 0);
     memcpy(answer, book[low] + 4, 7 * sizeof answer[0]);
     return refuse(place, 0, 0, 0, 0);
@@ -810,7 +878,7 @@ uint64_t plain_slip(const uint8_t *slip, size_t slip_length, uint64_t (*book)[11
     if (work_rows != ROWS)
         return refuse(place, 16, 0, 0, 0);
     if (check_book((const row *)book, book_rows, &keys, &count)) {
-        memcpy(work, book + 3 * ROWS, count * sizeof(row));
+        memcpy(work, book + BLOCKS_AT, count * sizeof(row));
         for (i = 0; i < count; i++)
             stock.order.slot[i] = (uint16_t)i;
         stock.rows = work;
@@ -818,7 +886,7 @@ uint64_t plain_slip(const uint8_t *slip, size_t slip_length, uint64_t (*book)[11
         stock.free_count = 0;
         number = slip_lines(slip, slip_length, &keys, &stock, place);
         if (number == 0)
-            lay_out(&stock.order, (const row *)work, book + 3 * ROWS);
+            lay_out(&stock.order, (const row *)work, book + BLOCKS_AT);
     } else {
         refuse(place, 16, 0, 0, 0);
     }
@@ -870,7 +938,7 @@ static inline uint8_t *write_number(uint8_t *out, uint32_t number)
 uint64_t plain_write(const uint64_t (*book)[11], size_t rows, uint8_t *out, size_t out_length, uint64_t length[1],
     uint64_t place[4])
 {
-    const row *blocks = book + 3 * ROWS;
+    const row *blocks = book + BLOCKS_AT;
     struct book_keys keys;
     uint8_t *at = out;
     size_t count, i, c;

@@ -1,17 +1,19 @@
 /* workshop.h: the workshop's functions for C.
  *
- * A table text is the bytes of one DINO 2.1 table: 1 vehicle_type, 2 depot, 3 stop, 4 vehicle_block. A slip is the bytes
- * of one correction slip. Both are handed in as a pointer and the number of bytes; neither needs a byte 0 behind it.
+ * A table text is the bytes of one DINO 2.1 table: 1 vehicle_type, 2 depot, 3 stop, 4 vehicle_block, 6 stop_point, read in
+ * the order 1, 2, 3, 6, 4. A slip is the bytes of one correction slip. Both are handed in as a pointer and the number of
+ * bytes; neither needs a byte 0 behind it.
  *
  * THE BOOK is an array of WORKSHOP_BOOK_ROWS rows of WORKSHOP_NUMBERS numbers that the caller owns:
  *
  *     uint64_t book[WORKSHOP_BOOK_ROWS][WORKSHOP_NUMBERS];
  *
- * Rows 512 * t to 512 * t + 511 belong to one table: t is 0 for vehicle types, 1 for depots, 2 for stops, 3 for blocks.
- * The used rows stand first, by rising key; the others are all zero, and as no VERSION is 0, the first row of a table
- * that begins with 0 ends it. A vehicle type, depot or stop keeps its key (VERSION, number) and nine zeros. A block keeps
- * its 11 numbers in the order of the vehicle_block columns: VERSION, DAY_TYPE_NR, DEPOT_NR, BLOCK_NR (the key),
- * VEH_TYP_NR, DEP_STOP_NR, DEP_STOPPING_POINT_NR, BEGIN_OF_BLOCK, ARR_STOP_NR, ARR_STOPPING_POINT_NR, END_OF_BLOCK.
+ * Rows 512 * t to 512 * t + 511 belong to one table, in the order of reading: t is 0 for vehicle types, 1 for depots, 2 for
+ * stops, 3 for stop points, 4 for blocks. The used rows stand first, by rising key; the others are all zero, and as no
+ * VERSION is 0, the first row of a table that begins with 0 ends it. A vehicle type, depot or stop keeps its key (VERSION,
+ * number) and nine zeros, a stop point its key (VERSION, STOP_NR, STOPPING_POINT_NR) and eight zeros. A block keeps its 11
+ * numbers in the order of the vehicle_block columns: VERSION, DAY_TYPE_NR, DEPOT_NR, BLOCK_NR (the key), VEH_TYP_NR,
+ * DEP_STOP_NR, DEP_STOPPING_POINT_NR, BEGIN_OF_BLOCK, ARR_STOP_NR, ARR_STOPPING_POINT_NR, END_OF_BLOCK.
  * A book that workshop_read filled may be kept, copied and handed in again later. One that no accepted delivery can leave
  * (a wrong order, a number out of range, a missing reference, an END below its BEGIN, something in the unused room) is
  * refused with 16 by every function that looks at a book.
@@ -22,7 +24,7 @@
  * EVERY FUNCTION returns the number of refusal, 0 for accepted, and fills place:
  *
  *     place[0] the number of refusal, the same as returned
- *     place[1] the table: 1 to 4, or 5 for a slip; 0 for the numbers 0, 14, 15 and 16
+ *     place[1] the table: 1 to 4 or 6, or 5 for a slip; 0 for the numbers 0, 14, 15 and 16
  *     place[2] the line, counted from 1 (line 1 of a table is its header), or 0
  *     place[3] the column by its number, for 6 the cell counted from 1 on its line, or 0
  *
@@ -54,20 +56,22 @@
 #include <stdint.h>
 
 #define WORKSHOP_NUMBERS 11   /* numbers in a row */
-#define WORKSHOP_BOOK_ROWS 2048 /* rows in a book */
+#define WORKSHOP_BOOK_ROWS 2560 /* rows in a book */
 #define WORKSHOP_WORK_ROWS 512  /* rows in a working area */
 
 #ifdef __cplusplus
 extern "C" {
 #endif
 
-/* Reads a delivery, the four table texts, into the book. What the book held before does not matter.
+/* Reads a delivery, the five table texts, into the book. What the book held before does not matter. The texts stand in the
+ * order in which they are read: a text that a later release adds comes in its table's place, as stop_point did between
+ * stop and vehicle_block, so a caller that was compiled against an earlier header must be compiled again.
  *
  * Accepted: the book holds the delivery. Refused: the book is the empty one, all zero; only where `rows` is not
  * WORKSHOP_BOOK_ROWS (16) it stays as it was. Can refuse with 16, then 1 to 11. */
 uint64_t workshop_read(const uint8_t *vehicle_type, size_t vehicle_type_length, const uint8_t *depot, size_t depot_length,
-    const uint8_t *stop, size_t stop_length, const uint8_t *vehicle_block, size_t vehicle_block_length,
-    uint64_t (*book)[11], size_t rows, uint64_t place[4]);
+    const uint8_t *stop, size_t stop_length, const uint8_t *stop_point, size_t stop_point_length,
+    const uint8_t *vehicle_block, size_t vehicle_block_length, uint64_t (*book)[11], size_t rows, uint64_t place[4]);
 
 /* Carries out a correction slip on the book: lines A (add), R (replace) and D (delete), whole or not at all.
  *
@@ -77,7 +81,7 @@ uint64_t workshop_read(const uint8_t *vehicle_type, size_t vehicle_type_length, 
 uint64_t workshop_slip(const uint8_t *slip, size_t slip_length, uint64_t (*book)[11], size_t book_rows,
     uint64_t (*work)[11], size_t work_rows, uint64_t place[4]);
 
-/* Looks up one cell of one table text: `table` 1 to 4, `line` from 2 on, `column` by its number (not by its place on the
+/* Looks up one cell of one table text: `table` 1 to 4 or 6, `line` from 2 on, `column` by its number (not by its place on the
  * line). Only the header and that line are judged, so a text that workshop_read refuses may still have answers.
  *
  *     answer[0] 0 nothing (the cell is empty, or its optional column is missing), 1 a number, 2 a text

@@ -195,8 +195,8 @@ static void damage_bytes(struct growing *text)
 /* ---- A delivery in numbers */
 
 static struct {
-    size_t count[TABLES + 1];
-    row rows[TABLES + 1][MOST_ROWS];
+    size_t count[LAST_TABLE + 1];
+    row rows[LAST_TABLE + 1][MOST_ROWS];
 } delivery;
 
 static int same_key(const uint64_t *one, const uint64_t *other, unsigned width)
@@ -270,10 +270,30 @@ static const uint64_t *any_row_of(const row *rows, size_t n, uint64_t version, u
     return NULL;
 }
 
-/* Three tables that a block can refer to. */
+/* Rows of stop points: a stop of the delivery and a number at it, no key twice. */
+static void make_points(size_t n)
+{
+    row *points = delivery.rows[STOP_POINT];
+    size_t count = 0;
+    size_t tries;
+
+    for (tries = 0; delivery.count[STOP] > 0 && count < n && tries < 20 * n; tries++) {
+        const uint64_t *stop = delivery.rows[STOP][below(delivery.count[STOP])];
+
+        memset(points[count], 0, sizeof(row));
+        points[count][0] = stop[0];
+        points[count][1] = stop[1];
+        points[count][2] = any_number(&tables[STOP_POINT].columns[2], n < 60 ? 6 : 99);
+        if (find_key((const row *)points, count, points[count], 3) == count)
+            count++;
+    }
+    delivery.count[STOP_POINT] = count;
+}
+
+/* The tables that a block can refer to, by number. */
 struct others {
-    const row *rows[4];
-    size_t count[4];
+    const row *rows[LAST_TABLE + 1];
+    size_t count[LAST_TABLE + 1];
 };
 
 static void any_times(uint64_t *block)
@@ -286,29 +306,29 @@ static void any_times(uint64_t *block)
         block[B_END] = block[B_BEGIN];
 }
 
-/* A block whose references are there. It fails where no version has all three. */
+/* A block whose references are there. It fails where the depot's version lacks one. */
 static int any_block(const struct others *others, uint64_t *block)
 {
     const struct column *columns = tables[VEHICLE_BLOCK].columns;
-    const uint64_t *depot, *type, *dep_stop, *arr_stop;
+    const uint64_t *depot, *type, *dep_point, *arr_point;
 
     if (others->count[DEPOT] == 0)
         return 0;
     depot = others->rows[DEPOT][below(others->count[DEPOT])];
     type = any_row_of(others->rows[VEHICLE_TYPE], others->count[VEHICLE_TYPE], depot[0], 99);
-    dep_stop = any_row_of(others->rows[STOP], others->count[STOP], depot[0], 99999);
-    arr_stop = any_row_of(others->rows[STOP], others->count[STOP], depot[0], 99999);
-    if (!type || !dep_stop || !arr_stop)
+    dep_point = any_row_of(others->rows[STOP_POINT], others->count[STOP_POINT], depot[0], 99999);
+    arr_point = any_row_of(others->rows[STOP_POINT], others->count[STOP_POINT], depot[0], 99999);
+    if (!type || !dep_point || !arr_point)
         return 0;
     block[B_VERSION] = depot[0];
     block[B_DAY_TYPE] = any_number(&columns[B_DAY_TYPE], 6);
     block[B_DEPOT] = depot[1];
     block[B_BLOCK] = any_number(&columns[B_BLOCK], 200);
     block[B_TYPE] = type[1];
-    block[B_DEP_STOP] = dep_stop[1];
-    block[B_DEP_POINT] = roll() % 100;
-    block[B_ARR_STOP] = arr_stop[1];
-    block[B_ARR_POINT] = roll() % 100;
+    block[B_DEP_STOP] = dep_point[1];
+    block[B_DEP_POINT] = dep_point[2];
+    block[B_ARR_STOP] = arr_point[1];
+    block[B_ARR_POINT] = arr_point[2];
     any_times(block);
     return 1;
 }
@@ -318,7 +338,7 @@ static struct others others_of_delivery(void)
     struct others others;
     unsigned t;
 
-    for (t = 0; t < TABLES; t++) {
+    for (t = 1; t <= LAST_TABLE; t++) {
         others.rows[t] = (const row *)delivery.rows[t];
         others.count[t] = delivery.count[t];
     }
@@ -345,11 +365,12 @@ static size_t any_size(void)
     return dial < 4 ? 0 : dial < 25 ? between(1, 3) : dial < 90 ? between(4, 14) : between(15, 60);
 }
 
-static void make_delivery(size_t types, size_t depots, size_t stops, size_t blocks)
+static void make_delivery(size_t types, size_t depots, size_t stops, size_t points, size_t blocks)
 {
     make_keys(VEHICLE_TYPE, types);
     make_keys(DEPOT, depots);
     make_keys(STOP, stops);
+    make_points(points);
     make_blocks(blocks);
 }
 
@@ -358,13 +379,14 @@ static void make_any_delivery(void)
     size_t types = any_size();
     size_t depots = any_size();
     size_t stops = any_size();
+    size_t points = any_size();
 
-    make_delivery(types, depots, stops, any_size());
+    make_delivery(types, depots, stops, points, any_size());
 }
 
 static void make_full_delivery(void)
 {
-    make_delivery(512, 512, 512, 512);
+    make_delivery(512, 512, 512, 512, 512);
 }
 
 /* ---- Rows in key order */
@@ -560,7 +582,9 @@ static struct raw raw_foreign_name(void)
     if (sheet.table == DEPOT)
         return raw_words(chance(50) ? "HANDICAP_PLACES" : "STOP_NAME");
     if (sheet.table == VEHICLE_BLOCK)
-        return raw_words(chance(50) ? "STOP_NR" : "VEH_TYPE_SEATS");
+        return raw_words(chance(50) ? "STOPPING_POINT_NR" : "VEH_TYPE_SEATS");
+    if (sheet.table == STOP_POINT)
+        return raw_words(chance(50) ? "STOP_NAME" : "DEP_STOPPING_POINT_NR");
     return raw_words(chance(50) ? "VEH_TYP_NR" : "DEPOT_NR");
 }
 
@@ -898,8 +922,10 @@ static void fault_key(size_t line)
 /* 10: a number that is mostly nowhere. */
 static void lose_reference(size_t line)
 {
-    static const unsigned referring[] = {3, 5, 6, 9, 6, 9, 1};
-    unsigned c = referring[below(sizeof referring / sizeof referring[0])];
+    static const unsigned of_block[] = {3, 5, 6, 7, 9, 10, 6, 7, 9, 10, 1};
+    static const unsigned of_point[] = {2, 2, 2, 1};
+    unsigned c = sheet.table == STOP_POINT ? of_point[below(sizeof of_point / sizeof of_point[0])]
+                                           : of_block[below(sizeof of_block / sizeof of_block[0])];
     const struct column *column = &tables[sheet.table].columns[c - 1];
 
     set_number(line, c, chance(60) ? any_number(column, 40) : column->most);
@@ -927,10 +953,11 @@ enum fault { F_HEADER_QUOTES, F_MANY_CELLS, F_TWICE, F_MISSING, F_QUOTES, F_COUN
 static void make_fault(enum fault fault, size_t line)
 {
     int blocks = sheet.table == VEHICLE_BLOCK;
+    int refers = blocks || sheet.table == STOP_POINT;
 
     if (line == 0 && fault > F_MISSING)
         fault = (enum fault)below(F_MISSING + 1);
-    if (!blocks && (fault == F_REFERENCE || fault == F_TIMES))
+    if ((!refers && fault == F_REFERENCE) || (!blocks && fault == F_TIMES))
         fault = chance(50) ? F_KEY : F_VALUE;
     switch (fault) {
     case F_HEADER_QUOTES: fault_quotes(0); break;
@@ -957,7 +984,7 @@ static enum fault any_row_fault(void)
 /* The table of a case that gets most of its faults. */
 static unsigned any_table(void)
 {
-    return chance(35) ? VEHICLE_BLOCK : (unsigned)between(1, TABLES);
+    return chance(35) ? VEHICLE_BLOCK : reading_order[below(TABLES)];
 }
 
 /* Some faults in one sheet. Where there are two, the second is often on the first one's line, or a header fault beside a
@@ -981,8 +1008,8 @@ static void make_faults(size_t count)
 
 /* ---- Printing a sheet */
 
-static uint8_t text_bytes[TABLES + 1][MOST_BYTES];
-static struct growing table_text[TABLES + 1];
+static uint8_t text_bytes[LAST_TABLE + 1][MOST_BYTES];
+static struct growing table_text[LAST_TABLE + 1];
 
 static void print_line(struct growing *text, size_t line)
 {
@@ -1041,16 +1068,16 @@ static void pad_sheet(size_t wanted)
 /* ---- Books */
 
 static row made_book[BOOK_ROWS];
-static uint8_t other_bytes[TABLES][20000];
+static uint8_t other_bytes[LAST_TABLE + 1][20000];
 
 static row *rows_of(row *book, unsigned t)
 {
-    return book + (size_t)TABLE_ROWS * (t - 1);
+    return book + (size_t)TABLE_ROWS * part_of(t);
 }
 
 static const row *rows_of_in(const row *book, unsigned t)
 {
-    return book + (size_t)TABLE_ROWS * (t - 1);
+    return book + (size_t)TABLE_ROWS * part_of(t);
 }
 
 static size_t used(const row *rows)
@@ -1065,10 +1092,11 @@ static size_t used(const row *rows)
 /* The book of the delivery, made of its numbers and not by reading. */
 static void make_book(void)
 {
-    unsigned t;
+    size_t i;
 
     memset(made_book, 0, sizeof made_book);
-    for (t = 1; t <= TABLES; t++) {
+    for (i = 0; i < TABLES; i++) {
+        unsigned t = reading_order[i];
         row *rows = rows_of(made_book, t);
 
         memcpy(rows, delivery.rows[t], delivery.count[t] * sizeof rows[0]);
@@ -1082,13 +1110,19 @@ static struct text plain_text(const row *book, unsigned t)
     struct growing text = {other_bytes[t], 0, sizeof other_bytes[t]};
     const row *rows = rows_of_in(book, t);
     size_t n = used(rows);
-    size_t i;
+    size_t i, c;
 
-    put(&text, t == VEHICLE_TYPE ? "VERSION;VEH_TYPE_NR\n" : t == DEPOT ? "VERSION;DEPOT_NR\n" : "VERSION;STOP_NR;STOP_NAME\n");
+    for (c = 0; c < tables[t].column_count; c++)
+        if (tables[t].columns[c].required) {
+            put(&text, c > 0 ? ";" : "");
+            put(&text, tables[t].columns[c].name);
+        }
+    put_byte(&text, '\n');
     for (i = 0; i < n; i++) {
-        put_number(&text, rows[i][0], 1);
-        put_byte(&text, ';');
-        put_number(&text, rows[i][1], 1);
+        for (c = 0; c < tables[t].key_width; c++) {
+            put(&text, c > 0 ? ";" : "");
+            put_number(&text, rows[i][c], 1);
+        }
         put(&text, t == STOP ? ";a\n" : "\n");
     }
     return text_of(&text);
@@ -1096,11 +1130,11 @@ static struct text plain_text(const row *book, unsigned t)
 
 static void put_made_book(const struct cases_host *host)
 {
-    struct text others[3];
-    unsigned t;
+    struct text others[TABLES - 1];
+    size_t i;
 
-    for (t = 1; t <= 3; t++)
-        others[t - 1] = plain_text((const row *)made_book, t);
+    for (i = 0; i < TABLES - 1; i++)
+        others[i] = plain_text((const row *)made_book, reading_order[i]);
     host->put_book(host->self, (const row *)made_book, others);
 }
 
@@ -1204,7 +1238,7 @@ static void ask_cell(const struct cases_host *host, const struct growing *text, 
     uint64_t column = between(1, tables[t].column_count);
 
     if (chance(4))
-        table = chance(50) ? below(7) : strange_number();
+        table = chance(50) ? below(8) : strange_number();
     if (chance(6))
         line = chance(70) ? below(4) : strange_number();
     if (chance(4))
@@ -1254,11 +1288,13 @@ static struct {
 static void look_at_book(const row *book)
 {
     const row *blocks = rows_of_in(book, VEHICLE_BLOCK);
-    unsigned t;
+    size_t i;
 
     slip_sees.count = used(blocks);
     memcpy(slip_sees.blocks, blocks, slip_sees.count * sizeof blocks[0]);
-    for (t = 1; t <= 3; t++) {
+    for (i = 0; i < TABLES - 1; i++) {
+        unsigned t = reading_order[i];
+
         slip_sees.others.rows[t] = rows_of_in(book, t);
         slip_sees.others.count[t] = used(slip_sees.others.rows[t]);
     }
@@ -1321,12 +1357,15 @@ static int fresh_block(uint64_t *block)
 static void other_numbers(uint64_t *block)
 {
     const uint64_t *type = any_row_of(slip_sees.others.rows[VEHICLE_TYPE], slip_sees.others.count[VEHICLE_TYPE], block[0], 99);
-    const uint64_t *stop = any_row_of(slip_sees.others.rows[STOP], slip_sees.others.count[STOP], block[0], 99999);
+    const uint64_t *point = any_row_of(slip_sees.others.rows[STOP_POINT], slip_sees.others.count[STOP_POINT], block[0],
+        99999);
 
     if (type)
         block[B_TYPE] = type[1];
-    if (stop)
-        block[B_ARR_STOP] = stop[1];
+    if (point) {
+        block[B_ARR_STOP] = point[1];
+        block[B_ARR_POINT] = point[2];
+    }
     any_times(block);
 }
 
@@ -1420,7 +1459,7 @@ static void any_numbers(struct slip_line *line)
 
 static void bad_reference(struct slip_line *line)
 {
-    static const size_t referring[] = {B_DEPOT, B_TYPE, B_TYPE, B_DEP_STOP, B_ARR_STOP, B_VERSION};
+    static const size_t referring[] = {B_DEPOT, B_TYPE, B_TYPE, B_DEP_STOP, B_DEP_POINT, B_ARR_STOP, B_ARR_POINT, B_VERSION};
     size_t at = referring[below(sizeof referring / sizeof referring[0])];
 
     line->numbers[at] = any_number(&tables[VEHICLE_BLOCK].columns[at], 40);
@@ -1547,11 +1586,11 @@ static struct growing make_long_slip(const row *book)
 
 static void read_texts(const struct cases_host *host, size_t book_rows)
 {
-    struct text texts[4];
-    unsigned t;
+    struct text texts[TABLES];
+    size_t i;
 
-    for (t = 1; t <= TABLES; t++)
-        texts[t - 1] = text_of(&table_text[t]);
+    for (i = 0; i < TABLES; i++)
+        texts[i] = text_of(&table_text[reading_order[i]]);
     host->read(host->self, texts, book_rows);
 }
 
@@ -1560,10 +1599,12 @@ static void story_of_a_delivery(const struct cases_host *host)
 {
     size_t faults = chance(35) ? 0 : chance(55) ? 1 : 2;
     unsigned first = any_table();
-    unsigned t;
+    size_t i;
 
     make_any_delivery();
-    for (t = 1; t <= TABLES; t++) {
+    for (i = 0; i < TABLES; i++) {
+        unsigned t = reading_order[i];
+
         order_rows(t);
         make_sheet(t);
         if (t == first && faults > 0)
@@ -1575,8 +1616,8 @@ static void story_of_a_delivery(const struct cases_host *host)
             damage_bytes(&table_text[t]);
     }
     read_texts(host, BOOK_ROWS);
-    for (t = 1; t <= TABLES; t++)
-        ask_cells(host, t, t == first ? 6 : 1);
+    for (i = 0; i < TABLES; i++)
+        ask_cells(host, reading_order[i], reading_order[i] == first ? 6 : 1);
     /* a refused reading leaves the empty book, which has little to ask */
     if (used(rows_of_in(host->book(host->self), DEPOT)) > 0 || chance(15)) {
         ask_all(host);
@@ -1589,14 +1630,17 @@ static void story_of_a_place(const struct cases_host *host, uint64_t turn)
 {
     static const enum fault faults[] = {F_TWICE, F_MISSING, F_VALUE};
     enum fault fault = faults[turn % 3];
-    unsigned meant = VEHICLE_TYPE;
-    uint64_t place = turn / 3 % (11 + 2 + 3 + 11);
-    unsigned t;
+    uint64_t place = turn / 3 % (11 + 2 + 3 + 3 + 11);
+    unsigned meant;
+    size_t i;
 
-    for (; place >= tables[meant].column_count; meant++)
-        place -= tables[meant].column_count;
-    make_delivery(8, 8, 8, 8);
-    for (t = 1; t <= TABLES; t++) {
+    for (i = 0; place >= tables[reading_order[i]].column_count; i++)
+        place -= tables[reading_order[i]].column_count;
+    meant = reading_order[i];
+    make_delivery(8, 8, 8, 8, 8);
+    for (i = 0; i < TABLES; i++) {
+        unsigned t = reading_order[i];
+
         make_sheet(t);
         if (t == meant) {
             unsigned c = (unsigned)place + 1;
@@ -1617,10 +1661,12 @@ static void story_of_a_place(const struct cases_host *host, uint64_t turn)
 static void story_of_bytes(const struct cases_host *host)
 {
     unsigned first = any_table();
-    unsigned t;
+    size_t i;
 
     make_any_delivery();
-    for (t = 1; t <= TABLES; t++) {
+    for (i = 0; i < TABLES; i++) {
+        unsigned t = reading_order[i];
+
         make_sheet(t);
         print_sheet();
         if (t == first || chance(10))
@@ -1648,11 +1694,13 @@ static void print_scribble(unsigned t)
 
 static void story_of_scribbles(const struct cases_host *host)
 {
-    unsigned first = (unsigned)between(1, 3);
-    unsigned t;
+    unsigned first = reading_order[below(TABLES - 1)];
+    size_t i;
 
-    make_delivery(2, 2, 2, 0);
-    for (t = 1; t <= TABLES; t++) {
+    make_delivery(2, 2, 2, 2, 0);
+    for (i = 0; i < TABLES; i++) {
+        unsigned t = reading_order[i];
+
         if (t == first) {
             print_scribble(t);
         } else {
@@ -1680,18 +1728,23 @@ static void story_of_slips(const struct cases_host *host)
 /* Tables at their size: 512 rows and more, texts at 65,536 bytes and over. */
 static void story_of_sizes(const struct cases_host *host)
 {
-    unsigned big = (unsigned)between(1, TABLES);
+    unsigned big = reading_order[below(TABLES)];
     size_t rows = chance(30) ? 512 : chance(60) ? 513 : between(500, MOST_ROWS);
-    unsigned t;
+    size_t i;
 
     make_any_delivery();
-    if (big < VEHICLE_BLOCK) {
-        make_keys(big, rows);
-        make_blocks(delivery.count[VEHICLE_BLOCK]);
+    if (big == VEHICLE_BLOCK) {
+        make_delivery(30, 30, 30, 30, rows);
+    } else if (big == STOP_POINT) {
+        make_delivery(30, 30, 30, rows, 30);
     } else {
-        make_delivery(30, 30, 30, rows);
+        make_keys(big, rows);
+        make_points(delivery.count[STOP_POINT]);
+        make_blocks(delivery.count[VEHICLE_BLOCK]);
     }
-    for (t = 1; t <= TABLES; t++) {
+    for (i = 0; i < TABLES; i++) {
+        unsigned t = reading_order[i];
+
         order_rows(t);
         make_sheet(t);
         if (t == big && chance(40))
@@ -1708,10 +1761,12 @@ static void story_of_long_texts(const struct cases_host *host)
 {
     static const size_t lengths[] = {65535, 65536, 65536, 65537, 65537, 65538, 66000, 100000};
     unsigned first = any_table();
-    unsigned t;
+    size_t i;
 
     make_any_delivery();
-    for (t = 1; t <= TABLES; t++) {
+    for (i = 0; i < TABLES; i++) {
+        unsigned t = reading_order[i];
+
         make_sheet(t);
         if (t == first || chance(10)) {
             if (chance(20))
@@ -1767,33 +1822,40 @@ static void remove_row(unsigned t)
 /* One break of the book rule, or now and then a change that keeps it. */
 static void break_book(void)
 {
-    unsigned t = chance(40) ? VEHICLE_BLOCK : (unsigned)between(1, TABLES);
+    static const size_t referring[] = {B_TYPE, B_TYPE, B_DEP_STOP, B_DEP_POINT, B_ARR_STOP, B_ARR_POINT};
+    unsigned t = any_table();
+    unsigned keyed = reading_order[below(TABLES - 1)];
     row *rows = rows_of(made_book, t);
+    row *keys = rows_of(made_book, keyed);
+    row *points = rows_of(made_book, STOP_POINT);
     row *blocks = rows_of(made_book, VEHICLE_BLOCK);
     size_t n = used((const row *)rows);
     size_t one = any_used(t);
     size_t other = any_used(t);
+    size_t point = any_used(STOP_POINT);
     size_t block = any_used(VEHICLE_BLOCK);
     size_t column = below(NUMBERS);
+    size_t key_width = tables[keyed].key_width;
     size_t unused = n < TABLE_ROWS ? between(n, TABLE_ROWS - 1) : n - 1;
-    row *keys = rows_of(made_book, (unsigned)between(1, 3));
     uint64_t bit = (uint64_t)1 << below(64);
-    size_t referring = chance(50) ? B_TYPE : chance(50) ? B_DEP_STOP : B_ARR_STOP;
+    size_t reference = referring[below(sizeof referring / sizeof referring[0])];
 
-    switch (below(14)) {
+    switch (below(16)) {
     case 0: swap_rows(rows, one, other); break;
     case 1: memcpy(rows[one], rows[other], sizeof rows[0]); break;
     case 2: memset(rows[one], 0, sizeof rows[0]); break;
     case 3: rows[unused][column] = chance(50) ? 1 : edge_number(column); break;
-    case 4: keys[other % 3][column < 2 ? 2 : column] = edge_number(0); break;
+    case 4: keys[other % 3][column < key_width ? key_width : column] = edge_number(0); break;
     case 5: rows[one][column] = edge_number(column); break;
-    case 6: remove_row((unsigned)between(1, 3)); break;
-    case 7: blocks[block][referring] = below(60); break;
+    case 6: remove_row(keyed); break;
+    case 7: blocks[block][reference] = below(60); break;
     case 8: blocks[block][B_END] = blocks[block][B_BEGIN] - below(2); break;
     case 9: blocks[block][column] = chance(50) ? below(10) : edge_number(column); break;
     case 10: rows[one][0] = chance(50) ? 0 : 100; break;
     case 11: swap_rows(rows, 0, n < TABLE_ROWS ? n : 0); break; /* the first row moves behind the last: a hole in front */
     case 12: rows[one][1] = rows[other][1]; break;
+    case 13: points[point][1] = chance(80) ? below(60) : edge_number(B_DEP_STOP); break;
+    case 14: points[point][2] = chance(60) ? below(10) : edge_number(B_DEP_POINT); break;
     default: if (chance(50)) rows[one][column] ^= bit; else rows[unused][column] ^= bit; break;
     }
 }
@@ -1830,7 +1892,7 @@ static void story_of_broken_books(const struct cases_host *host)
 
 static size_t other_length(size_t right)
 {
-    const size_t lengths[] = {0, 1, right - 1, right + 1, right / 2, right * 2, 511, 513, 2047, 2049, 600};
+    const size_t lengths[] = {0, 1, right - 1, right + 1, right / 2, right * 2, 511, 513, 2047, 2048, 2049, 600};
     size_t length;
 
     do
@@ -1844,7 +1906,7 @@ static void story_of_lengths(const struct cases_host *host)
     struct growing slip;
     size_t book_rows = BOOK_ROWS;
     size_t work_rows = WORK_ROWS;
-    unsigned t;
+    size_t i;
 
     make_any_delivery();
     make_book();
@@ -1862,7 +1924,9 @@ static void story_of_lengths(const struct cases_host *host)
     if (book_rows == BOOK_ROWS || chance(40))
         work_rows = other_length(WORK_ROWS);
     host->slip(host->self, text_of(&slip), book_rows, work_rows);
-    for (t = 1; t <= TABLES; t++) {
+    for (i = 0; i < TABLES; i++) {
+        unsigned t = reading_order[i];
+
         make_sheet(t);
         if (chance(10))
             make_faults(1);

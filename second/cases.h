@@ -10,10 +10,10 @@
  * `book_rows` or `work_rows` is another number than the fixed one, that is the length to lend. */
 struct cases_host {
     void *self;
-    /* reads a delivery; the book's earlier content is the host's to choose */
-    void (*read)(void *self, const struct text texts[4], size_t book_rows);
-    /* takes a book for the standing one, and the texts of the vehicle types, depots and stops that are in it */
-    void (*put_book)(void *self, const row *book, const struct text others[3]);
+    /* reads a delivery, its texts in the order of reading; the book's earlier content is the host's to choose */
+    void (*read)(void *self, const struct text texts[TABLES], size_t book_rows);
+    /* takes a book for the standing one, and the texts of all that is in it but the blocks */
+    void (*put_book)(void *self, const row *book, const struct text others[TABLES - 1]);
     void (*slip)(void *self, struct text slip, size_t book_rows, size_t work_rows);
     void (*cell)(void *self, struct text text, uint64_t table, uint64_t line, uint64_t column);
     void (*type)(void *self, size_t book_rows, uint64_t version, uint64_t number);

@@ -29,6 +29,14 @@ static const struct column stop_columns[] = {
     {"STOP_NAME", NULL, 'c', 50, 1, 0, 0},
 };
 
+/* Request 1/13: "columns 1 VERSION, 2 STOP_NR (both as in stop), 3 STOPPING_POINT_NR (d2), all K r, named as in chapter
+ * 5.3.3 of document 003". Document 01: "columns not named are unknown". */
+static const struct column stop_point_columns[] = {
+    {"VERSION", NULL, 'd', 2, 1, 1, 99},
+    {"STOP_NR", NULL, 'd', 5, 1, 1, 99999},
+    {"STOPPING_POINT_NR", NULL, 'd', 2, 1, 0, 99},
+};
+
 /* "vehicle_block, all r: VERSION d2 K; DAY_TYPE_NR d9 K; DEPOT_NR d5 K; BLOCK_NR d8 K; VEH_TYP_NR d2; .. END_OF_BLOCK d6." */
 static const struct column vehicle_block_columns[] = {
     {"VERSION", NULL, 'd', 2, 1, 1, 99},
@@ -44,11 +52,25 @@ static const struct column vehicle_block_columns[] = {
     {"END_OF_BLOCK", NULL, 'd', 6, 1, 0, 999999},
 };
 
-/* "Each table has its own number, column count and key width." */
-const struct table tables[TABLES + 1] = {
+/* "Each table has its own number, column count and key width." Request 1/13: "the new table takes number 6". */
+const struct table tables[LAST_TABLE + 1] = {
     {NULL, 0, 0}, /* no table has the number 0 */
     {vehicle_type_columns, 11, 2},
     {depot_columns, 2, 2},
     {stop_columns, 3, 2},
     {vehicle_block_columns, 11, 4},
+    {NULL, 0, 0}, /* 5 is the slip */
+    {stop_point_columns, 3, 3},
 };
+
+/* Request 1/13: "between stop and vehicle_block", "vehicle_block is read fifth". */
+const unsigned reading_order[TABLES] = {VEHICLE_TYPE, DEPOT, STOP, STOP_POINT, VEHICLE_BLOCK};
+
+unsigned part_of(unsigned t)
+{
+    unsigned part = 0;
+
+    while (reading_order[part] != t)
+        part++;
+    return part;
+}

@@ -1,12 +1,16 @@
-/* The columns of document 01's four tables, for the second reader, the generator of cases and the plain reader. */
+/* The columns of document 01's four tables and of request 1's further one, for the second reader, the generator of cases
+ * and the host. */
 #ifndef SECOND_COLUMNS_H
 #define SECOND_COLUMNS_H
 
 #include <stddef.h>
 #include <stdint.h>
 
-/* The tables by their numbers. */
-enum { VEHICLE_TYPE = 1, DEPOT = 2, STOP = 3, VEHICLE_BLOCK = 4, TABLES = 4 };
+/* The tables by their numbers. The slip has a number in places only. */
+enum { VEHICLE_TYPE = 1, DEPOT = 2, STOP = 3, VEHICLE_BLOCK = 4, SLIP = 5, STOP_POINT = 6, LAST_TABLE = STOP_POINT };
+
+/* How many tables a delivery has. */
+enum { TABLES = 5 };
 
 struct column {
     const char *name;
@@ -23,7 +27,13 @@ struct table {
     unsigned key_width;
 };
 
-/* By the table's number; there is none of number 0. */
-extern const struct table tables[TABLES + 1];
+/* By the table's number; a number that is no table's has no columns. */
+extern const struct table tables[LAST_TABLE + 1];
+
+/* The tables' numbers in the order in which they are read. The book keeps their rows in this order too. */
+extern const unsigned reading_order[TABLES];
+
+/* Where a table stands in that order, from 0. */
+unsigned part_of(unsigned t);
 
 #endif

@@ -25,10 +25,10 @@ static struct {
     int shown;  /* failures so far */
     int verbose;
     row book[SIDES][BOOK_ROWS];     /* the standing book */
-    uint8_t other_bytes[3][140000]; /* the standing book's other tables, as texts */
-    struct text others[3];
+    uint8_t other_bytes[TABLES - 1][140000]; /* the standing book's other tables, as texts */
+    struct text others[TABLES - 1];
     uint64_t came[REFUSALS];
-    uint64_t came_at[REFUSALS][6][34]; /* by table and column */
+    uint64_t came_at[REFUSALS][LAST_TABLE + 1][34]; /* by table and column */
 } host;
 
 /* ---- Printing */
@@ -158,7 +158,7 @@ static void count_refusal(const uint64_t place[4])
     if (place[0] >= REFUSALS)
         return;
     host.came[place[0]]++;
-    if (place[1] < 6 && place[3] < 34)
+    if (place[1] <= LAST_TABLE && place[3] < 34)
         host.came_at[place[0]][place[1]][place[3]]++;
 }
 
@@ -279,11 +279,11 @@ static int is_over(void)
     return host.failed;
 }
 
-static void keep_others(const struct text others[3])
+static void keep_others(const struct text others[TABLES - 1])
 {
     size_t i;
 
-    for (i = 0; i < 3; i++) {
+    for (i = 0; i < TABLES - 1; i++) {
         memcpy(host.other_bytes[i], others[i].bytes, others[i].length);
         host.others[i].bytes = host.other_bytes[i];
         host.others[i].length = others[i].length;
@@ -293,18 +293,19 @@ static void keep_others(const struct text others[3])
 /* The other tables of the book that a refused reading leaves. */
 static void keep_empty_others(void)
 {
-    static const char *const headers[3] = {"VERSION;VEH_TYPE_NR\n", "VERSION;DEPOT_NR\n", "VERSION;STOP_NR;STOP_NAME\n"};
-    struct text others[3];
+    static const char *const headers[TABLES - 1] = {"VERSION;VEH_TYPE_NR\n", "VERSION;DEPOT_NR\n",
+        "VERSION;STOP_NR;STOP_NAME\n", "VERSION;STOP_NR;STOPPING_POINT_NR\n"};
+    struct text others[TABLES - 1];
     size_t i;
 
-    for (i = 0; i < 3; i++) {
+    for (i = 0; i < TABLES - 1; i++) {
         others[i].bytes = (const uint8_t *)headers[i];
         others[i].length = strlen(headers[i]);
     }
     keep_others(others);
 }
 
-static void call_read(void *self, const struct text texts[4], size_t book_rows)
+static void call_read(void *self, const struct text texts[TABLES], size_t book_rows)
 {
     struct answers answers = fresh_answers();
     row *books[SIDES];
@@ -319,18 +320,19 @@ static void call_read(void *self, const struct text texts[4], size_t book_rows)
         show_text("vehicle_type", texts[0]);
         show_text("depot", texts[1]);
         show_text("stop", texts[2]);
-        show_text("vehicle_block", texts[3]);
+        show_text("stop_point", texts[3]);
+        show_text("vehicle_block", texts[4]);
         printf("    into a book of %" PRIu64 " rows of garbage\n", (uint64_t)book_rows);
     }
     for (s = 0; s < SIDES; s++) {
-        struct text copies[4];
+        struct text copies[TABLES];
 
         books[s] = open_book(s, book_rows);
         fill_with_garbage(books[s], book_rows);
-        for (i = 0; i < 4; i++)
+        for (i = 0; i < TABLES; i++)
             copies[i] = copy_of_text(texts[i]);
         answers.returned[s] = side_read(sides[s], copies, books[s], book_rows, answers.place[s]);
-        for (i = 0; i < 4; i++)
+        for (i = 0; i < TABLES; i++)
             end_text(copies[i], texts[i]);
     }
     compare_answers(&answers);
@@ -348,7 +350,7 @@ static void call_read(void *self, const struct text texts[4], size_t book_rows)
         keep_empty_others();
 }
 
-static void call_put_book(void *self, const row *book, const struct text others[3])
+static void call_put_book(void *self, const row *book, const struct text others[TABLES - 1])
 {
     int s;
 
@@ -368,15 +370,15 @@ static void compare_afresh(int s)
     static uint8_t written[40000];
     static row afresh[BOOK_ROWS];
     uint64_t place[4], length[1];
-    struct text texts[4];
+    struct text texts[TABLES];
 
     if (sides[s]->write((const row *)host.book[s], BOOK_ROWS, written, sizeof written, length, place) != 0) {
         fail("the book that a slip left is not written");
         return;
     }
     memcpy(texts, host.others, sizeof host.others);
-    texts[3].bytes = written;
-    texts[3].length = (size_t)length[0];
+    texts[TABLES - 1].bytes = written;
+    texts[TABLES - 1].length = (size_t)length[0];
     if (side_read(sides[s], texts, afresh, BOOK_ROWS, place) != 0) {
         fail("the blocks written after a slip are not read");
         return;
@@ -559,7 +561,7 @@ static void print_counts(int places)
         return;
     puts("And where (number, table, column):");
     for (number = 1; number < REFUSALS; number++)
-        for (table = 0; table < 6; table++)
+        for (table = 0; table <= LAST_TABLE; table++)
             for (column = 0; column < 34; column++)
                 if (host.came_at[number][table][column])
                     printf("%3" PRIu64 " %2" PRIu64 " %3" PRIu64 " %8" PRIu64 "\n", (uint64_t)number, (uint64_t)table,
@@ -592,13 +594,13 @@ static int came_at(uint64_t number, uint64_t table, uint64_t column)
 static int places_are_enough(void)
 {
     static const uint64_t without_column[] = {1, 4, 5, 7, 9};
-    static const uint64_t referring[] = {3, 5, 6, 9};
-    const uint64_t slip = TABLES + 1;
-    int enough = 1;
+    static const uint64_t referring[] = {3, 5, 6, 7, 9, 10};
+    int enough = came_at(10, STOP_POINT, 2);
     uint64_t t, c;
-    size_t i;
+    size_t part, i;
 
-    for (t = 1; t <= TABLES; t++) {
+    for (part = 0; part < TABLES; part++) {
+        t = reading_order[part];
         for (i = 0; i < 5; i++)
             enough &= came_at(without_column[i], t, 0);
         for (c = 1; c <= tables[t].column_count; c++) {
@@ -608,14 +610,14 @@ static int places_are_enough(void)
         }
     }
     for (c = 1; c <= NUMBERS; c++)
-        enough &= came_at(8, slip, c);
-    for (t = VEHICLE_BLOCK; t <= slip; t++) {
+        enough &= came_at(8, SLIP, c);
+    for (t = VEHICLE_BLOCK; t <= SLIP; t++) {
         enough &= came_at(11, t, 11);
-        for (i = 0; i < 4; i++)
+        for (i = 0; i < sizeof referring / sizeof referring[0]; i++)
             enough &= came_at(10, t, referring[i]);
     }
-    return enough & came_at(1, slip, 0) & came_at(5, slip, 0) & came_at(9, slip, 0) & came_at(12, slip, 0)
-        & came_at(13, slip, 0);
+    return enough & came_at(1, SLIP, 0) & came_at(5, SLIP, 0) & came_at(9, SLIP, 0) & came_at(12, SLIP, 0)
+        & came_at(13, SLIP, 0);
 }
 
 struct options {

@@ -8,11 +8,12 @@
 /* A string literal as a text; bytes 0 may stand in it. */
 #define T(s) {(const uint8_t *)(s), sizeof(s) - 1}
 
-/* ---- The whole case of document 01 */
+/* ---- The whole case of document 01, which "gains the points 20/1 and 31/2" */
 
 #define TYPES "VERSION;VEH_TYPE_NR;VEH_TYPE_TEXT\n1;4;\"solo; low floor\"\n1;7;\"joint \"\"old\"\"\"\n"
 #define DEPOTS "VERSION;DEPOT_NR\n1;3\n"
 #define STOPS "VERSION;STOP_NR;STOP_NAME\n1;20;Yard\n1;31;Mill\n"
+#define POINTS "VERSION;STOP_NR;STOPPING_POINT_NR\n1;20;1\n1;31;2\n"
 #define BLOCK_HEADER                                                                                                       \
     "VERSION;DAY_TYPE_NR;DEPOT_NR;BLOCK_NR;VEH_TYP_NR;DEP_STOP_NR;DEP_STOPPING_POINT_NR;BEGIN_OF_BLOCK;ARR_STOP_NR;"       \
     "ARR_STOPPING_POINT_NR;END_OF_BLOCK\n"
@@ -22,7 +23,8 @@
 #define BLOCK_ROWS BLOCK_101 BLOCK_102 BLOCK_6_101
 #define BLOCKS BLOCK_HEADER BLOCK_ROWS
 
-static const struct text whole_case[4] = {T(TYPES), T(DEPOTS), T(STOPS), T(BLOCKS)};
+/* In the order of reading. */
+static const struct text whole_case[TABLES] = {T(TYPES), T(DEPOTS), T(STOPS), T(POINTS), T(BLOCKS)};
 
 /* ---- Readings: the whole case with one of its texts replaced */
 
@@ -30,11 +32,12 @@ struct reading_edge {
     const char *words;
     unsigned table;
     struct text text;
-    uint64_t number, line, column; /* the place's table is `table` where the number is not 0 */
+    uint64_t number, line, column; /* the place's table is `table`, but for 0 and 10 */
 };
 
 #define D "VERSION;DEPOT_NR\n"
 #define S "VERSION;STOP_NR;STOP_NAME\n"
+#define P "VERSION;STOP_NR;STOPPING_POINT_NR\n"
 #define V "VERSION;VEH_TYPE_NR;"
 #define TWO_TYPES "1;4;\n1;7;\n"
 #define TEN "0123456789"
@@ -62,6 +65,7 @@ static const struct reading_edge reading_edges[] = {
     {"length 0, table 1", 1, T(""), 2, 1, 1},
     {"length 0, table 2", 2, T(""), 2, 1, 1},
     {"length 0, table 3", 3, T(""), 2, 1, 1},
+    {"length 0, table 6", 6, T(""), 2, 1, 1},
     {"length 0, table 4", 4, T(""), 2, 1, 1},
     /* Easy to get wrong */
     {"columns by name, not by position", 2, T("DEPOT_NR;VERSION\n3;1\n"), 0, 0, 0},
@@ -128,6 +132,15 @@ static const struct reading_edge reading_edges[] = {
     {"10 at column 5", 4, T(BLOCK_HEADER "1;5;3;101;5;99;1;500;99;2;500\n"), 10, 2, 5},
     {"10 at column 6", 4, T(BLOCK_HEADER "1;5;3;101;4;99;1;500;99;2;500\n"), 10, 2, 6},
     {"10 at column 9", 4, T(BLOCK_HEADER "1;5;3;101;4;20;1;500;0;2;500\n"), 10, 2, 9},
+    {"C1-01 10 at column 7", 4, T(BLOCK_HEADER "1;5;3;101;4;20;2;500;31;2;500\n"), 10, 2, 7},
+    {"C1-01 10 at column 10", 4, T(BLOCK_HEADER "1;5;3;101;4;20;1;500;31;1;500\n"), 10, 2, 10},
+    {"C1-01 10 at column 5 before 7", 4, T(BLOCK_HEADER "1;5;3;101;5;20;9;500;31;2;500\n"), 10, 2, 5},
+    {"C1-01 10 at column 6 before 7", 4, T(BLOCK_HEADER "1;5;3;101;4;99;9;500;31;2;500\n"), 10, 2, 6},
+    {"C1-01 10 at column 7 before 9", 4, T(BLOCK_HEADER "1;5;3;101;4;20;9;500;99;9;500\n"), 10, 2, 7},
+    {"C1-01 10 at column 9 before 10", 4, T(BLOCK_HEADER "1;5;3;101;4;20;1;500;99;9;500\n"), 10, 2, 9},
+    {"C1-01 9 before 10 at column 7", 4, T(BLOCK_HEADER BLOCK_101 "1;5;3;101;4;20;9;500;31;2;500\n"), 9, 3, 0},
+    {"C1-01 point 100 is 8", 4, T(BLOCK_HEADER "1;5;3;101;4;20;100;500;31;2;500\n"), 8, 2, 7},
+    {"points compared by value", 4, T(BLOCK_HEADER "1;5;3;101;4;20;01;500;31;\"02\";500\n"), 0, 0, 0},
     {"same key but for one number", 4,
         T(BLOCK_HEADER "1;5;3;101;4;20;1;1;31;2;1\n1;5;3;100;4;20;1;1;31;2;1\n1;4;3;101;4;20;1;1;31;2;1\n"), 0, 0, 0},
     /* Quotes and cells */
@@ -172,7 +185,40 @@ static const struct reading_edge reading_edges[] = {
     {"bytes 128 and 255", 3, T(S "1;20;\x80\n1;31;\xFF\n"), 0, 0, 0},
     {"A-26 line feed inside quotes", 3, T(S "1;20;\"Ya\nrd\"\n"), 6, 2, 3},
     {"A-26 in a header", 3, T("VERSION;\"STOP_NR\nSTOP_NAME\"\n"), 6, 1, 2},
+    /* Stop points */
+    {"C1-04 without the table", 6, T(""), 2, 1, 1},
+    {"C1-03 2 in stop_point: the version", 6, T("STOP_NR;STOPPING_POINT_NR\n"), 2, 1, 1},
+    {"C1-03 2 in stop_point: the stop", 6, T("VERSION;STOPPING_POINT_NR\n"), 2, 1, 2},
+    {"C1-03 2 in stop_point: the point", 6, T("VERSION;STOP_NR\n"), 2, 1, 3},
+    {"2 in stop_point: the old name", 6, T("VERSION;STOP_NR;STOP_POINT_NR\n1;20;1\n"), 2, 1, 3},
+    {"3 in stop_point", 6, T("STOP_NR;VERSION;STOPPING_POINT_NR;STOP_NR\n20;1;1;20\n"), 3, 1, 2},
+    {"4 in stop_point", 6, T("VERSION;STOP_NR" TEN_CELLS TEN_CELLS TEN_CELLS ";STOPPING_POINT_NR\n"), 4, 1, 0},
+    {"6 in stop_point's header", 6, T("VERSION;STOP_NR;STOPPING_POINT_NR\"\n"), 6, 1, 3},
+    {"6 in a stop point", 6, T(P "1;20;\"1\n"), 6, 2, 3},
+    {"7 in a stop point", 6, T(P "1;20\n"), 7, 2, 0},
+    {"stop points by name, not by position", 6, T("STOPPING_POINT_NR;STOP_NR;VERSION\n1;20;1\n2;31;1\n"), 0, 0, 0},
+    {"C1-03 STOP_AREA_NR is unknown", 6, T("VERSION;STOP_AREA_NR;STOP_NR;STOPPING_POINT_NR\n1;x;20;1\n1;;31;2\n"), 0, 0, 0},
+    {"C1-05 points that differ in area only", 6,
+        T("VERSION;STOP_AREA_NR;STOP_NR;STOPPING_POINT_NR\n1;1;20;1\n1;1;31;2\n1;2;20;1\n"), 9, 4, 0},
+    {"C1-05 the key is all three numbers", 6, T(P "1;20;1\n1;31;2\n1;20;2\n1;31;1\n"), 0, 0, 0},
+    {"C1-05 the key in numbers", 6, T(P "1;20;1\n1;31;2\n01;00020;01\n"), 9, 4, 0},
+    {"C1-03 point 0 and point 99", 6, T(P "1;20;0\n1;20;1\n1;20;99\n1;31;2\n"), 0, 0, 0},
+    {"C1-03 point 100", 6, T(P "1;20;100\n"), 8, 2, 3},
+    {"C1-03 point empty", 6, T(P "1;20;\n"), 8, 2, 3},
+    {"C1-03 stop 0", 6, T(P "1;0;1\n"), 8, 2, 2},
+    {"C1-03 stop 100000", 6, T(P "1;100000;1\n"), 8, 2, 2},
+    {"C1-03 stop 99999 is well formed", 6, T(P "1;99999;1\n"), 10, 2, 2},
+    {"C1-03 version 0", 6, T(P "0;20;1\n"), 8, 2, 1},
+    {"C1-05 a stop that is not there", 6, T(P "1;20;1\n1;21;2\n"), 10, 3, 2},
+    {"C1-05 a stop of another version", 6, T(P "1;20;1\n2;20;1\n"), 10, 3, 2},
+    {"C1-05 8 before 10", 6, T(P "1;21;x\n"), 8, 2, 3},
+    {"C1-05 an earlier 10 before a later 9", 6, T(P "1;21;1\n1;20;1\n1;20;1\n"), 10, 2, 2},
+    {"C1-04 a point's 10 before a block's faults", 3, T(S "1;20;Yard\n"), 10, 3, 2},
+    {"C1-02 a block's point at another stop", 6, T(P "1;20;2\n1;31;1\n"), 10, 2, 7},
+    {"C1-02 a block's last point", 6, T(P "1;20;1\n1;31;1\n"), 10, 2, 10},
     /* Tables without rows */
+    {"no stop points: the first block's 10", 6, T("VERSION;STOP_NR;STOPPING_POINT_NR"), 10, 2, 7},
+    {"no stops: the first point's 10", 3, T("VERSION;STOP_NR;STOP_NAME"), 10, 2, 2},
     {"no blocks", 4, T(BLOCK_HEADER), 0, 0, 0},
     {"no depots: the first block's 10", 2, T("VERSION;DEPOT_NR"), 10, 2, 3},
 };
@@ -190,10 +236,10 @@ struct slip_edge {
 #define D_101 "D\t1\t5\t3\t101\n"
 #define D_102 "D\t1\t5\t3\t102\n"
 #define D_6_101 "D\t1\t6\t3\t101\n"
-#define A_REST "\t7\t20\t0\t0\t20\t99\t999999\n"
+#define A_REST "\t7\t20\t1\t0\t31\t2\t999999\n"
 #define A_101 "A\t1\t5\t3\t101" A_REST
 #define R_101 "R\t1\t5\t3\t101" A_REST
-#define ROW_101_NEW "1;5;3;101;7;20;0;0;20;99;999999\n"
+#define ROW_101_NEW "1;5;3;101;7;20;1;0;31;2;999999\n"
 #define A_103 "A\t1\t5\t3\t103" A_REST
 
 static const struct slip_edge slip_edges[] = {
@@ -226,14 +272,21 @@ static const struct slip_edge slip_edges[] = {
     {"A: 10 at column 3 first", T("A\t1\t5\t4\t101\t8\t99\t0\t1\t99\t99\t1\n"), 10, 1, 3, BLOCK_ROWS},
     {"A: 10 at column 5", T("A\t1\t5\t3\t103\t8\t99\t0\t1\t99\t99\t1\n"), 10, 1, 5, BLOCK_ROWS},
     {"A: DEP_STOP_NR 100000", T("A\t1\t5\t3\t103\t7\t100000\t0\t1\t99\t99\t1\n"), 10, 1, 6, BLOCK_ROWS},
-    {"A: 10 at column 9", T("A\t1\t5\t3\t103\t7\t20\t0\t1\t0\t99\t1\n"), 10, 1, 9, BLOCK_ROWS},
+    {"A: 10 at column 9", T("A\t1\t5\t3\t103\t7\t20\t1\t1\t0\t99\t1\n"), 10, 1, 9, BLOCK_ROWS},
+    {"C1-06 A: 10 at column 7", T("A\t1\t5\t3\t103\t7\t20\t0\t1\t31\t2\t1\n"), 10, 1, 7, BLOCK_ROWS},
+    {"C1-06 A: 10 at column 7 before 9", T("A\t1\t5\t3\t103\t7\t20\t0\t1\t99\t99\t1\n"), 10, 1, 7, BLOCK_ROWS},
+    {"C1-06 A: 10 at column 10", T("A\t1\t5\t3\t103\t7\t20\t1\t1\t20\t2\t1\n"), 10, 1, 10, BLOCK_ROWS},
+    {"C1-06 A: 9 before 10 at column 7", T("A\t1\t5\t3\t101\t7\t20\t0\t1\t20\t1\t1\n"), 9, 1, 0, BLOCK_ROWS},
     {"A: DEP_STOP_NR of 7 digits", T("A\t1\t5\t3\t103\t7\t0000020\t0\t1\t20\t99\t1\n"), 8, 1, 6, BLOCK_ROWS},
     {"R: 11 before 13", T("R\t1\t5\t3\t103\t7\t20\t0\t1\t20\t99\t0\n"), 11, 1, 11, BLOCK_ROWS},
     {"R: 13 before 10", T("R\t1\t5\t3\t103\t8\t20\t0\t1\t20\t99\t1\n"), 13, 1, 0, BLOCK_ROWS},
     {"R: unknown version is 13", T("R\t2\t5\t3\t101\t4\t20\t0\t1\t20\t99\t1\n"), 13, 1, 0, BLOCK_ROWS},
     {"A-43 R: 10 at column 5", T("R\t1\t5\t3\t101\t8\t99\t0\t1\t99\t99\t1\n"), 10, 1, 5, BLOCK_ROWS},
     {"A-43 R: 10 at column 6", T("R\t1\t5\t3\t101\t4\t99\t0\t1\t99\t99\t1\n"), 10, 1, 6, BLOCK_ROWS},
-    {"A-43 R: 10 at column 9", T("R\t1\t5\t3\t101\t4\t20\t0\t1\t99\t99\t1\n"), 10, 1, 9, BLOCK_ROWS},
+    {"A-43 R: 10 at column 9", T("R\t1\t5\t3\t101\t4\t20\t1\t1\t99\t99\t1\n"), 10, 1, 9, BLOCK_ROWS},
+    {"A-43 R: 10 at column 7", T("R\t1\t5\t3\t101\t4\t31\t1\t1\t20\t1\t1\n"), 10, 1, 7, BLOCK_ROWS},
+    {"A-43 R: 10 at column 10", T("R\t1\t5\t3\t101\t4\t31\t2\t1\t31\t1\t1\n"), 10, 1, 10, BLOCK_ROWS},
+    {"A-43 R: 13 before 10 at column 7", T("R\t1\t5\t3\t103\t4\t31\t1\t1\t20\t1\t1\n"), 13, 1, 0, BLOCK_ROWS},
     {"D: 8 before 13", T("D\t1\t5\t3\tx\n"), 8, 1, 4, BLOCK_ROWS},
     {"D: 13", T("D\t1\t5\t3\t103\n"), 13, 1, 0, BLOCK_ROWS},
     {"D: version 0", T("D\t0\t0\t0\t0\n"), 8, 1, 1, BLOCK_ROWS},
@@ -241,13 +294,13 @@ static const struct slip_edge slip_edges[] = {
     {"A-45 delete, then replace", T(D_101 R_101), 13, 2, 0, BLOCK_ROWS},
     {"A-45 delete twice", T(D_101 D_101), 13, 2, 0, BLOCK_ROWS},
     {"A-45 add twice", T(A_103 A_103), 9, 2, 0, BLOCK_ROWS},
-    {"A-45 add, then replace it", T(A_103 "R\t01\t5\t3\t00000103\t4\t31\t1\t2\t20\t3\t4\n"), 0, 0, 0,
-        BLOCK_101 BLOCK_102 "1;5;3;103;4;31;1;2;20;3;4\n" BLOCK_6_101},
+    {"A-45 add, then replace it", T(A_103 "R\t01\t5\t3\t00000103\t4\t31\t02\t2\t20\t1\t4\n"), 0, 0, 0,
+        BLOCK_101 BLOCK_102 "1;5;3;103;4;31;2;2;20;1;4\n" BLOCK_6_101},
     {"A-45 add, then delete it", T(A_103 "D\t1\t5\t3\t103\n"), 0, 0, 0, BLOCK_ROWS},
     {"a good line before a bad one", T(D_101 "x\n"), 12, 2, 0, BLOCK_ROWS},
     {"delete all", T(D_101 D_102 D_6_101), 0, 0, 0, ""},
     {"keys as numbers: 9 before 10", T("A\t1\t5\t3\t10" A_REST "A\t1\t5\t3\t9" A_REST), 0, 0, 0,
-        "1;5;3;9;7;20;0;0;20;99;999999\n1;5;3;10;7;20;0;0;20;99;999999\n" BLOCK_ROWS},
+        "1;5;3;9;7;20;1;0;31;2;999999\n1;5;3;10;7;20;1;0;31;2;999999\n" BLOCK_ROWS},
     {"A-46 leading zeros", T("D\t01\t000000005\t00003\t00000101\n"), 0, 0, 0, BLOCK_102 BLOCK_6_101},
     {"A-46 one zero too many", T("D\t001\t5\t3\t101\n"), 8, 1, 1, BLOCK_ROWS},
     {"A-46 empty field", T("D\t1\t\t3\t101\n"), 8, 1, 2, BLOCK_ROWS},
@@ -286,6 +339,14 @@ static const struct cell_edge cell_edges[] = {
     {"STOP_NR 0", T(S "1;0;a\n"), 3, 2, 2, 8, 2, 2, NOTHING},
     {"DEP_STOP_NR 100000", T(BLOCK_HEADER "1;5;3;101;4;100000;1;18000;31;2;46800\n"), 4, 2, 6, 0, 0, 0, 1, 100000, 0, 0},
     {"semicolon inside quotes", T(TYPES), 1, 2, 6, 0, 0, 0, 2, 0, 39, 15},
+    {"C1-06 a point's version", T(POINTS), 6, 2, 1, 0, 0, 0, 1, 1, 0, 0},
+    {"C1-06 a point's stop", T(POINTS), 6, 3, 2, 0, 0, 0, 1, 31, 0, 0},
+    {"C1-06 a point's number", T(POINTS), 6, 3, 3, 0, 0, 0, 1, 2, 0, 0},
+    {"C1-06 a point whose stop is nowhere", T(P "1;77;007\n1;77;\"07\"\n"), 6, 3, 3, 0, 0, 0, 1, 7, 0, 0},
+    {"C1-06 a point's number of three digits", T(P "1;77;007\n"), 6, 2, 3, 8, 2, 3, NOTHING},
+    {"C1-06 a point without stop", T(P "1;;7\n"), 6, 2, 2, 8, 2, 2, NOTHING},
+    {"C1-06 stop_point has no column 4", T(POINTS), 6, 2, 4, 15, 0, 0, NOTHING},
+    {"C1-06 header of stop_point", T("VERSION;STOP_NR\n"), 6, 2, 1, 2, 1, 3, NOTHING},
     {"doubled quotes of the whole case", T(TYPES), 1, 3, 6, 0, 0, 0, 2, 0, 61, 13},
     {"empty optional", T(C4 "1;4;\n"), 1, 2, 7, 0, 0, 0, NOTHING},
     {"empty optional in quotes", T(C4 "1;4;\"\"\n"), 1, 2, 7, 0, 0, 0, NOTHING},
@@ -296,6 +357,8 @@ static const struct cell_edge cell_edges[] = {
     {"A-33 missing optional, 6", T(C4 "1;4;\t\n"), 1, 2, 3, 6, 2, 3, NOTHING},
     {"A-32 table 0", T(D "1;3\n"), 0, 2, 1, 15, 0, 0, NOTHING},
     {"A-32 table 5", T(D "1;3\n"), 5, 2, 1, 15, 0, 0, NOTHING},
+    {"C1-06 table 5 with stop points", T(POINTS), 5, 2, 1, 15, 0, 0, NOTHING},
+    {"A-32 table 7", T(D "1;3\n"), 7, 2, 1, 15, 0, 0, NOTHING},
     {"A-32 table 2^64 - 1", T(D "1;3\n"), UINT64_MAX, 2, 1, 15, 0, 0, NOTHING},
     {"A-32 column 0", T(D "1;3\n"), 2, 2, 0, 15, 0, 0, NOTHING},
     {"A-32 column 3 of depot", T(D "1;3\n"), 2, 2, 3, 15, 0, 0, NOTHING},
@@ -321,12 +384,15 @@ static const struct cell_edge cell_edges[] = {
 
 /* ---- Running them */
 
+/* The first rows of the stop points and of the blocks in a book. */
+enum { POINTS_AT = 1536, BLOCKS_AT = 2048 };
+
 static row book[BOOK_ROWS + 1];
 static row before[BOOK_ROWS + 1];
 static row work[WORK_ROWS + 1];
 static const row zeros[BOOK_ROWS];
 static uint8_t out[65536];
-static uint8_t big[4][70000];
+static uint8_t big[LAST_TABLE + 1][70000]; /* by table number */
 
 struct run {
     const struct side *side;
@@ -376,8 +442,8 @@ static int work_is_zero(void)
     return memcmp(work, zeros, WORK_ROWS * sizeof work[0]) == 0;
 }
 
-/* Reads four texts into the book, over content that must not matter. */
-static uint64_t read_into_book(const struct side *side, const struct text texts[4], uint64_t place[4])
+/* Reads a delivery into the book, over content that must not matter. */
+static uint64_t read_into_book(const struct side *side, const struct text texts[TABLES], uint64_t place[4])
 {
     fill(book, sizeof book, 0xA5);
     return side_read(side, texts, book, BOOK_ROWS, place);
@@ -385,17 +451,17 @@ static uint64_t read_into_book(const struct side *side, const struct text texts[
 
 static void run_reading(struct run *run, const struct reading_edge *edge)
 {
-    struct text texts[4];
+    struct text texts[TABLES];
     uint64_t place[4] = {9, 9, 9, 9};
     uint64_t answer;
     uint64_t table = edge->table;
     int good;
 
     memcpy(texts, whole_case, sizeof texts);
-    texts[edge->table - 1] = edge->text;
-    /* a reference that was taken away shows in the blocks */
+    texts[part_of(edge->table)] = edge->text;
+    /* a reference that was taken away shows in the rows that refer: a stop point's in column 2, a block's never there */
     if (edge->number == 10)
-        table = 4;
+        table = edge->column == 2 ? STOP_POINT : VEHICLE_BLOCK;
     answer = read_into_book(run->side, texts, place);
     good = answered(answer, place, edge->number, table, edge->line, edge->column);
     if (edge->number)
@@ -485,34 +551,43 @@ static struct text done(const struct growing *text)
     return t;
 }
 
-/* Table t of `rows` rows, every one with the key 1, its number. The first of table 1 to 3 is what the blocks refer to. */
+/* Table t of `rows` rows, each with its number in the key. The first row of each other table is what the blocks refer to. */
 static struct text long_table(unsigned t, uint64_t rows)
 {
-    struct growing text = {big[t - 1], 0};
+    static const struct {
+        const char *header, *before, *behind;
+    } shapes[LAST_TABLE + 1] = {
+        [VEHICLE_TYPE] = {"VERSION;VEH_TYPE_NR\n", "1;", "\n"},
+        [DEPOT] = {D, "1;", "\n"},
+        [STOP] = {S, "1;", ";a\n"},
+        [STOP_POINT] = {P, "1;", ";0\n"},
+        [VEHICLE_BLOCK] = {BLOCK_HEADER, "1;5;1;", ";1;1;0;10;1;0;20\n"},
+    };
+    struct growing text = {big[t], 0};
     uint64_t i;
 
-    put(&text, t == 1 ? "VERSION;VEH_TYPE_NR\n" : t == 2 ? D : t == 3 ? S : BLOCK_HEADER);
+    put(&text, shapes[t].header);
     for (i = 1; i <= rows; i++) {
-        put(&text, t == 4 ? "1;5;1;" : "1;");
+        put(&text, shapes[t].before);
         put_number(&text, i, 0);
-        put(&text, t == 4 ? ";1;1;0;10;1;0;20\n" : t == 3 ? ";a\n" : "\n");
+        put(&text, shapes[t].behind);
     }
     return done(&text);
 }
 
 /* The delivery with that many rows in table t and 512 in the others. */
-static void long_delivery(struct text texts[4], unsigned t, uint64_t rows)
+static void long_delivery(struct text texts[TABLES], unsigned t, uint64_t rows)
 {
-    unsigned i;
+    size_t i;
 
-    for (i = 1; i <= 4; i++)
-        texts[i - 1] = long_table(i, i == t ? rows : 512);
+    for (i = 0; i < TABLES; i++)
+        texts[i] = long_table(reading_order[i], reading_order[i] == t ? rows : 512);
 }
 
 /* A depot text of exactly that many bytes, by a long cell in an unknown column. */
 static struct text padded_depots(size_t length)
 {
-    struct growing text = {big[1], 0};
+    struct growing text = {big[DEPOT], 0};
 
     put(&text, "VERSION;DEPOT_NR;X\n1;3;");
     fill(text.bytes + text.length, length - text.length, 'x');
@@ -524,7 +599,7 @@ static struct text padded_depots(size_t length)
 /* A slip of 1,024 lines of 64 bytes each that put a block of the whole case in its own place. */
 static struct growing slip_of_65536(void)
 {
-    struct growing slip = {big[0], 0};
+    struct growing slip = {big[SLIP], 0};
     unsigned i;
 
     for (i = 0; i < 1024; i++)
@@ -534,19 +609,21 @@ static struct growing slip_of_65536(void)
 
 static void run_long_tables(struct run *run)
 {
-    struct text texts[4];
+    struct text texts[TABLES];
     uint64_t place[4], answer;
-    unsigned t;
+    size_t part;
 
-    for (t = 1; t <= 4; t++) {
+    for (part = 0; part < TABLES; part++) {
+        unsigned t = reading_order[part];
+
         long_delivery(texts, t, 512);
         answer = read_into_book(run->side, texts, place);
-        tell(run, "512 rows", answered(answer, place, 0, 0, 0, 0) && book[512 * t - 1][0] == 1);
+        tell(run, "512 rows", answered(answer, place, 0, 0, 0, 0) && book[512 * part + 511][0] == 1);
         long_delivery(texts, t, 513);
         answer = read_into_book(run->side, texts, place);
         tell(run, "row 513", answered(answer, place, 5, t, 514, 0) && book_is(zeros));
         long_delivery(texts, t, 513);
-        big[t - 1][texts[t - 1].length - 2] = '"';
+        big[t][texts[part].length - 2] = '"';
         answer = read_into_book(run->side, texts, place);
         tell(run, "A-13 row 513 has a 6", answered(answer, place, 5, t, 514, 0));
     }
@@ -555,12 +632,12 @@ static void run_long_tables(struct run *run)
     answer = read_into_book(run->side, texts, place);
     tell(run, "length 0 counts, not what stands behind", answered(answer, place, 2, 2, 1, 1));
     long_delivery(texts, 2, 512);
-    put(&(struct growing){big[1], texts[1].length}, "1\n1;9999\n");
+    put(&(struct growing){big[DEPOT], texts[1].length}, "1\n1;9999\n");
     texts[1].length += 9;
     answer = read_into_book(run->side, texts, place);
     tell(run, "A-13 row 513 has a 7", answered(answer, place, 5, 2, 514, 0));
     texts[1] = long_table(2, 511);
-    put(&(struct growing){big[1], texts[1].length}, "1\n1;9999\n");
+    put(&(struct growing){big[DEPOT], texts[1].length}, "1\n1;9999\n");
     texts[1].length += 9;
     answer = read_into_book(run->side, texts, place);
     tell(run, "A-13 a fault of row 512 before row 513", answered(answer, place, 7, 2, 513, 0));
@@ -568,7 +645,7 @@ static void run_long_tables(struct run *run)
 
 static void run_long_texts(struct run *run)
 {
-    struct text texts[4];
+    struct text texts[TABLES];
     uint64_t place[4], answer;
     uint64_t got[4];
     struct growing slip;
@@ -580,7 +657,7 @@ static void run_long_texts(struct run *run)
     texts[1] = padded_depots(65537);
     answer = read_into_book(run->side, texts, place);
     tell(run, "A-06 65,537 bytes", answered(answer, place, 1, 2, 0, 0));
-    big[1][0] = '"';
+    big[DEPOT][0] = '"';
     answer = read_into_book(run->side, texts, place);
     tell(run, "1 before the header's 6", answered(answer, place, 1, 2, 0, 0));
     answer = run->side->cell(texts[1].bytes, texts[1].length, 2, 0, 1, got, place);
@@ -623,7 +700,7 @@ static void run_full_book(struct run *run)
             NULL},
         {"R on a full book", T("R\t1\t5\t1\t512\t1\t1\t0\t10\t1\t0\t21\n"), 0, 0, 0, NULL},
     };
-    struct text texts[4];
+    struct text texts[TABLES];
     uint64_t place[4], answer, seven[7], sum[2];
     size_t i;
 
@@ -678,14 +755,15 @@ static void run_questions(struct run *run)
     tell(run, "whole case: the slip", answered(answer, place, 0, 0, 0, 0));
     tell(run, "whole case: T 1 4 32400 2", type_is(run->side, 1, 4, 0, 32400, 2));
     tell(run, "whole case: T 1 7 0 0", type_is(run->side, 1, 7, 0, 0, 0));
-    tell(run, "whole case: S 2 2", book[2][0] == 0 && book[1][0] != 0 && book[1536 + 2][0] == 0 && book[1536 + 1][0] != 0);
+    tell(run, "whole case: S 2 2",
+        book[2][0] == 0 && book[1][0] != 0 && book[BLOCKS_AT + 2][0] == 0 && book[BLOCKS_AT + 1][0] != 0);
 }
 
 /* ---- The writer */
 
 static void run_writer(struct run *run)
 {
-    struct text texts[4];
+    struct text texts[TABLES];
     uint64_t place[4], answer, length[1];
     size_t exact = strlen(BLOCKS);
     size_t i;
@@ -705,12 +783,12 @@ static void run_writer(struct run *run)
     memset(book, 0, sizeof book);
     tell(run, "A-47 an empty book", writes(run->side, ""));
     memcpy(texts, whole_case, sizeof texts);
-    texts[3] = (struct text)T("END_OF_BLOCK;VEH_TYPE_NR;BLOCK_NR;DEPOT_NR;DAY_TYPE_NR;VERSION;X;BEGIN_OF_BLOCK;ARR_STOP_NR;"
+    texts[4] = (struct text)T("END_OF_BLOCK;VEH_TYPE_NR;BLOCK_NR;DEPOT_NR;DAY_TYPE_NR;VERSION;X;BEGIN_OF_BLOCK;ARR_STOP_NR;"
                               "\"DEP_STOP_NR\";DEP_STOPPING_POINT_NR;ARR_STOPPING_POINT_NR\r\n"
-                              "00009;04;10;3;5;\"01\";;7;20;31;00;09\r\n8;07;9;3;5;1;\"\"\"\";7;20;31;00;9");
+                              "00009;04;10;3;5;\"01\";;7;20;31;02;01\r\n8;07;9;3;5;1;\"\"\"\";7;20;31;2;1");
     read_into_book(run->side, texts, place);
     tell(run, "written by rising key, without zeros",
-        writes(run->side, "1;5;3;9;7;31;0;7;20;9;8\n1;5;3;10;4;31;0;7;20;9;9\n"));
+        writes(run->side, "1;5;3;9;7;31;2;7;20;1;8\n1;5;3;10;4;31;2;7;20;1;9\n"));
 }
 
 /* The widest book that there can be: 512 blocks of which every number has as many digits as it can have. A stop has five,
@@ -722,13 +800,14 @@ static void run_widest_book(struct run *run)
     uint64_t i;
 
     memset(book, 0, sizeof book);
-    for (i = 0; i < 3; i++) {
+    for (i = 0; i < TABLES - 1; i++) {
         book[512 * i][0] = 99;
         book[512 * i][1] = i == 0 ? 99 : 99999;
     }
+    book[POINTS_AT][2] = 99;
     for (i = 0; i < 512; i++) {
-        memcpy(book[1536 + i], widest, sizeof widest);
-        book[1536 + i][3] += i;
+        memcpy(book[BLOCKS_AT + i], widest, sizeof widest);
+        book[BLOCKS_AT + i][3] += i;
     }
     answer = run->side->write((const row *)book, BOOK_ROWS, out, sizeof out, length, place);
     tell(run, "A-30 the widest book",
@@ -757,7 +836,7 @@ static int lent(const struct side *side, size_t book_rows, size_t work_rows, int
 static void run_lengths(struct run *run)
 {
     uint64_t place[4], answer, sum[2], seven[7];
-    size_t lengths[] = {0, 1, 512, BOOK_ROWS - 1, BOOK_ROWS + 1};
+    size_t lengths[] = {0, 1, 512, 2048, BOOK_ROWS - 1, BOOK_ROWS + 1};
     size_t i;
 
     for (i = 0; i < sizeof lengths / sizeof lengths[0]; i++) {
@@ -811,49 +890,102 @@ static const struct poke pokes[] = {
     {"stop 100000", 1024 + 1, 1, 100000, 0},
     {"a stop of number 0", 1024 + 2, 0, 2, 0},
     {"something in the stops' unused room", 1024 + 100, 5, 7, 0},
-    {"block's day type of 10 digits", 1536 + 2, 1, 1000000000, 0},
-    {"block's day type changed", 1536 + 2, 1, 999999999, 1},
-    {"blocks of equal key", 1536 + 1, 3, 101, 0},
-    {"blocks out of order", 1536 + 1, 3, 100, 0},
-    {"block's number of 9 digits", 1536 + 2, 3, 100000000, 0},
-    {"block's version without tables", 1536 + 2, 0, 2, 0},
-    {"block's depot without row", 1536 + 2, 2, 4, 0},
-    {"block's type without row", 1536 + 2, 4, 5, 0},
-    {"block's other type", 1536 + 2, 4, 7, 1},
-    {"block's first stop without row", 1536 + 2, 5, 21, 0},
-    {"block's last stop without row", 1536 + 2, 8, 21, 0},
-    {"block's point 99", 1536 + 2, 6, 99, 1},
-    {"block's point 100", 1536 + 2, 6, 100, 0},
-    {"block's last point 100", 1536 + 2, 9, 100, 0},
-    {"BEGIN equal to END", 1536 + 2, 7, 90000, 1},
-    {"BEGIN above END", 1536 + 2, 7, 90001, 0},
-    {"END 999999", 1536 + 2, 10, 999999, 1},
-    {"END 1000000", 1536 + 2, 10, 1000000, 0},
-    {"END 2^64 - 1", 1536 + 2, 10, UINT64_MAX, 0},
-    {"a hole between blocks", 1536 + 1, 0, 0, 0},
-    {"something in the blocks' unused room", 2047, 0, 1, 0},
-    {"a number alone in the blocks' unused room", 2047, 10, 1, 0},
+    {"a stop changed", 1024 + 1, 1, 32, 0},
+    {"point's stop without row", POINTS_AT, 1, 19, 0},
+    {"point's version without stops", POINTS_AT + 1, 0, 2, 0},
+    {"points out of order", POINTS_AT, 1, 31, 0},
+    {"point of version 0", POINTS_AT, 0, 0, 0},
+    {"point of version 100", POINTS_AT + 1, 0, 100, 0},
+    {"a point changed", POINTS_AT, 2, 2, 0},
+    {"another point changed", POINTS_AT + 1, 2, 99, 0},
+    {"point 100", POINTS_AT + 1, 2, 100, 0},
+    {"something behind a point's key", POINTS_AT, 3, 1, 0},
+    {"something at a point's row end", POINTS_AT + 1, 10, 1, 0},
+    {"something in the points' unused room", POINTS_AT + 2, 2, 1, 0},
+    {"a point of stop 0", POINTS_AT + 2, 0, 2, 0},
+    {"something in the points' last row", POINTS_AT + 511, 10, 1, 0},
+    {"block's day type of 10 digits", BLOCKS_AT + 2, 1, 1000000000, 0},
+    {"block's day type changed", BLOCKS_AT + 2, 1, 999999999, 1},
+    {"blocks of equal key", BLOCKS_AT + 1, 3, 101, 0},
+    {"blocks out of order", BLOCKS_AT + 1, 3, 100, 0},
+    {"block's number of 9 digits", BLOCKS_AT + 2, 3, 100000000, 0},
+    {"block's version without tables", BLOCKS_AT + 2, 0, 2, 0},
+    {"block's depot without row", BLOCKS_AT + 2, 2, 4, 0},
+    {"block's type without row", BLOCKS_AT + 2, 4, 5, 0},
+    {"block's other type", BLOCKS_AT + 2, 4, 7, 1},
+    {"block's first stop without row", BLOCKS_AT + 2, 5, 21, 0},
+    {"block's last stop without row", BLOCKS_AT + 2, 8, 21, 0},
+    {"block's point without row", BLOCKS_AT + 2, 6, 2, 0},
+    {"block's last point without row", BLOCKS_AT + 2, 9, 2, 0},
+    {"block's point 99", BLOCKS_AT + 2, 6, 99, 0},
+    {"block's other stop without its point", BLOCKS_AT + 2, 5, 31, 0},
+    {"block's point 100", BLOCKS_AT + 2, 6, 100, 0},
+    {"block's last point 100", BLOCKS_AT + 2, 9, 100, 0},
+    {"BEGIN equal to END", BLOCKS_AT + 2, 7, 90000, 1},
+    {"BEGIN above END", BLOCKS_AT + 2, 7, 90001, 0},
+    {"END 999999", BLOCKS_AT + 2, 10, 999999, 1},
+    {"END 1000000", BLOCKS_AT + 2, 10, 1000000, 0},
+    {"END 2^64 - 1", BLOCKS_AT + 2, 10, UINT64_MAX, 0},
+    {"a hole between blocks", BLOCKS_AT + 1, 0, 0, 0},
+    {"something in the blocks' unused room", 2559, 0, 1, 0},
+    {"a number alone in the blocks' unused room", 2559, 10, 1, 0},
 };
 
-static void run_poke(struct run *run, const struct poke *poke)
+/* Whether every function that looks at a book finds the standing one kept, or broken, and leaves it as it is. */
+static int book_is_kept(const struct side *side, int kept)
 {
     static const struct text slip = T("");
-    uint64_t place[4], sum[2], seven[7], length[1], number = poke->kept ? 0 : 16;
+    uint64_t place[4], sum[2], seven[7], length[1], number = kept ? 0 : 16;
     uint64_t answer;
     int good;
 
+    memcpy(before, book, sizeof before);
+    answer = slip_on_book(side, slip, place);
+    good = answered(answer, place, number, 0, 0, 0) && work_is_zero();
+    answer = side->type((const row *)book, BOOK_ROWS, 1, 4, sum, place);
+    good = good && answered(answer, place, number, 0, 0, 0);
+    answer = side->block((const row *)book, BOOK_ROWS, 1, 5, 3, 101, seven, place);
+    good = good && answered(answer, place, number, 0, 0, 0);
+    answer = side->write((const row *)book, BOOK_ROWS, out, sizeof out, length, place);
+    good = good && answered(answer, place, number, 0, 0, 0) && (length[0] == 0) == (number == 16);
+    return good && memcmp(before, book, sizeof before) == 0;
+}
+
+static void run_poke(struct run *run, const struct poke *poke)
+{
+    uint64_t place[4];
+
     read_into_book(run->side, whole_case, place);
     book[poke->row][poke->column] = poke->number;
-    memcpy(before, book, sizeof before);
-    answer = slip_on_book(run->side, slip, place);
-    good = answered(answer, place, number, 0, 0, 0) && work_is_zero();
-    answer = run->side->type((const row *)book, BOOK_ROWS, 1, 4, sum, place);
-    good = good && answered(answer, place, number, 0, 0, 0);
-    answer = run->side->block((const row *)book, BOOK_ROWS, 1, 5, 3, 101, seven, place);
-    good = good && answered(answer, place, number, 0, 0, 0);
-    answer = run->side->write((const row *)book, BOOK_ROWS, out, sizeof out, length, place);
-    good = good && answered(answer, place, number, 0, 0, 0) && (length[0] == 0) == (number == 16);
-    tell(run, poke->words, good && memcmp(before, book, sizeof before) == 0);
+    tell(run, poke->words, book_is_kept(run->side, poke->kept));
+}
+
+/* A stop point behind those of the whole case, which no block names: only the rule of the points themselves can break. */
+struct further_point {
+    const char *words;
+    uint64_t key[3];
+    int kept;
+};
+
+static const struct further_point further_points[] = {
+    {"C1-07 another point of a stop", {1, 31, 3}, 1},
+    {"C1-07 point 99", {1, 31, 99}, 1},
+    {"C1-07 point 100", {1, 31, 100}, 0},
+    {"C1-07 a point twice", {1, 31, 2}, 0},
+    {"C1-07 a point below the last one", {1, 31, 1}, 0},
+    {"C1-07 a point of a stop below the last one's", {1, 20, 9}, 0},
+    {"C1-07 a point whose stop is not there", {1, 32, 0}, 0},
+    {"C1-07 a point whose stop is of another version", {2, 31, 2}, 0},
+    {"C1-07 a point of stop 100000", {1, 100000, 2}, 0},
+};
+
+static void run_further_point(struct run *run, const struct further_point *point)
+{
+    uint64_t place[4];
+
+    read_into_book(run->side, whole_case, place);
+    memcpy(book[POINTS_AT + 2], point->key, sizeof point->key);
+    tell(run, point->words, book_is_kept(run->side, point->kept));
 }
 
 /* "16; 1": a book that breaks the rule and a slip that is too long. */
@@ -863,7 +995,7 @@ static void run_book_before_slip(struct run *run)
     uint64_t place[4], answer;
 
     read_into_book(run->side, whole_case, place);
-    book[2047][10] = 1;
+    book[BOOK_ROWS - 1][10] = 1;
     slip = slip_of_65536();
     put(&slip, "x");
     answer = slip_on_book(run->side, done(&slip), place);
@@ -885,6 +1017,8 @@ void edges_run(const struct side *side, size_t *passed, size_t *failed)
         run_cell(&run, &cell_edges[i]);
     for (i = 0; i < COUNT(pokes); i++)
         run_poke(&run, &pokes[i]);
+    for (i = 0; i < COUNT(further_points); i++)
+        run_further_point(&run, &further_points[i]);
     run_long_tables(&run);
     run_long_texts(&run);
     run_full_book(&run);

@@ -1,5 +1,6 @@
-/* The second reader. Each rule stands below the sentence of document 01 that it follows, in quotation marks. Searches
- * walk from the first row to the last: what is compared with the library should be plain enough to be believed. */
+/* The second reader. Each rule stands below the sentence of document 01 that it follows, in quotation marks; a sentence of
+ * document 02 has its request's number before it. Searches walk from the first row to the last: what is compared with the
+ * library should be plain enough to be believed. */
 #include "reader.h"
 
 #include "columns.h"
@@ -7,9 +8,6 @@
 #include <string.h>
 
 enum { ROWS = 512, NUMBERS = 11, BOOK_ROWS = TABLES * ROWS, WORK_ROWS = ROWS, TEXT_BYTES = 65536, HEADER_CELLS = 32 };
-
-/* The slip has a table number in places only. */
-enum { SLIP = 5 };
 
 /* Rows that are only looked at. */
 typedef const uint64_t (*rows_in)[NUMBERS];
@@ -330,15 +328,22 @@ static void delete(uint64_t (*rows)[NUMBERS], size_t at)
 /* The 512 rows of one table in a book. */
 static uint64_t (*rows_of(uint64_t (*book)[NUMBERS], unsigned t))[NUMBERS]
 {
-    return book + (size_t)ROWS * (t - 1);
+    return book + (size_t)ROWS * part_of(t);
 }
 
 static rows_in rows_of_in(rows_in book, unsigned t)
 {
-    return book + (size_t)ROWS * (t - 1);
+    return book + (size_t)ROWS * part_of(t);
 }
 
-/* ---- What holds between a block's numbers, and between the block and the book */
+/* "The book holds the keys of tables 1 to 3 and the 11 numbers of each block"; of "a table added later" it "keeps its keys
+ * and the numbers asked of it", and a stop point is asked for its key alone. */
+static unsigned kept_numbers(unsigned t)
+{
+    return t == VEHICLE_BLOCK ? NUMBERS : tables[t].key_width;
+}
+
+/* ---- What holds between a row's numbers, and between the row and the book */
 
 /* "11 | END below BEGIN" */
 static int end_below_begin(const uint64_t block[NUMBERS])
@@ -355,9 +360,26 @@ static int refers(rows_in book, unsigned t, uint64_t version, uint64_t number)
     return find(rows_of_in(book, t), key, 2) < ROWS;
 }
 
+static int refers_to_point(rows_in book, uint64_t version, uint64_t stop, uint64_t point)
+{
+    uint64_t key[3];
+
+    key[0] = version;
+    key[1] = stop;
+    key[2] = point;
+    return find(rows_of_in(book, STOP_POINT), key, 3) < ROWS;
+}
+
+/* 1/13: "A stop point must name a known stop"; "for a stop point, column 2". The column, or 0. */
+static uint64_t point_lost_reference(rows_in book, const uint64_t point[NUMBERS])
+{
+    return refers(book, STOP, point[0], point[1]) ? 0 : 2;
+}
+
 /* "References of a block, each together with VERSION: column 3 to depot, 5 to vehicle_type, 6 and 9 to stop."
- * The lowest column whose reference finds no row, or 0: "10 by column number". */
-static uint64_t lost_reference(rows_in book, const uint64_t block[NUMBERS])
+ * 1/13: "columns 6 with 7 and 9 with 10 of a block must name a known point"; "10 for a block's point names column 7 or 10,
+ * after the stop's own". The lowest column whose reference finds no row, or 0: "10 by column number". */
+static uint64_t block_lost_reference(rows_in book, const uint64_t block[NUMBERS])
 {
     uint64_t version = block[B_VERSION];
 
@@ -367,8 +389,22 @@ static uint64_t lost_reference(rows_in book, const uint64_t block[NUMBERS])
         return 5;
     if (!refers(book, STOP, version, block[B_DEP_STOP]))
         return 6;
+    if (!refers_to_point(book, version, block[B_DEP_STOP], block[B_DEP_POINT]))
+        return 7;
     if (!refers(book, STOP, version, block[B_ARR_STOP]))
         return 9;
+    if (!refers_to_point(book, version, block[B_ARR_STOP], block[B_ARR_POINT]))
+        return 10;
+    return 0;
+}
+
+/* The same for a row of any table: those of the first three refer to nothing. */
+static uint64_t lost_reference(rows_in book, unsigned t, const uint64_t numbers[NUMBERS])
+{
+    if (t == STOP_POINT)
+        return point_lost_reference(book, numbers);
+    if (t == VEHICLE_BLOCK)
+        return block_lost_reference(book, numbers);
     return 0;
 }
 
@@ -435,11 +471,10 @@ static uint64_t read_row(unsigned t, const uint8_t *text, struct line line, uint
     if (find((rows_in)rows, numbers, table->key_width) < ROWS)
         return refuse(place, 9, t, line_number, 0);
     /* "10 | reference finds no row | line, column" */
-    column = t == VEHICLE_BLOCK ? lost_reference((rows_in)book, numbers) : 0;
+    column = lost_reference((rows_in)book, t, numbers);
     if (column)
         return refuse(place, 10, t, line_number, column);
-    /* "The book holds the keys of tables 1 to 3 and the 11 numbers of each block" */
-    memcpy(row, numbers, (t == VEHICLE_BLOCK ? NUMBERS : table->key_width) * sizeof row[0]);
+    memcpy(row, numbers, kept_numbers(t) * sizeof row[0]);
     insert(rows, row, table->key_width);
     return 0;
 }
@@ -468,27 +503,29 @@ static uint64_t read_table(unsigned t, const uint8_t *text, size_t length, uint6
 }
 
 uint64_t second_read(const uint8_t *vehicle_type, size_t vehicle_type_length, const uint8_t *depot, size_t depot_length,
-    const uint8_t *stop, size_t stop_length, const uint8_t *vehicle_block, size_t vehicle_block_length,
-    uint64_t (*book)[11], size_t rows, uint64_t place[4])
+    const uint8_t *stop, size_t stop_length, const uint8_t *stop_point, size_t stop_point_length,
+    const uint8_t *vehicle_block, size_t vehicle_block_length, uint64_t (*book)[11], size_t rows, uint64_t place[4])
 {
-    const uint8_t *texts[TABLES];
-    size_t lengths[TABLES];
-    unsigned t;
+    const uint8_t *texts[LAST_TABLE + 1];
+    size_t lengths[LAST_TABLE + 1];
+    unsigned i;
 
     /* "one lent at another length is 16, before all else: that one stays as it came" */
     if (rows != BOOK_ROWS)
         return refuse_without_place(place, 16);
-    texts[0] = vehicle_type, lengths[0] = vehicle_type_length;
-    texts[1] = depot, lengths[1] = depot_length;
-    texts[2] = stop, lengths[2] = stop_length;
-    texts[3] = vehicle_block, lengths[3] = vehicle_block_length;
+    texts[VEHICLE_TYPE] = vehicle_type, lengths[VEHICLE_TYPE] = vehicle_type_length;
+    texts[DEPOT] = depot, lengths[DEPOT] = depot_length;
+    texts[STOP] = stop, lengths[STOP] = stop_length;
+    texts[STOP_POINT] = stop_point, lengths[STOP_POINT] = stop_point_length;
+    texts[VEHICLE_BLOCK] = vehicle_block, lengths[VEHICLE_BLOCK] = vehicle_block_length;
     /* What the book held does not matter: it is filled anew. */
     memset(book, 0, BOOK_ROWS * sizeof book[0]);
-    /* "in this order: tables 1 to 4" */
-    for (t = 1; t <= TABLES; t++) {
-        uint64_t number = read_table(t, texts[t - 1], lengths[t - 1], book, place);
+    /* "in this order: tables 1 to 4"; 1/13: "between stop and vehicle_block" */
+    for (i = 0; i < TABLES; i++) {
+        unsigned t = reading_order[i];
+        uint64_t number = read_table(t, texts[t], lengths[t], book, place);
 
-        /* "A refused reading leaves an empty book, which is the book of four tables without rows." */
+        /* "A refused reading leaves an empty book, which is the book of four tables without rows." Now it is five. */
         if (number) {
             memset(book, 0, BOOK_ROWS * sizeof book[0]);
             return number;
@@ -513,7 +550,7 @@ static int is_zero(const uint64_t *numbers, size_t count)
 static int table_keeps_rule(rows_in rows, unsigned t)
 {
     const struct table *table = &tables[t];
-    unsigned kept = t == VEHICLE_BLOCK ? NUMBERS : table->key_width;
+    unsigned kept = kept_numbers(t);
     size_t n = used(rows);
     size_t i;
     unsigned c;
@@ -539,17 +576,20 @@ static int table_keeps_rule(rows_in rows, unsigned t)
  * of its own rows in their order: 512 rows of full width stay far below 65,536 bytes in each table. */
 static int keeps_book_rule(rows_in book)
 {
-    rows_in blocks = rows_of_in(book, VEHICLE_BLOCK);
-    size_t n, i;
-    unsigned t;
+    unsigned part;
 
-    for (t = 1; t <= TABLES; t++)
-        if (!table_keeps_rule(rows_of_in(book, t), t))
+    for (part = 0; part < TABLES; part++) {
+        unsigned t = reading_order[part];
+        rows_in rows = rows_of_in(book, t);
+        size_t n, i;
+
+        if (!table_keeps_rule(rows, t))
             return 0;
-    n = used(blocks);
-    for (i = 0; i < n; i++)
-        if (end_below_begin(blocks[i]) || lost_reference(book, blocks[i]))
-            return 0;
+        n = used(rows);
+        for (i = 0; i < n; i++)
+            if ((t == VEHICLE_BLOCK && end_below_begin(rows[i])) || lost_reference(book, t, rows[i]))
+                return 0;
+    }
     return 1;
 }
 
@@ -609,7 +649,7 @@ uint64_t second_cell(const uint8_t *text, size_t length, uint64_t table, uint64_
     memset(answer, 0, 4 * sizeof answer[0]);
     /* "Checks: 15 for table or column, 1, header faults, 15 for the line (line 1 included), then 6 and 7 for that line and
      * 8 for that cell. Other rows and 5 do not matter." */
-    if (table < 1 || table > TABLES)
+    if (table > LAST_TABLE || tables[table].column_count == 0)
         return refuse_without_place(place, 15);
     t = (unsigned)table;
     if (column < 1 || column > tables[t].column_count)
@@ -792,7 +832,7 @@ static uint64_t take_slip_line(const uint8_t *slip, struct line line, uint64_t l
     /* "13 | slip names a block not in the book" */
     if (kind != 'A' && at == ROWS)
         return refuse(place, 13, SLIP, line_number, 0);
-    column = kind == 'D' ? 0 : lost_reference(book, numbers);
+    column = kind == 'D' ? 0 : block_lost_reference(book, numbers);
     if (column)
         return refuse(place, 10, SLIP, line_number, column);
     if (kind == 'A')

@@ -3,10 +3,12 @@
 #ifndef SECOND_SIDES_H
 #define SECOND_SIDES_H
 
+#include "columns.h"
+
 #include <stddef.h>
 #include <stdint.h>
 
-enum { NUMBERS = 11, TABLE_ROWS = 512, BOOK_ROWS = 2048, WORK_ROWS = 512 };
+enum { NUMBERS = 11, TABLE_ROWS = 512, BOOK_ROWS = TABLES * TABLE_ROWS, WORK_ROWS = 512 };
 
 typedef uint64_t row[NUMBERS];
 
@@ -19,7 +21,7 @@ struct text {
 struct side {
     const char *name;
     uint64_t (*read)(const uint8_t *, size_t, const uint8_t *, size_t, const uint8_t *, size_t, const uint8_t *, size_t,
-        row *book, size_t rows, uint64_t place[4]);
+        const uint8_t *, size_t, row *book, size_t rows, uint64_t place[4]);
     uint64_t (*slip)(const uint8_t *, size_t, row *book, size_t rows, row *work, size_t work_rows, uint64_t place[4]);
     uint64_t (*cell)(const uint8_t *, size_t, uint64_t table, uint64_t line, uint64_t column, uint64_t answer[4],
         uint64_t place[4]);
@@ -37,11 +39,12 @@ extern const struct side library_side;
 /* The second reader. */
 extern const struct side second_side;
 
-/* A reading of four texts at once. */
-static inline uint64_t side_read(const struct side *side, const struct text t[4], row *book, size_t rows, uint64_t place[4])
+/* A reading of a delivery's texts at once; they stand in the order of reading. */
+static inline uint64_t side_read(const struct side *side, const struct text t[TABLES], row *book, size_t rows,
+    uint64_t place[4])
 {
     return side->read(t[0].bytes, t[0].length, t[1].bytes, t[1].length, t[2].bytes, t[2].length, t[3].bytes, t[3].length,
-        book, rows, place);
+        t[4].bytes, t[4].length, book, rows, place);
 }
 
 #endif

@@ -36,13 +36,14 @@ pub extern "C" fn workshop_read(
     vehicle_type: &[u8],
     depot: &[u8],
     stop: &[u8],
+    stop_point: &[u8],
     vehicle_block: &[u8],
     book: &mut [Row],
     place: &mut [u64; 4],
 ) -> u64
-    ensures { λ r. ⌜ Tells r (now (place .exit)) (readCall (delivery (now («vehicle_type» .entry)) (now (depot .entry)) (now (stop .entry)) (now («vehicle_block» .entry))) (now (book .entry)) .verdict) × (now (book .exit) ≡ readCall (delivery (now («vehicle_type» .entry)) (now (depot .entry)) (now (stop .entry)) (now («vehicle_block» .entry))) (now (book .entry)) .book) ⌝ }
+    ensures { λ r. ⌜ Tells r (now (place .exit)) (readCall (delivery (now («vehicle_type» .entry)) (now (depot .entry)) (now (stop .entry)) (now («stop_point» .entry)) (now («vehicle_block» .entry))) (now (book .entry)) .verdict) × (now (book .exit) ≡ readCall (delivery (now («vehicle_type» .entry)) (now (depot .entry)) (now (stop .entry)) (now («stop_point» .entry)) (now («vehicle_block» .entry))) (now (book .entry)) .book) ⌝ }
 {
-    let told = on_paper(reading::read(vehicle_type, depot, stop, vehicle_block, book));
+    let told = on_paper(reading::read(vehicle_type, depot, stop, stop_point, vehicle_block, book));
     *place = told;
     told[0]
 }

@@ -14,7 +14,7 @@ use Rattle.refusals.specs.Verdicts.{passes}
 use Rattle.tables.specs.Columns.{Column, columnsOf, columnAt, noColumn, keyWidth, keptWidth, partOf, inRange}
 use Rattle.tables.specs.declared.Rules.{Rules}
 use Rattle.tables.specs.declared.Table.{Table}
-use Rattle.tables.specs.declared.Table.the-variants.{VehicleType, Depot, Stop, Block}
+use Rattle.tables.specs.declared.Table.the-variants.{VehicleType, Depot, Stop, StopPoint, Block}
 use Rattle.tables.proofs.Figures.{kept-columns, kept-few}
 use Rattle.rows.specs.Rows.{wide, rising}
 use Rattle.rows.specs.Room.{filled, used, Holds, sameRows, holds}
@@ -139,6 +139,24 @@ all-at f d (x ∷ xs) e (suc i) h = all-at f d xs (and-right (f x) (all f xs) e)
 
 -- the whole slice ----------------------------------------------------------------------------------------------------------------------
 
+module _ (b : Book) where
+  pub tables-lawful : lawfulBook b ≡ true → (t : Table) → lawfulTable t b ≡ true
+  tables-lawful e t =
+      let four = and-left _ (lawfulTable Block b) e in
+      let three = and-left _ (lawfulTable StopPoint b) four in
+      let two = and-left _ (lawfulTable Stop b) three in
+      go four three two t
+    where
+      go : (lawfulTable VehicleType b && lawfulTable Depot b && lawfulTable Stop b && lawfulTable StopPoint b) ≡ true
+          → (lawfulTable VehicleType b && lawfulTable Depot b && lawfulTable Stop b) ≡ true → (lawfulTable VehicleType b && lawfulTable Depot b) ≡ true
+          → (t : Table) → lawfulTable t b ≡ true
+      go four three two VehicleType = and-left (lawfulTable VehicleType b) (lawfulTable Depot b) two
+      go four three two Depot = and-right (lawfulTable VehicleType b) (lawfulTable Depot b) two
+      go four three two Stop = and-right (lawfulTable VehicleType b && lawfulTable Depot b) (lawfulTable Stop b) three
+      go four three two StopPoint = and-right (lawfulTable VehicleType b && lawfulTable Depot b && lawfulTable Stop b) (lawfulTable StopPoint b) four
+      go four three two Block =
+          and-right (lawfulTable VehicleType b && lawfulTable Depot b && lawfulTable Stop b && lawfulTable StopPoint b) (lawfulTable Block b) e
+
 module _ (xs : List Row) where
   abbrev book : Book
   book = bookOf xs
@@ -146,24 +164,18 @@ module _ (xs : List Row) where
   abbrev pub lawfulRows : Table → Bool
   lawfulRows t = all (lawful t book) (rows t book)
 
-  tables-lawful : lawfulBook book ≡ true → (t : Table) → lawfulTable t book ≡ true
-  tables-lawful e VehicleType = and-left (lawfulTable VehicleType book) (lawfulTable Depot book) (and-left _ (lawfulTable Stop book) (and-left _ (lawfulTable Block book) e))
-  tables-lawful e Depot = and-right (lawfulTable VehicleType book) (lawfulTable Depot book) (and-left _ (lawfulTable Stop book) (and-left _ (lawfulTable Block book) e))
-  tables-lawful e Stop = and-right (lawfulTable VehicleType book && lawfulTable Depot book) (lawfulTable Stop book) (and-left _ (lawfulTable Block book) e)
-  tables-lawful e Block = and-right (lawfulTable VehicleType book && lawfulTable Depot book && lawfulTable Stop book) (lawfulTable Block book) e
-
   module _ (keeps : keepsRule xs ≡ true) where
-    front : (eqb (length xs) 2048 && lawfulBook book) ≡ true
-    front = and-left (eqb (length xs) 2048 && lawfulBook book) (sameRows xs (laid book)) keeps
+    front : (eqb (length xs) 2560 && lawfulBook book) ≡ true
+    front = and-left (eqb (length xs) 2560 && lawfulBook book) (sameRows xs (laid book)) keeps
 
-    pub keeps-length : length xs ≡ 2048
-    keeps-length = eqb-true (length xs) 2048 (and-left (eqb (length xs) 2048) (lawfulBook book) front)
+    pub keeps-length : length xs ≡ 2560
+    keeps-length = eqb-true (length xs) 2560 (and-left (eqb (length xs) 2560) (lawfulBook book) front)
 
     keeps-laid : xs ≡ laid book
-    keeps-laid = sameRows-true xs (laid book) (and-right (eqb (length xs) 2048 && lawfulBook book) (sameRows xs (laid book)) keeps)
+    keeps-laid = sameRows-true xs (laid book) (and-right (eqb (length xs) 2560 && lawfulBook book) (sameRows xs (laid book)) keeps)
 
     keeps-table : (t : Table) → lawfulTable t book ≡ true
-    keeps-table t = tables-lawful (and-right (eqb (length xs) 2048) (lawfulBook book) front) t
+    keeps-table t = tables-lawful book (and-right (eqb (length xs) 2560) (lawfulBook book) front) t
 
     few : (t : Table) → length (rows t book) ≤ 512
     few t = rw (rows-part t xs) (omega (arith, used-within (part (partOf t) xs), length-part xs keeps-length t))
@@ -188,8 +200,8 @@ module _ (xs : List Row) where
     keeps-row t i h = all-at (lawful t book) [] (rows t book) (keeps-rows t) i h
 
   -- the other way round: a slice that is none, or whose parts are none, breaks the rule
-  pub breaks-length : (length xs ≡ 2048 → ⊥) → keepsRule xs ≡ false
-  breaks-length n = rw (ne-eqb (length xs) 2048 n)
+  pub breaks-length : (length xs ≡ 2560 → ⊥) → keepsRule xs ≡ false
+  breaks-length n = rw (ne-eqb (length xs) 2560 n)
 
   breaks-where : (b : Bool) → b ≡ false → (keepsRule xs ≡ true → b ≡ true) → keepsRule xs ≡ false
   breaks-where b e h = go (keepsRule xs) refl
@@ -204,13 +216,13 @@ module _ (xs : List Row) where
   pub breaks-rows : (t : Table) → lawfulRows t ≡ false → keepsRule xs ≡ false
   breaks-rows t e = breaks-where (lawfulRows t) e (λ k. keeps-rows k t)
 
-  pub parts-sound : length xs ≡ 2048 → ((t : Table) → holds (keyWidth t) (part (partOf t) xs) ≡ true) → Sound xs
+  pub parts-sound : length xs ≡ 2560 → ((t : Table) → holds (keyWidth t) (part (partOf t) xs) ≡ true) → Sound xs
   parts-sound l h = record { long = l; tables = λ t. holds-true (keyWidth t) (part (partOf t) xs) (h t) }
 
-  -- of a sound slice whose first three tables are lawful, the blocks are left to be asked
-  pub sound-blocks : Sound xs → lawfulRows VehicleType ≡ true → lawfulRows Depot ≡ true → lawfulRows Stop ≡ true → keepsRule xs ≡ lawfulRows Block
-  sound-blocks s e f g =
-      rw (eq-eqb (length xs) 2048 (s .long), laid-book xs s, sameRows-refl xs, table VehicleType, table Depot, table Stop, table Block, e, f, g) (and-true (lawfulRows Block))
+  -- of a sound slice whose other tables are lawful, the blocks are left to be asked
+  pub sound-blocks : Sound xs → lawfulRows VehicleType ≡ true → lawfulRows Depot ≡ true → lawfulRows Stop ≡ true → lawfulRows StopPoint ≡ true → keepsRule xs ≡ lawfulRows Block
+  sound-blocks s e f g h =
+      rw (eq-eqb (length xs) 2560 (s .long), laid-book xs s, sameRows-refl xs, table VehicleType, table Depot, table Stop, table StopPoint, table Block, e, f, g, h) (and-true (lawfulRows Block))
     where
       o : Orderly book
       o = orderly-book xs s
@@ -222,19 +234,20 @@ module _ (xs : List Row) where
       and-true true = refl
       and-true false = refl
 
-  -- the test of the four parts, as the code makes it
+  -- the test of the parts, as the code makes it
   pub breaks : keepsRule xs ≡ false → (_≡_ {A = Bool} false true → Sound xs) × (_≡_ {A = Bool} false false → keepsRule xs ≡ false)
   breaks e = ((λ f. let z : _≡_ {A = ℕ} 0 1 = cc in absurd (omega arith)), (λ f. e))
 
   abbrev pub held : Table → Bool
   held t = holds (keyWidth t) (part (partOf t) xs)
 
-  pub four-parts : length xs ≡ 2048 → held VehicleType ≡ true → held Depot ≡ true → held Stop ≡ true
+  pub all-parts : length xs ≡ 2560 → held VehicleType ≡ true → held Depot ≡ true → held Stop ≡ true → held StopPoint ≡ true
       → (r : Bool) → r ≡ held Block → (r ≡ true → Sound xs) × (r ≡ false → keepsRule xs ≡ false)
-  four-parts l e f g r h = ((λ k. parts-sound l (each k)), (λ k. breaks-part Block (sym h ∙ k)))
+  all-parts l e f g p r h = ((λ k. parts-sound l (each k)), (λ k. breaks-part Block (sym h ∙ k)))
     where
       each : r ≡ true → (t : Table) → held t ≡ true
       each k VehicleType = e
       each k Depot = f
       each k Stop = g
+      each k StopPoint = p
       each k Block = sym h ∙ k

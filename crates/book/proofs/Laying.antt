@@ -1,4 +1,4 @@
--- The four parts of a lent slice and the book that they hold: what is laid out is read again, one part is put in another's place, and what
+-- The five parts of a lent slice and the book that they hold: what is laid out is read again, one part is put in another's place, and what
 -- changes keep a book in order. Assumes nothing.
 use mathlib.Core.Path.{_≡_, refl, sym, ap, _∙_}
 use mathlib.Core.List.{List, [], _++_, append-assoc, append-nil}
@@ -12,7 +12,7 @@ use borrow.Author.Tests.{leb-false}
 use Rattle.words.specs.Words.{Row}
 use Rattle.tables.specs.Columns.{keyWidth, partOf}
 use Rattle.tables.specs.declared.Table.{Table}
-use Rattle.tables.specs.declared.Table.the-variants.{VehicleType, Depot, Stop, Block}
+use Rattle.tables.specs.declared.Table.the-variants.{VehicleType, Depot, Stop, StopPoint, Block}
 use Rattle.tables.proofs.Figures.{part-below, keys-some}
 use Rattle.rows.specs.Rows.{column, replaced, removed, rising}
 use Rattle.rows.specs.Room.{zeros, filled, used, Holds, holds}
@@ -31,22 +31,23 @@ module _ {A : Type 0} (p q r : List A) (i m : ℕ) (lp : length p ≡ i) (lq : l
   put-between : (y : List A) → take i (p ++ (q ++ r)) ++ (y ++ drop m (drop i (p ++ (q ++ r)))) ≡ p ++ (y ++ r)
   put-between y = rw (take-at p (q ++ r) i lp, drop-at p (q ++ r) i lp, drop-at q r m lq)
 
--- the four parts ------------------------------------------------------------------------------------------------------------------
+-- the five parts ------------------------------------------------------------------------------------------------------------------
 
--- a slice is its four parts
-module _ (xs : List Row) (long : length xs ≡ 2048) where
+-- a slice is its five parts
+module _ (xs : List Row) (long : length xs ≡ 2560) where
   pub length-part : (t : Table) → length (part (partOf t) xs) ≡ 512
   length-part t = simp (length-take, length-drop) (omega (arith, part-below t))
 
   rest-of : (i j : ℕ) → j ≡ i + 512 → drop i xs ≡ take 512 (drop i xs) ++ drop j xs
   rest-of i j e = sym (rw (drop-drop 512 i xs, ← e) at (take-append-drop 512 (drop i xs)))
 
-  parts : xs ≡ part 0 xs ++ (part 1 xs ++ (part 2 xs ++ part 3 xs))
+  parts : xs ≡ part 0 xs ++ (part 1 xs ++ (part 2 xs ++ (part 3 xs ++ part 4 xs)))
   parts =
       rest-of 0 512 refl
       ∙ ap (λ (l : List Row). part 0 xs ++ l) (rest-of 512 1024 refl
       ∙ ap (λ (l : List Row). part 1 xs ++ l) (rest-of 1024 1536 refl
-      ∙ ap (λ (l : List Row). part 2 xs ++ l) (sym (take-all 512 (drop 1536 xs) (simp length-drop (omega arith))))))
+      ∙ ap (λ (l : List Row). part 2 xs ++ l) (rest-of 1536 2048 refl
+      ∙ ap (λ (l : List Row). part 3 xs ++ l) (sym (take-all 512 (drop 2048 xs) (simp length-drop (omega arith)))))))
 
 -- a part of the book as the code lends it
 pub part-lent : (t : Table) (xs : List Row) (from : ℕ) → from ≡ partOf t * 512 → take (from + 512 - from) (drop from xs) ≡ part (partOf t) xs
@@ -60,6 +61,7 @@ pub rows-part : (t : Table) (xs : List Row) → rows t (bookOf xs) ≡ used (par
 rows-part VehicleType xs = refl
 rows-part Depot xs = refl
 rows-part Stop xs = refl
+rows-part StopPoint xs = refl
 rows-part Block xs = refl
 
 -- a table of a sound slice, by the part that is lent
@@ -85,7 +87,7 @@ part-row : (t : Table) (xs : List Row) (from i : ℕ) → from ≡ partOf t * 51
 part-row t xs from i e m =
     getD-take 512 (drop (partOf t * 512) xs) i [] m ∙ getD-drop (partOf t * 512) xs i [] ∙ ap (λ (n : ℕ). getD xs (n + i) []) (sym e)
 
-pub row-at : (t : Table) (xs : List Row) (from i : ℕ) → from ≡ partOf t * 512 → length xs ≡ 2048 → i < length (rows t (bookOf xs)) → getD (rows t (bookOf xs)) i [] ≡ getD xs (from + i) []
+pub row-at : (t : Table) (xs : List Row) (from i : ℕ) → from ≡ partOf t * 512 → length xs ≡ 2560 → i < length (rows t (bookOf xs)) → getD (rows t (bookOf xs)) i [] ≡ getD xs (from + i) []
 row-at t xs from i e l h =
     let us = used (part (partOf t) xs) in
     let g : i < length us = rw (rows-part t xs) at h in
@@ -114,40 +116,59 @@ pub record Orderly (b : Book) : Type 0 where
 
 -- two books are the same by their tables
 pub same-book : (a b : Book) → ((t : Table) → rows t a ≡ rows t b) → a ≡ b
-same-book a b e = go (a .types) (a .depots) (a .stops) (a .blocks) (e VehicleType) (e Depot) (e Stop) (e Block)
+same-book a b e = go (a .types) (a .depots) (a .stops) (a .points) (a .blocks) (e VehicleType) (e Depot) (e Stop) (e StopPoint) (e Block)
   where
-    go : (p q r s : List Row) → p ≡ b .types → q ≡ b .depots → r ≡ b .stops → s ≡ b .blocks → _≡_ {A = Book} (record { types = p; depots = q; stops = r; blocks = s }) b
-    go p q r s e0 e1 e2 e3 = rw (e0, e1, e2, e3)
+    go : (p q r s t : List Row) → p ≡ b .types → q ≡ b .depots → r ≡ b .stops → s ≡ b .points → t ≡ b .blocks
+        → _≡_ {A = Book} (record { types = p; depots = q; stops = r; points = s; blocks = t }) b
+    go p q r s t e0 e1 e2 e3 e4 = rw (e0, e1, e2, e3, e4)
 
 pub rows-with : (t : Table) (ys : List Row) (b : Book) → rows t (with-rows t ys b) ≡ ys
 rows-with VehicleType ys b = refl
 rows-with Depot ys b = refl
 rows-with Stop ys b = refl
+rows-with StopPoint ys b = refl
 rows-with Block ys b = refl
 
 pub with-same : (t : Table) (b : Book) → with-rows t (rows t b) b ≡ b
 with-same VehicleType b = refl
 with-same Depot b = refl
 with-same Stop b = refl
+with-same StopPoint b = refl
 with-same Block b = refl
 
+pub rows-empty : (t : Table) → rows t empty ≡ []
+rows-empty VehicleType = refl
+rows-empty Depot = refl
+rows-empty Stop = refl
+rows-empty StopPoint = refl
+rows-empty Block = refl
+
 -- what holds of a table's new rows, and of the rows of every table before, holds of the rows of every table
-every-table : (P : Table → List Row → Type 0) (b : Book) (t : Table) (ys : List Row) → P t ys → ((u : Table) → P u (rows u b)) → (u : Table) → P u (rows u (with-rows t ys b))
+pub every-table : (P : Table → List Row → Type 0) (b : Book) (t : Table) (ys : List Row) → P t ys → ((u : Table) → P u (rows u b)) → (u : Table) → P u (rows u (with-rows t ys b))
 every-table P b VehicleType ys h k VehicleType = h
 every-table P b VehicleType ys h k Depot = k Depot
 every-table P b VehicleType ys h k Stop = k Stop
+every-table P b VehicleType ys h k StopPoint = k StopPoint
 every-table P b VehicleType ys h k Block = k Block
 every-table P b Depot ys h k VehicleType = k VehicleType
 every-table P b Depot ys h k Depot = h
 every-table P b Depot ys h k Stop = k Stop
+every-table P b Depot ys h k StopPoint = k StopPoint
 every-table P b Depot ys h k Block = k Block
 every-table P b Stop ys h k VehicleType = k VehicleType
 every-table P b Stop ys h k Depot = k Depot
 every-table P b Stop ys h k Stop = h
+every-table P b Stop ys h k StopPoint = k StopPoint
 every-table P b Stop ys h k Block = k Block
+every-table P b StopPoint ys h k VehicleType = k VehicleType
+every-table P b StopPoint ys h k Depot = k Depot
+every-table P b StopPoint ys h k Stop = k Stop
+every-table P b StopPoint ys h k StopPoint = h
+every-table P b StopPoint ys h k Block = k Block
 every-table P b Block ys h k VehicleType = k VehicleType
 every-table P b Block ys h k Depot = k Depot
 every-table P b Block ys h k Stop = k Stop
+every-table P b Block ys h k StopPoint = k StopPoint
 every-table P b Block ys h k Block = h
 
 -- what stands before and behind a table in the slice
@@ -157,30 +178,61 @@ record Around (t : Table) (b : Book) : Type 0 where
   long : length front ≡ partOf t * 512
   is : (ys : List Row) → laid (with-rows t ys b) ≡ front ++ (filled 512 ys ++ behind)
 
+three-long : (b : Book) → ((t : Table) → length (rows t b) ≤ 512) → length (filled 512 (b .types) ++ (filled 512 (b .depots) ++ filled 512 (b .stops))) ≡ 1536
+three-long b few =
+    omega (
+      arith,
+      length-append (filled 512 (b .types)) (filled 512 (b .depots) ++ filled 512 (b .stops)),
+      length-append (filled 512 (b .depots)) (filled 512 (b .stops)),
+      length-filled 512 (b .types) (few VehicleType),
+      length-filled 512 (b .depots) (few Depot),
+      length-filled 512 (b .stops) (few Stop),
+    )
+
+three-apart : (b : Book) (xs : List Row)
+    → filled 512 (b .types) ++ (filled 512 (b .depots) ++ (filled 512 (b .stops) ++ xs)) ≡ (filled 512 (b .types) ++ (filled 512 (b .depots) ++ filled 512 (b .stops))) ++ xs
+three-apart b xs = rw (append-assoc (filled 512 (b .types)) (filled 512 (b .depots) ++ filled 512 (b .stops)) xs, append-assoc (filled 512 (b .depots)) (filled 512 (b .stops)) xs)
+
 around : (b : Book) → ((t : Table) → length (rows t b) ≤ 512) → (t : Table) → Around t b
-around b few VehicleType = record { front = []; behind = filled 512 (b .depots) ++ (filled 512 (b .stops) ++ filled 512 (b .blocks)); long = refl; is = λ ys. refl }
-around b few Depot = record { front = filled 512 (b .types); behind = filled 512 (b .stops) ++ filled 512 (b .blocks); long = length-filled 512 (b .types) (few VehicleType); is = λ ys. refl }
+around b few VehicleType =
+    record { front = []; behind = filled 512 (b .depots) ++ (filled 512 (b .stops) ++ (filled 512 (b .points) ++ filled 512 (b .blocks))); long = refl; is = λ ys. refl }
+around b few Depot =
+    record {
+      front = filled 512 (b .types);
+      behind = filled 512 (b .stops) ++ (filled 512 (b .points) ++ filled 512 (b .blocks));
+      long = length-filled 512 (b .types) (few VehicleType);
+      is = λ ys. refl;
+    }
 around b few Stop =
     record {
       front = filled 512 (b .types) ++ filled 512 (b .depots);
-      behind = filled 512 (b .blocks);
+      behind = filled 512 (b .points) ++ filled 512 (b .blocks);
       long = omega (arith, length-append (filled 512 (b .types)) (filled 512 (b .depots)), length-filled 512 (b .types) (few VehicleType), length-filled 512 (b .depots) (few Depot));
-      is = λ ys. sym (append-assoc (filled 512 (b .types)) (filled 512 (b .depots)) (filled 512 ys ++ filled 512 (b .blocks)));
+      is = λ ys. sym (append-assoc (filled 512 (b .types)) (filled 512 (b .depots)) (filled 512 ys ++ (filled 512 (b .points) ++ filled 512 (b .blocks))));
+    }
+around b few StopPoint =
+    record {
+      front = filled 512 (b .types) ++ (filled 512 (b .depots) ++ filled 512 (b .stops));
+      behind = filled 512 (b .blocks);
+      long = three-long b few;
+      is = λ ys. three-apart b (filled 512 ys ++ filled 512 (b .blocks));
     }
 around b few Block =
     record {
-      front = filled 512 (b .types) ++ (filled 512 (b .depots) ++ filled 512 (b .stops));
+      front = filled 512 (b .types) ++ (filled 512 (b .depots) ++ (filled 512 (b .stops) ++ filled 512 (b .points)));
       behind = [];
       long =
           omega (
             arith,
-            length-append (filled 512 (b .types)) (filled 512 (b .depots) ++ filled 512 (b .stops)),
-            length-append (filled 512 (b .depots)) (filled 512 (b .stops)),
+            length-append (filled 512 (b .types)) (filled 512 (b .depots) ++ (filled 512 (b .stops) ++ filled 512 (b .points))),
+            length-append (filled 512 (b .depots)) (filled 512 (b .stops) ++ filled 512 (b .points)),
+            length-append (filled 512 (b .stops)) (filled 512 (b .points)),
             length-filled 512 (b .types) (few VehicleType),
             length-filled 512 (b .depots) (few Depot),
             length-filled 512 (b .stops) (few Stop),
+            length-filled 512 (b .points) (few StopPoint),
           );
-      is = λ ys. rw (append-nil (filled 512 ys), append-assoc (filled 512 (b .types)) (filled 512 (b .depots) ++ filled 512 (b .stops)) (filled 512 ys), append-assoc (filled 512 (b .depots)) (filled 512 (b .stops)) (filled 512 ys));
+      is = λ ys. rw (append-nil (filled 512 ys), append-assoc (filled 512 (b .types)) (filled 512 (b .depots) ++ (filled 512 (b .stops) ++ filled 512 (b .points))) (filled 512 ys), append-assoc (filled 512 (b .depots)) (filled 512 (b .stops) ++ filled 512 (b .points)) (filled 512 ys), append-assoc (filled 512 (b .stops)) (filled 512 (b .points)) (filled 512 ys));
     }
 
 module _ (b : Book) (few : (t : Table) → length (rows t b) ≤ 512) (t : Table) where
@@ -207,13 +259,14 @@ module _ (b : Book) (orderly : Orderly b) where
   pub book-laid : bookOf (laid b) ≡ b
   book-laid = same-book (bookOf (laid b)) b (λ t. rows-part t (laid b) ∙ used-laid t)
 
-  length-laid : length (laid b) ≡ 2048
+  length-laid : length (laid b) ≡ 2560
   length-laid =
       let f : (t : Table) → length (filled 512 (rows t b)) ≡ 512 = λ t. length-filled 512 (rows t b) (orderly .few t) in
-      let l2 = length-append (filled 512 (b .stops)) (filled 512 (b .blocks)) in
-      let l1 = length-append (filled 512 (b .depots)) (filled 512 (b .stops) ++ filled 512 (b .blocks)) in
-      let l0 = length-append (filled 512 (b .types)) (filled 512 (b .depots) ++ (filled 512 (b .stops) ++ filled 512 (b .blocks))) in
-      omega (arith, f VehicleType, f Depot, f Stop, f Block)
+      let l3 = length-append (filled 512 (b .points)) (filled 512 (b .blocks)) in
+      let l2 = length-append (filled 512 (b .stops)) (filled 512 (b .points) ++ filled 512 (b .blocks)) in
+      let l1 = length-append (filled 512 (b .depots)) (filled 512 (b .stops) ++ (filled 512 (b .points) ++ filled 512 (b .blocks))) in
+      let l0 = length-append (filled 512 (b .types)) (filled 512 (b .depots) ++ (filled 512 (b .stops) ++ (filled 512 (b .points) ++ filled 512 (b .blocks)))) in
+      omega (arith, f VehicleType, f Depot, f Stop, f StopPoint, f Block)
 
   pub sound-laid : Sound (laid b)
   sound-laid =
@@ -233,10 +286,10 @@ module _ (xs : List Row) (sound : Sound xs) where
   part-filled t = sound .tables t .rest ∙ ap (λ (n : ℕ). filled n (used (part (partOf t) xs))) (length-part xs (sound .long) t)
 
   pub laid-book : laid (bookOf xs) ≡ xs
-  laid-book = sym (parts xs (sound .long) ∙ four (part 0 xs) (part 1 xs) (part 2 xs) (part 3 xs) _ _ _ _ (part-filled VehicleType) (part-filled Depot) (part-filled Stop) (part-filled Block))
+  laid-book = sym (parts xs (sound .long) ∙ five (part 0 xs) (part 1 xs) (part 2 xs) (part 3 xs) (part 4 xs) _ _ _ _ _ (part-filled VehicleType) (part-filled Depot) (part-filled Stop) (part-filled StopPoint) (part-filled Block))
     where
-      four : (a b c d a′ b′ c′ d′ : List Row) → a ≡ a′ → b ≡ b′ → c ≡ c′ → d ≡ d′ → a ++ (b ++ (c ++ d)) ≡ a′ ++ (b′ ++ (c′ ++ d′))
-      four a b c d a′ b′ c′ d′ e f g h = cc
+      five : (a b c d e a′ b′ c′ d′ e′ : List Row) → a ≡ a′ → b ≡ b′ → c ≡ c′ → d ≡ d′ → e ≡ e′ → a ++ (b ++ (c ++ (d ++ e))) ≡ a′ ++ (b′ ++ (c′ ++ (d′ ++ e′)))
+      five a b c d e a′ b′ c′ d′ e′ f g h i j = cc
 
   -- the slice, where the part that was lent comes back with other rows
   pub lent-back : (t : Table) (from : ℕ) → from ≡ partOf t * 512 → (ys zs : List Row) → zs ≡ filled 512 ys
@@ -272,25 +325,7 @@ orderly-with b o t ys f r v =
 
 pub orderly-empty : Orderly empty
 unfolding rising Versioned
-orderly-empty = record { few = few; rises = rises; versioned = versioned }
-  where
-    few : (t : Table) → length (rows t empty) ≤ 512
-    few VehicleType = lit≤ tt
-    few Depot = lit≤ tt
-    few Stop = lit≤ tt
-    few Block = lit≤ tt
-
-    rises : (t : Table) → rising (keyWidth t) (rows t empty) ≡ true
-    rises VehicleType = refl
-    rises Depot = refl
-    rises Stop = refl
-    rises Block = refl
-
-    versioned : (t : Table) → Versioned (rows t empty)
-    versioned VehicleType = tt
-    versioned Depot = tt
-    versioned Stop = tt
-    versioned Block = tt
+orderly-empty = record { few = λ t. rw rows-empty (lit≤ tt); rises = λ t. rw rows-empty; versioned = λ t. rw rows-empty tt }
 
 module _ (b : Book) (o : Orderly b) (t : Table) (row : Row) where
   pub orderly-entered : 1 ≤ column 1 row → full t b ≡ false → Orderly (entered t row b)
@@ -308,9 +343,9 @@ module _ (b : Book) (o : Orderly b) (t : Table) (row : Row) where
       orderly-with b o t _ (omega (arith, length-removed-most (keyWidth t) row (rows t b), o .few t))
       (rising-removed (keyWidth t) row (rows t b) (o .rises t)) (versioned-removed (keyWidth t) row (rows t b) (o .versioned t))
 
--- the empty book: 2048 rows of zeros
-four-alike : {A : Type 0} (m : ℕ) (z : A) → replicate (m + (m + (m + m))) z ≡ replicate m z ++ (replicate m z ++ (replicate m z ++ replicate m z))
-four-alike m z = sym (rw (replicate-append-replicate m m z, replicate-append-replicate m (m + m) z, replicate-append-replicate m (m + (m + m)) z))
+-- the empty book: 2560 rows of zeros
+five-alike : {A : Type 0} (m : ℕ) (z : A) → replicate (m + (m + (m + (m + m)))) z ≡ replicate m z ++ (replicate m z ++ (replicate m z ++ (replicate m z ++ replicate m z)))
+five-alike m z = sym (rw (replicate-append-replicate m m z, replicate-append-replicate m (m + m) z, replicate-append-replicate m (m + (m + m)) z, replicate-append-replicate m (m + (m + (m + m))) z))
 
-pub laid-empty : (n : ℕ) → n ≡ 2048 → filled n [] ≡ laid empty
-laid-empty n e = rw e (four-alike 512 zeros)
+pub laid-empty : (n : ℕ) → n ≡ 2560 → filled n [] ≡ laid empty
+laid-empty n e = rw e (five-alike 512 zeros)

@@ -13,11 +13,11 @@ use Rattle.refusals.specs.declared.Check.{Check}
 use Rattle.refusals.specs.declared.Check.the-variants.{Passes}
 use Rattle.tables.specs.Columns.{references, ref, keyWidth}
 use Rattle.tables.specs.declared.Table.{Table}
-use Rattle.tables.specs.declared.Table.the-variants.{VehicleType, Depot, Stop, Block}
+use Rattle.tables.specs.declared.Table.the-variants.{VehicleType, Depot, Stop, StopPoint, Block}
 use Rattle.tables.specs.declared.Reference.{Reference}
 use Rattle.rows.specs.Rows.{wide, column, orderFrom, sameKey, stands, found}
 use Rattle.book.specs.Book.{Book, knows, rows}
-use Rattle.book.specs.Rules.{timeFault, unknownOf, unknown, ruled}
+use Rattle.book.specs.Rules.{timeFault, named, unknownOf, unknown, ruled}
 
 -- zeros behind the numbers: past their end a list reads as 0 too
 getD-zeros : (n i : ℕ) → _≡_ {A = ℕ} (getD (replicate n 0) i 0) 0
@@ -49,24 +49,36 @@ module _ (k : ℕ) (xs : List ℕ) where
   found-wide [] = refl
   found-wide (r ∷ rs) = rw (sameKey-wide r, found-wide rs)
 
--- the column of a reference is one of the row's
+-- the column of a reference is one of the row's, behind VERSION
 abbrev pub referenceOf : Table → ℕ → Reference
 referenceOf t i = getD (references t) i (ref 0 VehicleType)
 
-pub referring : (t : Table) (i : ℕ) → i < length (references t) → (1 ≤ referenceOf t i .column) × (referenceOf t i .column ≤ 11)
+pub referring : (t : Table) (i : ℕ) → i < length (references t) → (2 ≤ referenceOf t i .column) × (referenceOf t i .column ≤ 11)
 referring VehicleType i h = absurd (omega arith)
 referring Depot i h = absurd (omega arith)
 referring Stop i h = absurd (omega arith)
+referring StopPoint zero h = (lit≤ tt, lit≤ tt)
+referring StopPoint (suc i) h = absurd (omega arith)
 referring Block zero h = (lit≤ tt, lit≤ tt)
 referring Block (suc zero) h = (lit≤ tt, lit≤ tt)
 referring Block (suc (suc zero)) h = (lit≤ tt, lit≤ tt)
 referring Block (suc (suc (suc zero))) h = (lit≤ tt, lit≤ tt)
-referring Block (suc (suc (suc (suc i)))) h = absurd (omega arith)
+referring Block (suc (suc (suc (suc zero)))) h = (lit≤ tt, lit≤ tt)
+referring Block (suc (suc (suc (suc (suc zero))))) h = (lit≤ tt, lit≤ tt)
+referring Block (suc (suc (suc (suc (suc (suc i)))))) h = absurd (omega arith)
+
+-- only the key of a stop point has three numbers
+pub named-pair : (t : Table) (k : ℕ) (row : Row) → (t ≡ StopPoint → ⊥) → named t k row ≡ column 1 row ∷ column k row ∷ []
+named-pair VehicleType k row n = refl
+named-pair Depot k row n = refl
+named-pair Stop k row n = refl
+named-pair StopPoint k row n = absurd (n refl)
+named-pair Block k row n = refl
 
 -- the references one by one
 module _ (t : Table) (row : Row) (b : Book) (i : ℕ) where
   abbrev pub there : Bool
-  there = knows (referenceOf t i .to) (column 1 row ∷ column (referenceOf t i .column) row ∷ []) b
+  there = knows (referenceOf t i .to) (named (referenceOf t i .to) (referenceOf t i .column) row) b
 
   abbrev pub unknownFrom : Check
   unknownFrom = unknownOf (drop i (references t)) row b
@@ -85,9 +97,9 @@ module _ (t : Table) (row : Row) (b : Book) (i : ℕ) where
 
 -- one reference, as the code asks for it
 pub asked-there : (t : Table) (row : Row) (b : Book) (i : ℕ) (x : Reference) (k : Row) (r : Bool) → x ≡ referenceOf t i
-    → k ≡ wide (column 1 row ∷ column (x .column) row ∷ []) → r ≡ knows (x .to) k b → there t row b i ≡ r
+    → k ≡ wide (named (x .to) (x .column) row) → r ≡ knows (x .to) k b → there t row b i ≡ r
 asked-there t row b i x k r e f g =
-    ap (λ (y : Reference). knows (y .to) (column 1 row ∷ column (y .column) row ∷ []) b) (sym e)
+    ap (λ (y : Reference). knows (y .to) (named (y .to) (y .column) row) b) (sym e)
     ∙ sym (g ∙ ap (λ (l : Row). knows (x .to) l b) f ∙ stands-wide (keyWidth (x .to)) _ (rows (x .to) b))
 
 -- the rules of a row, in their order

@@ -6,32 +6,35 @@ use lib.ListN.{length}
 use Rattle.words.specs.Words.{Row}
 use Rattle.tables.specs.Columns.{keyWidth}
 use Rattle.tables.specs.declared.Table.{Table}
-use Rattle.tables.specs.declared.Table.the-variants.{VehicleType, Depot, Stop, Block}
+use Rattle.tables.specs.declared.Table.the-variants.{VehicleType, Depot, Stop, StopPoint, Block}
 use Rattle.rows.specs.Rows.{stands, inserted}
 
--- "The book holds the keys of tables 1 to 3 and the 11 numbers of each block, rows by rising key"
+-- "The book holds the keys of tables 1 to 3 and the 11 numbers of each block, rows by rising key", and the keys of stop points
 pub record Book : Type 0 where
   pub types : List Row
   pub depots : List Row
   pub stops : List Row
+  pub points : List Row
   pub blocks : List Row
 
--- "an empty book, which is the book of four tables without rows"
+-- "an empty book, which is the book of" five "tables without rows"
 abbrev pub empty : Book
-empty = record { types = []; depots = []; stops = []; blocks = [] }
+empty = record { types = []; depots = []; stops = []; points = []; blocks = [] }
 
 abbrev pub rows : Table → Book → List Row
 rows VehicleType b = b .types
 rows Depot b = b .depots
 rows Stop b = b .stops
+rows StopPoint b = b .points
 rows Block b = b .blocks
 
 -- the book with other rows in one table
 abbrev pub with-rows : Table → List Row → Book → Book
-with-rows VehicleType xs b = record { types = xs; depots = b .depots; stops = b .stops; blocks = b .blocks }
-with-rows Depot xs b = record { types = b .types; depots = xs; stops = b .stops; blocks = b .blocks }
-with-rows Stop xs b = record { types = b .types; depots = b .depots; stops = xs; blocks = b .blocks }
-with-rows Block xs b = record { types = b .types; depots = b .depots; stops = b .stops; blocks = xs }
+with-rows VehicleType xs b = record { types = xs; depots = b .depots; stops = b .stops; points = b .points; blocks = b .blocks }
+with-rows Depot xs b = record { types = b .types; depots = xs; stops = b .stops; points = b .points; blocks = b .blocks }
+with-rows Stop xs b = record { types = b .types; depots = b .depots; stops = xs; points = b .points; blocks = b .blocks }
+with-rows StopPoint xs b = record { types = b .types; depots = b .depots; stops = b .stops; points = xs; blocks = b .blocks }
+with-rows Block xs b = record { types = b .types; depots = b .depots; stops = b .stops; points = b .points; blocks = xs }
 
 -- the book with a row entered in a table
 abbrev pub entered : Table → Row → Book → Book

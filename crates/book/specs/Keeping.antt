@@ -8,7 +8,7 @@ use Rattle.words.specs.Words.{Row, same}
 use Rattle.refusals.specs.Verdicts.{passes}
 use Rattle.tables.specs.Columns.{Column, columnsOf, keyWidth, keptWidth, inRange}
 use Rattle.tables.specs.declared.Table.{Table}
-use Rattle.tables.specs.declared.Table.the-variants.{VehicleType, Depot, Stop, Block}
+use Rattle.tables.specs.declared.Table.the-variants.{VehicleType, Depot, Stop, StopPoint, Block}
 use Rattle.rows.specs.Rows.{wide, rising}
 use Rattle.rows.specs.Room.{sameRows}
 use Rattle.book.specs.Book.{Book, rows}
@@ -37,8 +37,8 @@ abbrev pub lawfulTable : Table → Book → Bool
 lawfulTable t b = leb (length (rows t b)) 512 && rising (keyWidth t) (rows t b) && all (lawful t b) (rows t b)
 
 abbrev pub lawfulBook : Book → Bool
-lawfulBook b = lawfulTable VehicleType b && lawfulTable Depot b && lawfulTable Stop b && lawfulTable Block b
+lawfulBook b = lawfulTable VehicleType b && lawfulTable Depot b && lawfulTable Stop b && lawfulTable StopPoint b && lawfulTable Block b
 
 -- 16: "handed-in book breaks the book rule, or a lent length is wrong"
 abbrev pub keepsRule : List Row → Bool
-keepsRule slice = eqb (length slice) 2048 && lawfulBook (bookOf slice) && sameRows slice (laid (bookOf slice))
+keepsRule slice = eqb (length slice) 2560 && lawfulBook (bookOf slice) && sameRows slice (laid (bookOf slice))

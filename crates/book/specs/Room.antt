@@ -1,4 +1,4 @@
--- The book in a lent slice: four parts of 512 rows, each a table's rows with zeros behind them.
+-- The book in a lent slice: five parts of 512 rows, each a table's rows with zeros behind them.
 use mathlib.Core.Path.{_≡_}
 use mathlib.Core.List.{List, [], _∷_, _++_}
 use Prim.Native.Nat.{ℕ, _*_}
@@ -11,7 +11,7 @@ use Rattle.book.specs.Book.{Book}
 
 -- "rows by rising key, unused room zero, and nothing else"
 abbrev pub laid : Book → List Row
-laid b = filled 512 (b .types) ++ (filled 512 (b .depots) ++ (filled 512 (b .stops) ++ filled 512 (b .blocks)))
+laid b = filled 512 (b .types) ++ (filled 512 (b .depots) ++ (filled 512 (b .stops) ++ (filled 512 (b .points) ++ filled 512 (b .blocks))))
 
 abbrev pub part : ℕ → List Row → List Row
 part i slice = take 512 (drop (i * 512) slice)
@@ -19,9 +19,9 @@ part i slice = take 512 (drop (i * 512) slice)
 -- the book that a slice holds
 abbrev pub bookOf : List Row → Book
 bookOf slice =
-    record { types = used (part 0 slice); depots = used (part 1 slice); stops = used (part 2 slice); blocks = used (part 3 slice) }
+    record { types = used (part 0 slice); depots = used (part 1 slice); stops = used (part 2 slice); points = used (part 3 slice); blocks = used (part 4 slice) }
 
 -- each part holds a table by its key
 pub record Sound (slice : List Row) : Type 0 where
-  pub long : length slice ≡ 2048
+  pub long : length slice ≡ 2560
   pub tables : (t : Table) → Holds (keyWidth t) (part (partOf t) slice)

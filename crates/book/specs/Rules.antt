@@ -1,6 +1,7 @@
 -- The rules that a row meets in its book.
 use mathlib.Core.List.{List, [], _∷_}
 use mathlib.Core.Bool.{Bool, true, false, not}
+use Prim.Native.Nat.{ℕ, _-_}
 use lib.Dec.{ltb}
 use Rattle.words.specs.Words.{Row}
 use Rattle.refusals.specs.Verdicts.{_⊳_, _when_, keyStands, noRow, endsEarly}
@@ -8,7 +9,7 @@ use Rattle.refusals.specs.declared.Check.{Check}
 use Rattle.refusals.specs.declared.Check.the-variants.{Passes}
 use Rattle.tables.specs.Columns.{references}
 use Rattle.tables.specs.declared.Table.{Table}
-use Rattle.tables.specs.declared.Table.the-variants.{VehicleType, Depot, Stop, Block}
+use Rattle.tables.specs.declared.Table.the-variants.{VehicleType, Depot, Stop, StopPoint, Block}
 use Rattle.tables.specs.declared.Reference.{Reference}
 use Rattle.rows.specs.Rows.{column}
 use Rattle.book.specs.Book.{Book, knows}
@@ -18,13 +19,22 @@ abbrev pub timeFault : Table → Row → Bool
 timeFault VehicleType row = false
 timeFault Depot row = false
 timeFault Stop row = false
+timeFault StopPoint row = false
 timeFault Block row = ltb (column 11 row) (column 8 row)
 
--- 10: "reference finds no row", at the first such column; "each together with VERSION"
+-- the key that column k names in a table: "each together with VERSION"; of a stop point its stop's number stands one column before
+abbrev pub named : Table → ℕ → Row → Row
+named VehicleType k row = column 1 row ∷ column k row ∷ []
+named Depot k row = column 1 row ∷ column k row ∷ []
+named Stop k row = column 1 row ∷ column k row ∷ []
+named StopPoint k row = column 1 row ∷ column (k - 1) row ∷ column k row ∷ []
+named Block k row = column 1 row ∷ column k row ∷ []
+
+-- 10: "reference finds no row", at the first such column
 unfoldable pub unknownOf : List Reference → Row → Book → Check
 unknownOf [] row b = Passes
 unknownOf (x ∷ xs) row b =
-    noRow (x .column) when not (knows (x .to) (column 1 row ∷ column (x .column) row ∷ []) b)
+    noRow (x .column) when not (knows (x .to) (named (x .to) (x .column) row) b)
     ⊳ unknownOf xs row b
 
 abbrev pub unknown : Table → Row → Book → Check

@@ -10,7 +10,7 @@ ghost use Rattle.tables.specs.Columns.{columnsOf, inRange, keptWidth, keyWidth,
 ghost use Rattle.rows.specs.Rows.{wide, found, replaced, removed};
 ghost use Rattle.rows.specs.Room.{holds, rowOf};
 ghost use Rattle.book.specs.Book.{Book, empty, rows, with-rows, entered, knows, full};
-ghost use Rattle.book.specs.Rules.{timeFault, unknown, ruled};
+ghost use Rattle.book.specs.Rules.{timeFault, named, unknown, ruled};
 ghost use Rattle.book.specs.Questions.{ofType, secondsOf, countOf, seven};
 ghost use Rattle.book.specs.Room.{laid, part, bookOf, Sound};
 ghost use Rattle.book.specs.Keeping.{ranged, lawful, all, keepsRule};
@@ -42,9 +42,12 @@ pub struct Totals {
     pub count: u64,
 }
 
+// How many rows a lent book has: the parts of five tables.
+pub const BOOK_ROWS: usize = 5 * ROWS;
+
 // Where a table's part of the book begins.
 pub fn first_row(t: Table) -> usize
-    ensures { λ r. ⌜ (r ≡ partOf t * 512) × (r + 512 ≤ 2048) ⌝ }
+    ensures { λ r. ⌜ (r ≡ partOf t * 512) × (r + 512 ≤ 2560) ⌝ }
 {
     t.part() * ROWS
 }
@@ -104,7 +107,31 @@ pub fn time_fault(t: Table, row: Row) -> bool
         Table::VehicleType => false,
         Table::Depot => false,
         Table::Stop => false,
+        Table::StopPoint => false,
         Table::Block => row[10] < row[7],
+    }
+}
+
+// The key that a column names in a table: of a stop point its stop's number stands one column before.
+fn named(to: Table, column: usize, row: Row) -> Row
+    requires { ⌜ (2 ≤ column) × (column ≤ 11) ⌝ }
+    ensures { λ r. ⌜ r ≡ wide (named to column row) ⌝ }
+{
+    match to {
+        Table::StopPoint => [
+            row[0],
+            row[column - 2],
+            row[column - 1],
+            0,
+            0,
+            0,
+            0,
+            0,
+            0,
+            0,
+            0,
+        ],
+        _ => key(row[0], row[column - 1]),
     }
 }
 
@@ -119,7 +146,7 @@ pub fn unknown_reference(book: &[Row], t: Table, row: Row) -> Check
         let reference = t.reference(i);
         let column = reference.column;
         let to = reference.to;
-        let there = key(row[0], row[column - 1]);
+        let there = named(to, column, row);
         if !knowing(book, to, there) {
             return Check::no_row(column as u64);
         }
@@ -177,7 +204,7 @@ pub fn remove_block(book: &mut [Row], row: Row)
 
 // The empty book.
 pub fn clear(book: &mut [Row])
-    requires { ⌜ length (now book) ≡ 2048 ⌝ }
+    requires { ⌜ length (now book) ≡ 2560 ⌝ }
     ensures { λ _. ⌜ now (book .exit) ≡ laid empty ⌝ }
 {
     rows::clear(book);
@@ -263,7 +290,7 @@ fn lawful_rows(book: &[Row], t: Table) -> bool
 
 // Whether a part of the book holds its table.
 fn holding(book: &[Row], t: Table) -> bool
-    requires { ⌜ length (now book) ≡ 2048 ⌝ }
+    requires { ⌜ length (now book) ≡ 2560 ⌝ }
     ensures { λ r. ⌜ r ≡ holds (keyWidth t) (part (partOf t) (now (book .entry))) ⌝ }
 {
     let k = t.keys();
@@ -272,11 +299,11 @@ fn holding(book: &[Row], t: Table) -> bool
     rows::holding(&book[from..to], k)
 }
 
-// Whether a slice holds four tables, where nobody vouches for it.
-fn four_tables(book: &[Row]) -> bool
+// Whether a slice holds the tables, where nobody vouches for it.
+fn all_tables(book: &[Row]) -> bool
     ensures { λ r. ⌜ (r ≡ true → Sound (now (book .entry))) × (r ≡ false → keepsRule (now (book .entry)) ≡ false) ⌝ }
 {
-    if book.len() != 4 * ROWS {
+    if book.len() != BOOK_ROWS {
         return false;
     }
     if !holding(book, Table::VehicleType) {
@@ -288,6 +315,9 @@ fn four_tables(book: &[Row]) -> bool
     if !holding(book, Table::Stop) {
         return false;
     }
+    if !holding(book, Table::StopPoint) {
+        return false;
+    }
     holding(book, Table::Block)
 }
 
@@ -295,7 +325,7 @@ fn four_tables(book: &[Row]) -> bool
 pub fn keeps_rule(book: &[Row]) -> bool
     ensures { λ r. ⌜ r ≡ keepsRule (now (book .entry)) ⌝ }
 {
-    if !four_tables(book) {
+    if !all_tables(book) {
         return false;
     }
     if !lawful_rows(book, Table::VehicleType) {
@@ -305,6 +335,9 @@ pub fn keeps_rule(book: &[Row]) -> bool
         return false;
     }
     if !lawful_rows(book, Table::Stop) {
+        return false;
+    }
+    if !lawful_rows(book, Table::StopPoint) {
         return false;
     }
     lawful_rows(book, Table::Block)

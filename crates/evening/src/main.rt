@@ -15,19 +15,22 @@ fn main() {
     let mut types = [0u8; 65537];
     let mut depots = [0u8; 65537];
     let mut stops = [0u8; 65537];
+    let mut points = [0u8; 65537];
     let mut blocks = [0u8; 65537];
     let mut slip = [0u8; 65537];
     let t = files::load(b"vehicle_type.din", &mut types);
     let d = files::load(b"depot.din", &mut depots);
     let s = files::load(b"stop.din", &mut stops);
+    let p = files::load(b"stop_point.din", &mut points);
     let b = files::load(b"vehicle_block.din", &mut blocks);
     let c = files::load(b"slip.txt", &mut slip);
-    let mut book = [[0u64; 11]; 4 * ROWS];
+    let mut book = [[0u64; 11]; 5 * ROWS];
     let mut work = [[0u64; 11]; ROWS];
     let verdict = slips::day(
         &types[..t],
         &depots[..d],
         &stops[..s],
+        &points[..p],
         &blocks[..b],
         &slip[..c],
         &mut book,

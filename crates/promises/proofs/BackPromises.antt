@@ -10,7 +10,7 @@ pub reads-back : ReadsBack
 unfolding reading
 reads-back d b e =
     let a : Accepted d b = left-by d b e in
-    ap (λ (r : Result). r ▹ tableRead Block (written b)) (a .before-blocks) ∙ blocks-back b (b .blocks) (a .standing .blocks)
+    ap (λ (r : Result). r ▹ tableRead Block (written b)) (a .before-blocks) ∙ blocks-back b (b .blocks) (a .standing Block)
 
 pub writes-again : WritesAgain
 writes-again d b c e f = let g : c ≡ b = cc (reads-back d b e) in ap written g

@@ -37,18 +37,18 @@ use Rattle.promises.proofs.SlipPromises.{rule-kept, run-reads-afresh}
 
 -- a reading --------------------------------------------------------------------------------------------------------------
 
-read-sized : (d : Delivery) (slice : List Row) → length slice ≡ 2048 → readCall d slice ≡ readOutcome (reading d)
-read-sized d slice n = rw (eq-eqb (length slice) 2048 n)
+read-sized : (d : Delivery) (slice : List Row) → length slice ≡ 2560 → readCall d slice ≡ readOutcome (reading d)
+read-sized d slice n = rw (eq-eqb (length slice) 2560 n)
 
 empties : (r : Result) (p : Place) → readOutcome r .verdict ≡ Refused p → readOutcome r .book ≡ laid empty
 empties (refused q) p h = refl
 empties (leaves b) p h = let z : _≡_ {A = ℕ} 0 1 = cc in let y : ⊥ = omega arith in absurd y
 
 pub refused-reading-empties : promises.RefusedReadingEmpties
-refused-reading-empties d slice p n = rw (eq-eqb (length slice) 2048 n) (empties (reading d) p)
+refused-reading-empties d slice p n = rw (eq-eqb (length slice) 2560 n) (empties (reading d) p)
 
 pub wrong-book-stays : promises.WrongBookStays
-wrong-book-stays d slice n = let e : eqb (length slice) 2048 ≡ false = ne-eqb (length slice) 2048 n in (rw e, rw e)
+wrong-book-stays d slice n = let e : eqb (length slice) 2560 ≡ false = ne-eqb (length slice) 2560 n in (rw e, rw e)
 
 -- a slip -----------------------------------------------------------------------------------------------------------------
 
@@ -112,14 +112,14 @@ bad-book-refused book h =
 -- lengths ----------------------------------------------------------------------------------------------------------------
 
 read-length : (d : Delivery) (slice : List Row) → length (readCall d slice .book) ≡ length slice
-read-length d slice = go (eqb (length slice) 2048) refl
+read-length d slice = go (eqb (length slice) 2560) refl
   where
-    long : (r : Result) → reading d ≡ r → length (readOutcome r .book) ≡ 2048
+    long : (r : Result) → reading d ≡ r → length (readOutcome r .book) ≡ 2560
     long (refused p) e = sound-laid empty orderly-empty .long
     long (leaves b) e = sound-laid b (standing-orderly b (left-standing b (d, e))) .long
 
-    go : (q : Bool) → eqb (length slice) 2048 ≡ q → length (readCall d slice .book) ≡ length slice
-    go true e = rw e (long (reading d) refl ∙ sym (eqb-true (length slice) 2048 e))
+    go : (q : Bool) → eqb (length slice) 2560 ≡ q → length (readCall d slice .book) ≡ length slice
+    go true e = rw e (long (reading d) refl ∙ sym (eqb-true (length slice) 2560 e))
     go false e = rw e
 
 -- what an accepted slip leaves is again a book that some delivery leaves
@@ -191,13 +191,13 @@ write-call-answers b out l = (
 
 pub calls-read-back : promises.CallsReadBack
 calls-read-back d b book out e m h =
-    let r : readCall d book ≡ readOutcome (leaves b) = rw (eq-eqb (length book) 2048 m, e) in
+    let r : readCall d book ≡ readOutcome (leaves b) = rw (eq-eqb (length book) 2560 m, e) in
     let w : writeCall (readCall d book .book) out ≡ writing.outcome Accepted (length (written b)) (put (written b) out) =
     ap (λ (z : reading-is.Outcome). writeCall (z .book) out) r ∙ write-call-answers b out (d, e) .0 h in
     let text : take (writeCall (readCall d book .book) out .size) (writeCall (readCall d book .book) out .out) ≡ written b =
     ap (λ (z : writing.Outcome). take (z .size) (z .out)) w ∙ take-seam (written b) (drop (length (written b)) out) in
     ap (λ (s : Bytes). readCall (promises.with-blocks s d) book) text
-    ∙ rw (eq-eqb (length book) 2048 m, reads-back d b e) (sym (ap readOutcome e))
+    ∙ rw (eq-eqb (length book) 2560 m, reads-back d b e) (sym (ap readOutcome e))
 
 -- a run of slip calls ----------------------------------------------------------------------------------------------------
 
@@ -224,8 +224,8 @@ called (s ∷ ss) b work l n =
 pub calls-read-afresh : promises.CallsReadAfresh
 calls-read-afresh d b ss book work e m n =
     let after : promises.slipsCalled ss (readCall d book .book) work ≡ laid (promises.run ss b) =
-    ap (λ (z : List Row). promises.slipsCalled ss z work) (rw (eq-eqb (length book) 2048 m, e)) ∙ called ss b work (d, e) n in
-    (after, after ∙ rw (eq-eqb (length book) 2048 m, run-reads-afresh d b ss e))
+    ap (λ (z : List Row). promises.slipsCalled ss z work) (rw (eq-eqb (length book) 2560 m, e)) ∙ called ss b work (d, e) n in
+    (after, after ∙ rw (eq-eqb (length book) 2560 m, run-reads-afresh d b ss e))
 
 pub determined : promises.Determined
 determined A call one other e f = e ∙ sym f

@@ -20,7 +20,7 @@ use Rattle.text.specs.Cells.{cut, cellsOf, content}
 use Rattle.tables.specs.Columns.{Column, columnsOf, columnAt, noColumn, number, numbered, keyWidth, keptWidth, breaks}
 use Rattle.tables.specs.Values.{cellCheck}
 use Rattle.tables.specs.declared.Table.{Table}
-use Rattle.tables.specs.declared.Table.the-variants.{VehicleType, Depot, Stop, Block}
+use Rattle.tables.specs.declared.Table.the-variants.{VehicleType, Depot, Stop, StopPoint, Block}
 use Rattle.tables.specs.declared.Named.{Named}
 use Rattle.tables.specs.declared.Named.the-variants.{Known}
 use Rattle.tables.specs.declared.Rules.{Rules}
@@ -38,12 +38,13 @@ use Rattle.promises.proofs.TestLaws.{both, unfailed}
 use Rattle.tables.proofs.Figures.{kept-columns, kept-decimal, kept-required}
 use Rattle.promises.proofs.DeliveryLaws.{ReadTo, left-by}
 use Rattle.promises.proofs.ExactPromises.{accepted-exactly}
-use Rattle.promises.proofs.RowPromises.{rows-exactly, table-held, found-copy, copy-at}
+use Rattle.promises.proofs.RowPromises.{rows-exactly, found-copy, copy-at}
 
 pub numbered-known : (t : Table) → numbered (number t) ≡ Known t
 numbered-known VehicleType = refl
 numbered-known Depot = refl
 numbered-known Stop = refl
+numbered-known StopPoint = refl
 numbered-known Block = refl
 
 -- the contents of a line, one by one ---------------------------------------------------------------------------------------
@@ -201,6 +202,6 @@ cells-agree d b t i k e h low high =
     let s : Bytes = textOf t d in
     let x = rows-exactly d b t e in (
       cells-at d b t i e h k low high,
-      found-copy (keyWidth t) (rowAt t s i) (rows t b) (rising-true (keyWidth t) (rows t b) (table-held t b (left-by d b e .standing) .rising))
+      found-copy (keyWidth t) (rowAt t s i) (rows t b) (rising-true (keyWidth t) (rows t b) (left-by d b e .standing t .rising))
           (omega (arith, x .2 (rowAt t s i), copy-at (rowRead t (headerOf t s)) (rowLinesOf s) i h)),
     )

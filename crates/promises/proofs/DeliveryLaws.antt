@@ -1,26 +1,32 @@
 -- A delivery that is accepted, table by table, and the plainest delivery of a book. Assumes nothing.
 use native.Mathlib.Omega.{arith}
+use Prim.Native.Nat.{ℕ, suc, _≤_, _<_}
 use mathlib.Core.Path.{_≡_, refl, ap, sym, subst, _∙_}
 use mathlib.Core.List.{List, [], _∷_, map}
+use mathlib.Core.Bool.{Bool, true, false}
+use mathlib.Core.Logic.{_⊎_, inl, inr, ⊎-elim}
+use lib.ListN.{getD}
+use lib.Dec.{eqb}
+use borrow.Author.Tests.{eqb-true, eqb-false}
 use Rattle.words.specs.Words.{Bytes, Row}
+use Rattle.tables.specs.Columns.{partOf}
 use Rattle.tables.specs.declared.Table.{Table}
-use Rattle.tables.specs.declared.Table.the-variants.{VehicleType, Depot, Stop, Block}
+use Rattle.tables.specs.declared.Table.the-variants.{VehicleType, Depot, Stop, StopPoint, Block}
 use Rattle.book.specs.Book.{Book, empty, rows, with-rows}
 use Rattle.book.specs.Rules.{unknownOf}
+use Rattle.book.proofs.Laying.{rows-empty}
+use Rattle.tables.proofs.Figures.{part-below}
 use Rattle.reading.specs.Reading.{leaves, _▹_, tableRead, Delivery, reading}
 use Rattle.writer.specs.Writing.{linesWritten, namesLine, rowLine, written}
 use Rattle.promises.specs.Promises.{InOrder, textOf}
 use Rattle.promises.proofs.TestLaws.{came}
 use Rattle.rows.specs.Rows.{rising as rises}
 use Rattle.promises.proofs.PlainLaws.{plainLine, plainText, plain-names-block, plain-line-block}
-use Rattle.promises.proofs.HeldLaws.{Good, EachGood, Held, good-eleven, held-moved, held-table, table-back}
+use Rattle.promises.proofs.HeldLaws.{Good, EachGood, Held, rows-apart, unknown-before, good-eleven, held-moved, held-table, table-back}
 
 -- every table of the book stands by right
-pub record Standing (b : Book) : Type 0 where
-  pub types : Held VehicleType b (b .types)
-  pub depots : Held Depot b (b .depots)
-  pub stops : Held Stop b (b .stops)
-  pub blocks : Held Block b (b .blocks)
+abbrev pub Standing : Book → Type 0
+Standing b = (t : Table) → Held t b (rows t b)
 
 nothing-held : (t : Table) (b : Book) → Held t b []
 unfolding EachGood rises
@@ -32,10 +38,22 @@ in-order d b e =
     let r1 = tableRead VehicleType (d .types) empty in
     let r2 = r1 ▹ tableRead Depot (d .depots) in
     let r3 = r2 ▹ tableRead Stop (d .stops) in
-    let s4 = came r3 (tableRead Block (d .blocks)) b e in
+    let r4 = r3 ▹ tableRead StopPoint (d .points) in
+    let s5 = came r4 (tableRead Block (d .blocks)) b e in
+    let s4 = came r3 (tableRead StopPoint (d .points)) (s5 .0) (s5 .1) in
     let s3 = came r2 (tableRead Stop (d .stops)) (s4 .0) (s4 .1) in
     let s2 = came r1 (tableRead Depot (d .depots)) (s3 .0) (s3 .1) in
-    record { behind-types = s2 .0; behind-depots = s3 .0; behind-stops = s4 .0; types = s2 .1; depots = s2 .2; stops = s3 .2; blocks = s4 .2 }
+    record {
+      behind-types = s2 .0;
+      behind-depots = s3 .0;
+      behind-stops = s4 .0;
+      behind-points = s5 .0;
+      types = s2 .1;
+      depots = s2 .2;
+      stops = s3 .2;
+      points = s4 .2;
+      blocks = s5 .2;
+    }
 
 -- a table's text is read to its rows in the book
 pub record ReadTo (t : Table) (s : Bytes) (b : Book) : Type 0 where
@@ -45,49 +63,90 @@ pub record ReadTo (t : Table) (s : Bytes) (b : Book) : Type 0 where
   pub read : tableRead t s before ≡ leaves after
   pub same : rows t after ≡ rows t b
 
--- an accepted delivery: what its first three tables leave, the book, and each table
+-- table by table --------------------------------------------------------------------------------------------------------
+
+-- behind the first n tables: each of them stands by right, as its text has it, and the others are empty
+record Behind (n : ℕ) (d : Delivery) (b : Book) : Type 0 where
+  held : (t : Table) → partOf t < n → Held t b (rows t b)
+  read : (t : Table) → partOf t < n → ReadTo t (textOf t d) b
+  bare : (t : Table) → n ≤ partOf t → rows t b ≡ []
+
+behind-none : (d : Delivery) → Behind 0 d empty
+behind-none d = record { held = λ t l. absurd (omega arith); read = λ t l. absurd (omega arith); bare = λ t l. rows-empty t }
+
+-- a table's part tells it
+abbrev tablesInOrder : List Table
+tablesInOrder = VehicleType ∷ Depot ∷ Stop ∷ StopPoint ∷ Block ∷ []
+
+own-part : (t : Table) → getD tablesInOrder (partOf t) Block ≡ t
+own-part VehicleType = refl
+own-part Depot = refl
+own-part Stop = refl
+own-part StopPoint = refl
+own-part Block = refl
+
+same-part : (t u : Table) → partOf t ≡ partOf u → t ≡ u
+same-part t u e = sym (own-part t) ∙ ap (λ (i : ℕ). getD tablesInOrder i Block) e ∙ own-part u
+
+own-or-before : (t u : Table) → partOf u < suc (partOf t) → (t ≡ u) ⊎ (partOf u < partOf t)
+own-or-before t u l = go (eqb (partOf t) (partOf u)) refl
+  where
+    go : (q : Bool) → eqb (partOf t) (partOf u) ≡ q → (t ≡ u) ⊎ (partOf u < partOf t)
+    go true e = inl (same-part t u (eqb-true (partOf t) (partOf u) e))
+    go false e = let n : partOf t ≡ partOf u → ⊥ = eqb-false (partOf t) (partOf u) e in inr (omega (arith, n))
+
+module _ (t : Table) (d : Delivery) (b c : Book) (k : Behind (partOf t) d b) (e : tableRead t (textOf t d) b ≡ leaves c) where
+  own-bare : rows t b ≡ []
+  own-bare = k .bare t (omega arith)
+
+  read-apart : (c ≡ with-rows t (rows t c) b) × Held t c (rows t c)
+  read-apart = held-table t (textOf t d) b c (subst (λ (z : List Row). Held t b z) (sym own-bare) (nothing-held t b)) e
+
+  other-rows : (u : Table) → (partOf u ≡ partOf t → ⊥) → rows u c ≡ rows u b
+  other-rows u n = ap (rows u) (read-apart .0) ∙ rows-apart t u (rows t c) b n
+
+  earlier-held : (u : Table) → partOf u < partOf t → Held u c (rows u c)
+  earlier-held u l =
+      subst (λ (z : List Row). Held u c z) (sym (other-rows u (λ q. omega arith)))
+      (held-moved u b c (unknown-before u b c (λ v m. sym (other-rows v (λ q. omega arith)))) (rows u b) (k .held u l))
+
+  earlier-read : (u : Table) → partOf u < partOf t → ReadTo u (textOf u d) c
+  earlier-read u l =
+      let r : ReadTo u (textOf u d) b = k .read u l in
+      record { before = r .before; after = r .after; bare = r .bare; read = r .read; same = r .same ∙ sym (other-rows u (λ q. omega arith)) }
+
+  own-read : ReadTo t (textOf t d) c
+  own-read = record { before = b; after = c; bare = own-bare; read = e; same = refl }
+
+  behind-next : Behind (suc (partOf t)) d c
+  behind-next =
+      record {
+        held = λ u l. ⊎-elim (λ q. subst (λ (v : Table). Held v c (rows v c)) q (read-apart .1)) (earlier-held u) (own-or-before t u l);
+        read = λ u l. ⊎-elim (λ q. subst (λ (v : Table). ReadTo v (textOf v d) c) q own-read) (earlier-read u) (own-or-before t u l);
+        bare = λ u l. other-rows u (λ q. omega arith) ∙ k .bare u (omega arith);
+      }
+
+-- an accepted delivery: what the tables before the blocks leave, the book, and each table
 pub record Accepted (d : Delivery) (b : Book) : Type 0 where
-  pub before-blocks : (leaves empty ▹ tableRead VehicleType (d .types) ▹ tableRead Depot (d .depots) ▹ tableRead Stop (d .stops)) ≡ leaves (with-rows Block [] b)
+  pub before-blocks : (leaves empty ▹ tableRead VehicleType (d .types) ▹ tableRead Depot (d .depots) ▹ tableRead Stop (d .stops) ▹ tableRead StopPoint (d .points)) ≡ leaves (with-rows Block [] b)
   pub standing : Standing b
   pub tables : (t : Table) → ReadTo t (textOf t d) b
 
 pub left-by : (d : Delivery) (b : Book) → reading d ≡ leaves b → Accepted d b
-unfolding reading unknownOf
 left-by d b e =
     let o : InOrder d b = in-order d b e in
-    let b1 : Book = o .behind-types in
-    let b2 : Book = o .behind-depots in
-    let b3 : Book = o .behind-stops in
-    let h1 = held-table VehicleType (d .types) empty b1 (nothing-held VehicleType empty) (o .types) in
-    let e1 : b1 ≡ with-rows VehicleType (b1 .types) empty = h1 .0 in
-    let h2 = held-table Depot (d .depots) b1 b2 (subst (λ (z : Book). Held Depot z (z .depots)) (sym e1) (nothing-held Depot (with-rows VehicleType (b1 .types) empty))) (o .depots) in
-    let e2 : b2 ≡ with-rows Depot (b2 .depots) b1 = h2 .0 in
-    let b12 : Book = record { types = b1 .types; depots = b2 .depots; stops = []; blocks = [] } in
-    let f2 : b2 ≡ b12 = e2 ∙ ap (λ (z : Book). with-rows Depot (b2 .depots) z) e1 in
-    let h3 = held-table Stop (d .stops) b2 b3 (subst (λ (z : Book). Held Stop z (z .stops)) (sym f2) (nothing-held Stop b12)) (o .stops) in
-    let b123 : Book = record { types = b1 .types; depots = b2 .depots; stops = b3 .stops; blocks = [] } in
-    let f3 : b3 ≡ b123 = h3 .0 ∙ ap (λ (z : Book). with-rows Stop (b3 .stops) z) f2 in
-    let h4 = held-table Block (d .blocks) b3 b (subst (λ (z : Book). Held Block z (z .blocks)) (sym f3) (nothing-held Block b123)) (o .blocks) in
-    let b1234 : Book = record { types = b1 .types; depots = b2 .depots; stops = b3 .stops; blocks = b .blocks } in
-    let f4 : b ≡ b1234 = h4 .0 ∙ ap (λ (z : Book). with-rows Block (b .blocks) z) f3 in
-    let all : Standing b1234 =
+    let b4 : Book = o .behind-points in
+    let k1 = behind-next VehicleType d empty (o .behind-types) (behind-none d) (o .types) in
+    let k2 = behind-next Depot d (o .behind-types) (o .behind-depots) k1 (o .depots) in
+    let k3 = behind-next Stop d (o .behind-depots) (o .behind-stops) k2 (o .stops) in
+    let k4 = behind-next StopPoint d (o .behind-stops) b4 k3 (o .points) in
+    let k5 = behind-next Block d b4 b k4 (o .blocks) in
+    let apart : with-rows Block [] b ≡ b4 =
+    ap (λ (z : Book). with-rows Block [] z) (read-apart Block d b4 b k4 (o .blocks) .0) ∙ ap (λ (z : List Row). with-rows Block z b4) (sym (own-bare Block d b4 b k4 (o .blocks))) in
     record {
-      types = held-moved VehicleType b1 b1234 (λ row. refl) (b1 .types) (h1 .1);
-      depots = held-moved Depot b2 b1234 (λ row. refl) (b2 .depots) (h2 .1);
-      stops = held-moved Stop b3 b1234 (λ row. refl) (b3 .stops) (h3 .1);
-      blocks = subst (λ (z : Book). Held Block z (z .blocks)) f4 (h4 .1);
-    } in
-    let read : (t : Table) → ReadTo t (textOf t d) b =
-    λ t. elim t [
-      | VehicleType ↦ record { before = empty; after = b1; bare = refl; read = o .types; same = sym (ap (λ (z : Book). z .types) f4) }
-      | Depot ↦ record { before = b1; after = b2; bare = ap (λ (z : Book). z .depots) e1; read = o .depots; same = sym (ap (λ (z : Book). z .depots) f4) }
-      | Stop ↦ record { before = b2; after = b3; bare = ap (λ (z : Book). z .stops) f2; read = o .stops; same = sym (ap (λ (z : Book). z .stops) f4) }
-      | Block ↦ record { before = b3; after = b; bare = ap (λ (z : Book). z .blocks) f3; read = o .blocks; same = refl }
-    ] in
-    record {
-      before-blocks = rw (o .types, o .depots, o .stops) (ap (λ (z : Book). leaves z) (f3 ∙ ap (λ (z : Book). with-rows Block [] z) (sym f4)));
-      standing = subst (λ (z : Book). Standing z) (sym f4) all;
-      tables = read;
+      before-blocks = rw (o .types, o .depots, o .stops, o .points) (ap (λ (z : Book). leaves z) (sym apart));
+      standing = λ t. k5 .held t (part-below t);
+      tables = λ t. k5 .read t (part-below t);
     }
 
 -- the writer's form ------------------------------------------------------------------------------------------------------
@@ -109,7 +168,7 @@ blocks-back b ys h = ap (λ (s : Bytes). tableRead Block s (with-rows Block [] b
 -- the plainest delivery --------------------------------------------------------------------------------------------------
 
 abbrev pub plainDelivery : Book → Delivery
-plainDelivery b = record { types = plainText VehicleType (b .types); depots = plainText Depot (b .depots); stops = plainText Stop (b .stops); blocks = written b }
+plainDelivery b = record { types = plainText VehicleType (b .types); depots = plainText Depot (b .depots); stops = plainText Stop (b .stops); points = plainText StopPoint (b .points); blocks = written b }
 
 pub plain-read : (b : Book) → Standing b → reading (plainDelivery b) ≡ leaves b
 unfolding reading unknownOf
@@ -118,8 +177,9 @@ plain-read b h =
     let b2 : Book = with-rows Depot (b .depots) b1 in
     let b3 : Book = with-rows Stop (b .stops) b2 in
     rw (
-      table-back VehicleType empty (b .types) (held-moved VehicleType b empty (λ row. refl) (b .types) (h .types)),
-      table-back Depot b1 (b .depots) (held-moved Depot b b1 (λ row. refl) (b .depots) (h .depots)),
-      table-back Stop b2 (b .stops) (held-moved Stop b b2 (λ row. refl) (b .stops) (h .stops)),
+      table-back VehicleType empty (b .types) (held-moved VehicleType b empty (λ row. refl) (b .types) (h VehicleType)),
+      table-back Depot b1 (b .depots) (held-moved Depot b b1 (λ row. refl) (b .depots) (h Depot)),
+      table-back Stop b2 (b .stops) (held-moved Stop b b2 (λ row. refl) (b .stops) (h Stop)),
+      table-back StopPoint b3 (b .points) (held-moved StopPoint b b3 (λ row. refl) (b .points) (h StopPoint)),
     )
-    (blocks-back b (b .blocks) (h .blocks))
+    (blocks-back b (b .blocks) (h Block))

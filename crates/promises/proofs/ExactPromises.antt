@@ -16,12 +16,12 @@ use Rattle.refusals.specs.declared.Verdict.the-variants.{Accepted, Refused}
 use Rattle.text.specs.Lines.{slipLines, overlong}
 use Rattle.tables.specs.Columns.{number}
 use Rattle.tables.specs.declared.Table.{Table}
-use Rattle.tables.specs.declared.Table.the-variants.{VehicleType, Depot, Stop, Block}
+use Rattle.tables.specs.declared.Table.the-variants.{VehicleType, Depot, Stop, StopPoint, Block}
 use Rattle.book.specs.Book.{Book, empty, entered}
 use Rattle.reading.specs.Header.{Header}
 use Rattle.reading.specs.Reading.{Result, leaves, refused, unless, _▹_, judged, rowRead, rowsRead, headerOf, topFaults, tableRead, Delivery, reading}
 use Rattle.slips.specs.Slips.{slipCheck, slipLeaves, linesPosted, posting}
-use Rattle.promises.specs.Promises.{onward, checkAt, Faultless, FirstFault, rowLinesOf, rowStep, AcceptedExactly, RefusedAtFirst, SlipAcceptedExactly, SlipRefusedAtFirst, DeliveryInOrder, FaultyTable, in-types, in-depots, in-stops, in-blocks, DeliveryRefused}
+use Rattle.promises.specs.Promises.{onward, checkAt, Faultless, FirstFault, rowLinesOf, rowStep, AcceptedExactly, RefusedAtFirst, SlipAcceptedExactly, SlipRefusedAtFirst, DeliveryInOrder, FaultyTable, in-types, in-depots, in-stops, in-points, in-blocks, DeliveryRefused}
 use Rattle.promises.proofs.TestLaws.{came, going-on, unrefused}
 use Rattle.promises.proofs.DeliveryLaws.{in-order}
 
@@ -178,48 +178,66 @@ slip-refused-at-first s b p = (
       (λ v. rw (v .0) (slip-in-turn 1 (slipLines s) b ∙ fault-turn slipCheck slipLeaves 5 1 (slipLines s) b p (v .1 .at) (v .1 .inside) (v .1 .fault) (v .1 .above))),
 )
 
--- the four tables --------------------------------------------------------------------------------------------------------
+-- the five tables --------------------------------------------------------------------------------------------------------
 
 pub delivery-in-order : DeliveryInOrder
 unfolding reading
-delivery-in-order d b = (in-order d b, λ o. rw (o .types, o .depots, o .stops, o .blocks))
+delivery-in-order d b = (in-order d b, λ o. rw (o .types, o .depots, o .stops, o .points, o .blocks))
 
 -- a result that goes on, or ends in a refusal
 ended : (r : Result) (f : Book → Result) (p : Place) → (r ▹ f) ≡ refused p → (r ≡ refused p) ⊎ ((b : Book) × (r ≡ leaves b) × (f b ≡ refused p))
 ended (refused q) f p h = inl h
 ended (leaves b) f p h = inr (b, refl, h)
 
-faulty-table : (d : Delivery) (p : Place) → reading d ≡ refused p → FaultyTable d p
-unfolding reading
-faulty-table d p e =
-    ⊎-elim
-    (λ e3.
-    ⊎-elim
-    (λ e2.
-    ⊎-elim (λ e1. in-types e1) (λ s2. in-depots (s2 .0) (s2 .1) (s2 .2)) (ended r1 (tableRead Depot (d .depots)) p e2))
-    (λ s3. let s2 = came r1 (tableRead Depot (d .depots)) (s3 .0) (s3 .1) in in-stops (s2 .0) (s3 .0) (s2 .1) (s2 .2) (s3 .2))
-    (ended r2 (tableRead Stop (d .stops)) p e3))
-    (λ s4.
-    let s3 = came r2 (tableRead Stop (d .stops)) (s4 .0) (s4 .1) in
-    let s2 = came r1 (tableRead Depot (d .depots)) (s3 .0) (s3 .1) in
-    in-blocks (s2 .0) (s3 .0) (s4 .0) (s2 .1) (s2 .2) (s3 .2) (s4 .2))
-    (ended r3 (tableRead Block (d .blocks)) p e)
-  where
-    r1 : Result
-    r1 = tableRead VehicleType (d .types) empty
+-- a fault in the first tables, one more at a time
+module _ (d : Delivery) (p : Place) where
+  abbrev r1 : Result
+  r1 = tableRead VehicleType (d .types) empty
 
-    r2 : Result
-    r2 = r1 ▹ tableRead Depot (d .depots)
+  abbrev r2 : Result
+  r2 = r1 ▹ tableRead Depot (d .depots)
 
-    r3 : Result
-    r3 = r2 ▹ tableRead Stop (d .stops)
+  abbrev r3 : Result
+  r3 = r2 ▹ tableRead Stop (d .stops)
+
+  abbrev r4 : Result
+  r4 = r3 ▹ tableRead StopPoint (d .points)
+
+  faulty-two : r2 ≡ refused p → FaultyTable d p
+  faulty-two e = ⊎-elim (λ f. in-types f) (λ s. in-depots (s .0) (s .1) (s .2)) (ended r1 (tableRead Depot (d .depots)) p e)
+
+  faulty-three : r3 ≡ refused p → FaultyTable d p
+  faulty-three e =
+      ⊎-elim faulty-two (λ s. let s2 = came r1 (tableRead Depot (d .depots)) (s .0) (s .1) in in-stops (s2 .0) (s .0) (s2 .1) (s2 .2) (s .2))
+      (ended r2 (tableRead Stop (d .stops)) p e)
+
+  faulty-four : r4 ≡ refused p → FaultyTable d p
+  faulty-four e =
+      ⊎-elim faulty-three
+      (λ s.
+      let s3 = came r2 (tableRead Stop (d .stops)) (s .0) (s .1) in
+      let s2 = came r1 (tableRead Depot (d .depots)) (s3 .0) (s3 .1) in
+      in-points (s2 .0) (s3 .0) (s .0) (s2 .1) (s2 .2) (s3 .2) (s .2))
+      (ended r3 (tableRead StopPoint (d .points)) p e)
+
+  faulty-table : reading d ≡ refused p → FaultyTable d p
+  unfolding reading
+  faulty-table e =
+      ⊎-elim faulty-four
+      (λ s.
+      let s4 = came r3 (tableRead StopPoint (d .points)) (s .0) (s .1) in
+      let s3 = came r2 (tableRead Stop (d .stops)) (s4 .0) (s4 .1) in
+      let s2 = came r1 (tableRead Depot (d .depots)) (s3 .0) (s3 .1) in
+      in-blocks (s2 .0) (s3 .0) (s4 .0) (s .0) (s2 .1) (s2 .2) (s3 .2) (s4 .2) (s .2))
+      (ended r4 (tableRead Block (d .blocks)) p e)
 
 table-faulty : (d : Delivery) (p : Place) → FaultyTable d p → reading d ≡ refused p
 unfolding reading
 table-faulty d p (in-types e) = rw e
 table-faulty d p (in-depots b e f) = rw (e, f)
 table-faulty d p (in-stops b c e f g) = rw (e, f, g)
-table-faulty d p (in-blocks b c x e f g h) = rw (e, f, g, h)
+table-faulty d p (in-points b c x e f g h) = rw (e, f, g, h)
+table-faulty d p (in-blocks b c x y e f g h i) = rw (e, f, g, h, i)
 
 pub delivery-refused : DeliveryRefused
 delivery-refused d p = (faulty-table d p, table-faulty d p)

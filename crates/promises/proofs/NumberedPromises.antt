@@ -19,17 +19,16 @@ use Rattle.text.specs.Fields.{fields}
 use Rattle.text.specs.Cells.{Cut, cut, faultyCell, cellsOf}
 use Rattle.tables.specs.Columns.{Column, columnsOf, number, references, breaks}
 use Rattle.tables.specs.declared.Table.{Table}
-use Rattle.tables.specs.declared.Table.the-variants.{VehicleType, Depot, Stop, Block}
+use Rattle.tables.specs.declared.Table.the-variants.{VehicleType, Depot, Stop, StopPoint, Block}
 use Rattle.tables.specs.declared.Reference.{Reference}
-use Rattle.rows.specs.Rows.{column}
 use Rattle.book.specs.Book.{Book, empty, knows, full}
-use Rattle.book.specs.Rules.{timeFault, unknown, unknownOf, ruled}
+use Rattle.book.specs.Rules.{timeFault, named, unknown, unknownOf, ruled}
 use Rattle.reading.specs.Header.{Header, header, repeated, missing, badCut, cutCheck, headerCheck, contents}
 use Rattle.reading.specs.Reading.{refused, badCell, judged, rowRead, headerOf, tableRead}
 use Rattle.slips.specs.Slips.{numbers, wish, badField, missingBlock, lineJudged, rowIn, slipCheck, slipLeaves}
 use Rattle.slips.specs.declared.Wish.{Wish}
 use Rattle.slips.specs.declared.Wish.the-variants.{Add, Replace, Delete, Unknown}
-use Rattle.promises.specs.Promises.{onward, FirstFault, FaultyTable, in-types, in-depots, in-stops, in-blocks, ReadingNumbered, SlipNumbered}
+use Rattle.promises.specs.Promises.{onward, textOf, FirstFault, FaultyTable, in-types, in-depots, in-stops, in-points, in-blocks, ReadingNumbered, SlipNumbered}
 use Rattle.promises.proofs.ExactPromises.{refused-at-first, slip-refused-at-first, delivery-refused}
 
 -- if the check fails, its number is one from 1 to `top`
@@ -68,8 +67,8 @@ module _ (top : ℕ) (enough : 11 ≤ top) where
   unfolding unknownOf Numbered
   numbered-unknown [] row b = tt
   numbered-unknown (x ∷ xs) row b =
-      numbered-chain top (noRow (x .column) when not (knows (x .to) (column 1 row ∷ column (x .column) row ∷ []) b)) (unknownOf xs row b)
-      (numbered-when top 10 (x .column) (not (knows (x .to) (column 1 row ∷ column (x .column) row ∷ []) b)) (omega arith) (omega arith)) (numbered-unknown xs row b)
+      numbered-chain top (noRow (x .column) when not (knows (x .to) (named (x .to) (x .column) row) b)) (unknownOf xs row b)
+      (numbered-when top 10 (x .column) (not (knows (x .to) (named (x .to) (x .column) row) b)) (omega arith) (omega arith)) (numbered-unknown xs row b)
 
   numbered-ruled : (t : Table) (row : Row) (b : Book) → Numbered top (ruled t row b)
   numbered-ruled t row b =
@@ -133,20 +132,18 @@ table-numbered t s b p e =
     (λ f. numbered-place 11 (number t) _ _ p (numbered-row 11 (omega arith) t (headerOf t s) _ _) (f .1 .fault))
     (refused-at-first t s b p .0 e)
 
-in-tables : (t : Table) (p : Place) → (1 ≤ p .number) × (p .number ≤ 11) × (p .table ≡ number t) → (1 ≤ p .number) × (p .number ≤ 11) × (1 ≤ p .table) × (p .table ≤ 4)
-in-tables VehicleType p h = (h .0, h .1, omega (arith, h .2), omega (arith, h .2))
-in-tables Depot p h = (h .0, h .1, omega (arith, h .2), omega (arith, h .2))
-in-tables Stop p h = (h .0, h .1, omega (arith, h .2), omega (arith, h .2))
-in-tables Block p h = (h .0, h .1, omega (arith, h .2), omega (arith, h .2))
-
 pub reading-numbered : ReadingNumbered
 reading-numbered d p e = go (delivery-refused d p .0 e)
   where
-    go : FaultyTable d p → (1 ≤ p .number) × (p .number ≤ 11) × (1 ≤ p .table) × (p .table ≤ 4)
-    go (in-types f) = in-tables VehicleType p (table-numbered VehicleType (d .types) empty p f)
-    go (in-depots b g f) = in-tables Depot p (table-numbered Depot (d .depots) b p f)
-    go (in-stops b c g h f) = in-tables Stop p (table-numbered Stop (d .stops) c p f)
-    go (in-blocks b c x g h i f) = in-tables Block p (table-numbered Block (d .blocks) x p f)
+    in-table : (t : Table) (b : Book) → tableRead t (textOf t d) b ≡ refused p → (1 ≤ p .number) × (p .number ≤ 11) × ((t : Table) × (p .table ≡ number t))
+    in-table t b f = let n = table-numbered t (textOf t d) b p f in (n .0, n .1, (t, n .2))
+
+    go : FaultyTable d p → (1 ≤ p .number) × (p .number ≤ 11) × ((t : Table) × (p .table ≡ number t))
+    go (in-types f) = in-table VehicleType empty f
+    go (in-depots b g f) = in-table Depot b f
+    go (in-stops b c g h f) = in-table Stop c f
+    go (in-points b c x g h i f) = in-table StopPoint x f
+    go (in-blocks b c x y g h i j f) = in-table Block y f
 
 fault-numbered : (ls : List Bytes) (b : Book) (p : Place) → FirstFault slipCheck slipLeaves 5 1 ls b p → (1 ≤ p .number) × (p .number ≤ 13) × (p .table ≡ 5)
 fault-numbered ls b p f =

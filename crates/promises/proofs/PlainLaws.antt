@@ -1,11 +1,12 @@
 -- A table in its plainest form: the required columns alone, numbers with no leading zeros. A row in that form is read as itself, and meets
 -- only 5, 11, 9 and 10. Of the blocks it is the writer's form. Assumes nothing.
-use Prim.Native.Nat.{ℕ, zero, suc, _+_, _-_, _^_, _≤_, _<_}
+use Prim.Native.Nat.{ℕ, zero, suc, _+_, _^_, _≤_, _<_}
 use native.Mathlib.Omega.{arith}
 use mathlib.Core.Path.{_≡_, refl, ap, sym, subst, _∙_}
 use mathlib.Core.Bool.{Bool, true, false, not}
 use mathlib.Core.List.{List, [], _∷_, _++_, map}
-use lib.ListN.{length, take, drop, length-append}
+use lib.ListN.{length, take, drop, length-append, length-map}
+use lib.Seq.{take-at, length-take-le}
 use lib.Dec.{leb, eqb, lit<}
 use borrow.Author.Tests.{leb-true, eq-eqb, not-false}
 use Rattle.words.specs.Words.{Bytes, Row, if_then_else_}
@@ -16,11 +17,11 @@ use Rattle.text.specs.Cells.{cut, cells, content, cellsOf}
 use Rattle.text.specs.Fields.{parted}
 use Rattle.tables.specs.Columns.{Column, columnsOf, keptWidth, inRange, fits, breaks}
 use Rattle.tables.specs.declared.Table.{Table}
-use Rattle.tables.specs.declared.Table.the-variants.{VehicleType, Depot, Stop, Block}
+use Rattle.tables.specs.declared.Table.the-variants.{VehicleType, Depot, Stop, StopPoint, Block}
 use Rattle.tables.specs.declared.Rules.{Rules}
 use Rattle.tables.specs.declared.Sort.{Sort}
 use Rattle.tables.specs.declared.Sort.the-variants.{Decimal}
-use Rattle.tables.proofs.Figures.{kept-columns}
+use Rattle.tables.proofs.Figures.{kept-columns, kept-few, keys-some, keys-kept}
 use Rattle.rows.specs.Rows.{wide}
 use Rattle.book.specs.Book.{Book, full}
 use Rattle.book.specs.Rules.{ruled}
@@ -48,6 +49,7 @@ abbrev pub plainHeader : Table → Header
 plainHeader VehicleType = 1 ∷ 2 ∷ []
 plainHeader Depot = 1 ∷ 2 ∷ []
 plainHeader Stop = 1 ∷ 2 ∷ 3 ∷ []
+plainHeader StopPoint = 1 ∷ 2 ∷ 3 ∷ []
 plainHeader Block = 1 ∷ 2 ∷ 3 ∷ 4 ∷ 5 ∷ 6 ∷ 7 ∷ 8 ∷ 9 ∷ 10 ∷ 11 ∷ []
 
 -- what stands behind the numbers that the book keeps: a stop's name
@@ -55,6 +57,7 @@ abbrev pub behind : Table → List Bytes
 behind VehicleType = []
 behind Depot = []
 behind Stop = (120 ∷ []) ∷ []
+behind StopPoint = []
 behind Block = []
 
 abbrev pub plainCells : Table → Row → List Bytes
@@ -86,6 +89,9 @@ eleven-long (a ∷ b ∷ c ∷ d ∷ e ∷ f ∷ g ∷ h₁ ∷ i ∷ j ∷ []) 
 eleven-long (a ∷ b ∷ c ∷ d ∷ e ∷ f ∷ g ∷ h₁ ∷ i ∷ j ∷ k ∷ []) h = eleven a b c d e f g h₁ i j k
 eleven-long (a ∷ b ∷ c ∷ d ∷ e ∷ f ∷ g ∷ h₁ ∷ i ∷ j ∷ k ∷ l ∷ ls) h = absurd (omega arith)
 
+long-eleven : (row : Row) → Eleven row → length row ≡ 11
+long-eleven row (eleven a b c d e f g h i j k) = refl
+
 -- of the blocks it is the writer's form
 pub plain-names-block : plainNames Block ≡ namesLine
 unfolding computed requiredOf
@@ -108,6 +114,7 @@ unfolding Numeric columnsOf
 kept-numeric VehicleType = ((1, refl, refl, refl, lit< tt), ((7, refl, refl, refl, lit< tt), tt))
 kept-numeric Depot = ((1, refl, refl, refl, lit< tt), ((4, refl, refl, refl, lit< tt), tt))
 kept-numeric Stop = ((1, refl, refl, refl, lit< tt), ((4, refl, refl, refl, lit< tt), tt))
+kept-numeric StopPoint = ((1, refl, refl, refl, lit< tt), ((4, refl, refl, refl, lit< tt), ((1, refl, refl, refl, lit< tt), tt)))
 kept-numeric Block = (
   (1, refl, refl, refl, lit< tt),
   (
@@ -186,19 +193,26 @@ unfolding EachPlain AllPlain
 plain-behind VehicleType = tt
 plain-behind Depot = tt
 plain-behind Stop = ((refl, tt), tt)
+plain-behind StopPoint = tt
 plain-behind Block = tt
 
+-- as many numbers as the book keeps
+pub kept-long : (t : Table) (row : Row) → Eleven row → length (take (keptWidth t) row) ≡ keptWidth t
+kept-long t row e = length-take-le (keptWidth t) row (omega (arith, kept-few t, long-eleven row e))
+
+cut-cells : (ns : Row) (rest : List Bytes) → 1 ≤ length ns → EachPlain rest → cut (parted 59 (map decimal ns ++ rest)) ≡ cells (map decimal ns ++ rest)
+cut-cells [] rest n h = absurd (omega arith)
+cut-cells (m ∷ ms) rest n h = cut-parted (decimal m) (map decimal ms ++ rest) (plain-decimals (m ∷ ms) rest h)
+
 cut-plain : (t : Table) (row : Row) → Eleven row → cut (plainLine t row) ≡ cells (plainCells t row)
-cut-plain VehicleType row (eleven a b c d e f g h i j k) = cut-parted _ _ (plain-decimals (a ∷ b ∷ []) [] (plain-behind VehicleType))
-cut-plain Depot row (eleven a b c d e f g h i j k) = cut-parted _ _ (plain-decimals (a ∷ b ∷ []) [] (plain-behind Depot))
-cut-plain Stop row (eleven a b c d e f g h i j k) = cut-parted _ _ (plain-decimals (a ∷ b ∷ []) (behind Stop) (plain-behind Stop))
-cut-plain Block row (eleven a b c d e f g h i j k) = cut-parted _ _ (plain-decimals (a ∷ b ∷ c ∷ d ∷ e ∷ f ∷ g ∷ h ∷ i ∷ j ∷ k ∷ []) [] (plain-behind Block))
+cut-plain t row e = cut-cells (take (keptWidth t) row) (behind t) (omega (arith, kept-long t row e, keys-some t, keys-kept t)) (plain-behind t)
 
 -- the contents behind the numbers: of a vehicle_type the optional columns, which are empty
 abbrev absent : Table → List Bytes
 absent VehicleType = [] ∷ [] ∷ [] ∷ [] ∷ [] ∷ [] ∷ [] ∷ [] ∷ [] ∷ []
 absent Depot = []
 absent Stop = behind Stop
+absent StopPoint = []
 absent Block = []
 
 contents-cells : (t : Table) (row : Row) → Eleven row → contents t (plainHeader t) (plainCells t row) ≡ map content (map decimal (take (keptWidth t) row)) ++ absent t
@@ -206,6 +220,7 @@ unfolding contentsFrom under columnsOf
 contents-cells VehicleType row (eleven a b c d e f g h i j k) = refl
 contents-cells Depot row (eleven a b c d e f g h i j k) = refl
 contents-cells Stop row (eleven a b c d e f g h i j k) = refl
+contents-cells StopPoint row (eleven a b c d e f g h i j k) = refl
 contents-cells Block row (eleven a b c d e f g h i j k) = refl
 
 contents-plain : (t : Table) (row : Row) → Eleven row → contents t (plainHeader t) (plainCells t row) ≡ map decimal (take (keptWidth t) row) ++ absent t
@@ -216,19 +231,13 @@ unfolding badCell columnsOf
 absent-good VehicleType = refl
 absent-good Depot = refl
 absent-good Stop = refl
+absent-good StopPoint = refl
 absent-good Block = refl
 
-kept-long : (t : Table) (row : Row) → Eleven row → length (take (keptWidth t) row) ≡ keptWidth t
-kept-long VehicleType row (eleven a b c d e f g h i j k) = refl
-kept-long Depot row (eleven a b c d e f g h i j k) = refl
-kept-long Stop row (eleven a b c d e f g h i j k) = refl
-kept-long Block row (eleven a b c d e f g h i j k) = refl
-
 kept-values : (t : Table) (row : Row) → Eleven row → map value (take (keptWidth t) (map decimal (take (keptWidth t) row) ++ absent t)) ≡ take (keptWidth t) row
-kept-values VehicleType row (eleven a b c d e f g h i j k) = value-decimals (a ∷ b ∷ [])
-kept-values Depot row (eleven a b c d e f g h i j k) = value-decimals (a ∷ b ∷ [])
-kept-values Stop row (eleven a b c d e f g h i j k) = value-decimals (a ∷ b ∷ [])
-kept-values Block row (eleven a b c d e f g h i j k) = value-decimals (a ∷ b ∷ c ∷ d ∷ e ∷ f ∷ g ∷ h ∷ i ∷ j ∷ k ∷ [])
+kept-values t row e =
+    let ns : Row = take (keptWidth t) row in
+    ap (map value) (take-at (map decimal ns) (absent t) (keptWidth t) (length-map ns decimal ∙ kept-long t row e)) ∙ value-decimals ns
 
 pub row-read : (t : Table) (row : Row) → Eleven row → row ≡ wide (take (keptWidth t) row) → rowRead t (plainHeader t) (plainLine t row) ≡ row
 row-read t row e s = rw (cut-plain t row e, contents-plain t row e, kept-values t row e) (sym s)
@@ -237,6 +246,7 @@ cut-counted : (t : Table) (row : Row) → Eleven row → length (plainCells t ro
 cut-counted VehicleType row (eleven a b c d e f g h i j k) = refl
 cut-counted Depot row (eleven a b c d e f g h i j k) = refl
 cut-counted Stop row (eleven a b c d e f g h i j k) = refl
+cut-counted StopPoint row (eleven a b c d e f g h i j k) = refl
 cut-counted Block row (eleven a b c d e f g h i j k) = refl
 
 pub row-judged : (t : Table) (row : Row) (b : Book) → Eleven row → row ≡ wide (take (keptWidth t) row) → ranged (columnsOf t) (take (keptWidth t) row) ≡ true →
@@ -266,6 +276,7 @@ unfolding EachUnbroken Unbroken
 unbroken-behind VehicleType = tt
 unbroken-behind Depot = tt
 unbroken-behind Stop = ((refl, refl, tt), tt)
+unbroken-behind StopPoint = tt
 unbroken-behind Block = tt
 
 pub unbroken-line : (t : Table) (row : Row) → Unbroken (plainLine t row)
@@ -281,6 +292,7 @@ unfolding computed requiredOf unbrokenTest
 names-tested VehicleType = refl
 names-tested Depot = refl
 names-tested Stop = refl
+names-tested StopPoint = refl
 names-tested Block = refl
 
 pub unbroken-plain : (t : Table) (ys : List Row) → EachUnbroken (plainNames t ∷ map (plainLine t) ys)
@@ -294,6 +306,7 @@ unfolding computed requiredOf
 names-good VehicleType = refl
 names-good Depot = refl
 names-good Stop = refl
+names-good StopPoint = refl
 names-good Block = refl
 
 pub names-read : (t : Table) → header t (cellsOf (cut (plainNames t))) ≡ plainHeader t
@@ -301,6 +314,7 @@ unfolding computed requiredOf
 names-read VehicleType = refl
 names-read Depot = refl
 names-read Stop = refl
+names-read StopPoint = refl
 names-read Block = refl
 
 -- the size of what is written ---------------------------------------------------------------------------------------------
@@ -338,6 +352,7 @@ unfolding room cellRoom columnsOf
 line-room VehicleType = omega arith
 line-room Depot = omega arith
 line-room Stop = omega arith
+line-room StopPoint = omega arith
 line-room Block = omega arith
 
 pub line-short : (t : Table) (row : Row) → Eleven row → ranged (columnsOf t) (take (keptWidth t) row) ≡ true → length (plainLine t row) ≤ 65
@@ -352,4 +367,5 @@ unfolding computed requiredOf
 names-short VehicleType = omega arith
 names-short Depot = omega arith
 names-short Stop = omega arith
+names-short StopPoint = omega arith
 names-short Block = omega arith

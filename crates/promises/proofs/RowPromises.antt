@@ -12,7 +12,7 @@ use Rattle.refusals.specs.declared.Check.{Check}
 use Rattle.refusals.specs.declared.Check.the-variants.{Passes, Fails}
 use Rattle.tables.specs.Columns.{number, keyWidth}
 use Rattle.tables.specs.declared.Table.{Table}
-use Rattle.tables.specs.declared.Table.the-variants.{VehicleType, Depot, Stop, Block}
+use Rattle.tables.specs.declared.Table.the-variants.{VehicleType, Block}
 use Rattle.rows.specs.Rows.{keyOrder, sameKey, stands, found, inserted, rising}
 use Rattle.rows.specs.declared.Order.{Order}
 use Rattle.rows.specs.declared.Order.the-variants.{Less, Same, More}
@@ -30,7 +30,7 @@ use Rattle.rows.proofs.Changes.{stands-key, found-key, stands-inserted, found-i
 use Rattle.book.proofs.Laying.{rows-with}
 use Rattle.promises.proofs.HeldLaws.{Held, Taken, judged-taken, plain-short}
 use Rattle.promises.proofs.RuleLaws.{type-asked, block-asked}
-use Rattle.promises.proofs.DeliveryLaws.{Standing, ReadTo, Accepted, left-by, written-plain}
+use Rattle.promises.proofs.DeliveryLaws.{ReadTo, Accepted, left-by, written-plain}
 
 -- a row that is entered is one more
 copies-fresh : (k : ℕ) (r row : Row) (xs : List Row) → stands k row xs ≡ false → copies r (inserted k row xs) ≡ copies r (row ∷ xs)
@@ -140,13 +140,6 @@ rows-gained t h i (l ∷ ls) b c e = go (judged t h l b) refl (rows-gained t h (
         let x : refused (place n (number t) i k) ≡ leaves c = rw v at f in
         let z : _≡_ {A = ℕ} 0 1 = cc in let y : ⊥ = omega arith in absurd y
 
--- a table of the book by right
-pub table-held : (t : Table) (b : Book) → Standing b → Held t b (rows t b)
-table-held VehicleType b h = h .types
-table-held Depot b h = h .depots
-table-held Stop b h = h .stops
-table-held Block b h = h .blocks
-
 -- a table of an accepted delivery
 table-gained : (d : Delivery) (b : Book) (t : Table) (e : reading d ≡ leaves b) → let r = left-by d b e .tables t in Gained t (r .before) (r .after) (rowsOf t (textOf t d))
 unfolding tableRead
@@ -162,7 +155,7 @@ rows-exactly d b t e =
     let a : Accepted d b = left-by d b e in
     let r : ReadTo t (textOf t d) b = a .tables t in
     let g : Gained t (r .before) (r .after) (rowsOf t (textOf t d)) = table-gained d b t e in (
-      table-held t b (a .standing) .rising,
+      a .standing t .rising,
       omega (arith, ap length (r .same), g .many, ap length (r .bare)),
       λ row. omega (arith, ap (copies row) (r .same), g .each row, ap (copies row) (r .bare)),
     )
@@ -210,7 +203,7 @@ blocks-answered d b version day depot block e =
 
 pub written-fits : WrittenFits
 written-fits b l =
-    let h : Held Block b (b .blocks) = left-by (l .0) b (l .1) .standing .blocks in
+    let h : Held Block b (b .blocks) = left-by (l .0) b (l .1) .standing Block in
     subst (λ (s : Bytes). length s ≤ 65536) (written-plain b (b .blocks) h) (plain-short Block b (b .blocks) h)
 
 -- a row that stands is found by its key ----------------------------------------------------------------------------------

@@ -1,17 +1,20 @@
 -- The test of the book rule, and the book as it is laid out in its slice. Assumes nothing.
 use Prim.Native.Nat.{ℕ, _≤_}
+use native.Mathlib.Omega.{arith}
 use mathlib.Core.Path.{_≡_, refl, ap, sym, subst, _∙_}
 use mathlib.Core.Bool.{Bool, true, not, _&&_}
 use mathlib.Core.List.{List, [], _∷_}
-use lib.ListN.{length, take}
+use lib.ListN.{length, take, getD}
+use lib.Seq.{getD-take}
 use lib.Dec.{leb, eqb}
 use borrow.Author.Tests.{leb-true, le-leb, eq-eqb, not-true}
 use Rattle.words.specs.Words.{Row, same}
 use Rattle.words.proofs.Lists.{same-refl, same-true, and-left, and-right}
 use Rattle.refusals.specs.Verdicts.{_when_, _before_, passes, nowhere, notThere, badLoan}
-use Rattle.tables.specs.Columns.{columnsOf, keyWidth, keptWidth}
+use Rattle.tables.specs.Columns.{Column, columnsOf, columnAt, noColumn, keyWidth, keptWidth, inRange}
+use Rattle.tables.specs.declared.Rules.{Rules}
 use Rattle.tables.specs.declared.Table.{Table}
-use Rattle.tables.specs.declared.Table.the-variants.{VehicleType, Depot, Stop, Block}
+use Rattle.tables.specs.declared.Table.the-variants.{VehicleType, Depot, Stop, StopPoint, Block}
 use Rattle.rows.specs.Rows.{wide, column, rising, stands, found}
 use Rattle.rows.specs.Room.{sameRows}
 use Rattle.book.specs.Book.{Book, rows, knows}
@@ -22,10 +25,12 @@ use Rattle.book.specs.declared.BlockAnswer.{BlockAnswer}
 use Rattle.book.specs.Rules.{timeFault, unknown}
 use Rattle.book.specs.Room.{laid, bookOf}
 use Rattle.book.specs.Keeping.{ranged, all, lawful, lawfulTable, lawfulBook, keepsRule}
+use Rattle.tables.proofs.Figures.{kept-columns, keys-some, keys-kept, version-low}
 use Rattle.book.proofs.Laying.{Orderly, book-laid, sound-laid}
+use Rattle.book.proofs.Keeping.{tables-lawful}
 use Rattle.promises.proofs.TestLaws.{and-both, and-three, and-four, passed}
 use Rattle.rows.proofs.Room.{Versioned, sameRows-refl}
-use Rattle.promises.proofs.PlainLaws.{Eleven, eleven}
+use Rattle.promises.proofs.PlainLaws.{Eleven, kept-long}
 use Rattle.promises.proofs.HeldLaws.{Good, EachGood, Held, good-eleven}
 use Rattle.promises.proofs.DeliveryLaws.{Standing}
 
@@ -67,32 +72,31 @@ module _ (t : Table) (b : Book) where
   held-table h = rw (le-leb (length (rows t b)) 512 (h .size), h .rising, good-all (rows t b) (h .good))
 
 pub lawful-standing : (b : Book) → lawfulBook b ≡ true → Standing b
-lawful-standing b h =
-    let k = and-four (lawfulTable VehicleType b) (lawfulTable Depot b) (lawfulTable Stop b) (lawfulTable Block b) h in
-    record {
-      types = table-held VehicleType b (k .0);
-      depots = table-held Depot b (k .1);
-      stops = table-held Stop b (k .2);
-      blocks = table-held Block b (k .3);
-    }
+lawful-standing b h t = table-held t b (tables-lawful b h t)
 
 pub standing-lawful : (b : Book) → Standing b → lawfulBook b ≡ true
-standing-lawful b h =
-    all-four (lawfulTable VehicleType b) (lawfulTable Depot b) (lawfulTable Stop b) (lawfulTable Block b)
-    (held-table VehicleType b (h .types)) (held-table Depot b (h .depots)) (held-table Stop b (h .stops)) (held-table Block b (h .blocks))
+standing-lawful b h = rw (lawful-all VehicleType, lawful-all Depot, lawful-all Stop, lawful-all StopPoint, lawful-all Block)
   where
-    all-four : (p q r s : Bool) → p ≡ true → q ≡ true → r ≡ true → s ≡ true → (p && q && r && s) ≡ true
-    all-four p q r s e f g i = rw (e, f, g, i)
+    lawful-all : (t : Table) → lawfulTable t b ≡ true
+    lawful-all t = held-table t b (h t)
 
 -- the slice --------------------------------------------------------------------------------------------------------------
 
 -- VERSION is at least 1
+first-inside : (xs : List Column) (ns : Row) → 1 ≤ length xs → 1 ≤ length ns → ranged xs ns ≡ true → inRange (getD xs 0 noColumn .rules) (getD ns 0 0) ≡ true
+unfolding ranged
+first-inside [] ns l m r = absurd (omega arith)
+first-inside (x ∷ xs) [] l m r = absurd (omega arith)
+first-inside (x ∷ xs) (n ∷ ns) l m r = and-left (inRange (x .rules) n) (ranged xs ns) r
+
 first-versioned : (t : Table) (row : Row) → Eleven row → ranged (columnsOf t) (take (keptWidth t) row) ≡ true → 1 ≤ column 1 row
-unfolding columnsOf ranged
-first-versioned VehicleType row (eleven a b c d e f g h i j k) r = leb-true 1 a (and-left (leb 1 a) (leb a 99) (and-left (leb 1 a && leb a 99) _ r))
-first-versioned Depot row (eleven a b c d e f g h i j k) r = leb-true 1 a (and-left (leb 1 a) (leb a 99) (and-left (leb 1 a && leb a 99) _ r))
-first-versioned Stop row (eleven a b c d e f g h i j k) r = leb-true 1 a (and-left (leb 1 a) (leb a 99) (and-left (leb 1 a && leb a 99) _ r))
-first-versioned Block row (eleven a b c d e f g h i j k) r = leb-true 1 a (and-left (leb 1 a) (leb a 99) (and-left (leb 1 a && leb a 99) _ r))
+first-versioned t row e r =
+    let x : Rules = columnAt t 0 .rules in
+    let some : 1 ≤ keptWidth t = omega (arith, keys-some t, keys-kept t) in
+    let inside : inRange x (getD (take (keptWidth t) row) 0 0) ≡ true =
+    first-inside (columnsOf t) (take (keptWidth t) row) (omega (arith, kept-columns t)) (omega (arith, kept-long t row e)) r in
+    let low : x .low ≤ getD (take (keptWidth t) row) 0 0 = leb-true (x .low) (getD (take (keptWidth t) row) 0 0) (and-left (leb (x .low) (getD (take (keptWidth t) row) 0 0)) _ inside) in
+    omega (arith, version-low t, getD-take (keptWidth t) row 0 0 some)
 
 versioned : (t : Table) (b : Book) (xs : List Row) → EachGood t b xs → Versioned xs
 unfolding Versioned EachGood
@@ -100,19 +104,13 @@ versioned t b [] h = tt
 versioned t b (x ∷ xs) h = let g : Good t b x = h .0 in (first-versioned t x (good-eleven t x (g .shape)) (g .inside), versioned t b xs (h .1))
 
 pub standing-orderly : (b : Book) → Standing b → Orderly b
-standing-orderly b h = record { few = λ t. held t .size; rises = λ t. held t .rising; versioned = λ t. versioned t b (rows t b) (held t .good) }
-  where
-    held : (t : Table) → Held t b (rows t b)
-    held VehicleType = h .types
-    held Depot = h .depots
-    held Stop = h .stops
-    held Block = h .blocks
+standing-orderly b h = record { few = λ t. h t .size; rises = λ t. h t .rising; versioned = λ t. versioned t b (rows t b) (h t .good) }
 
 pub laid-keeps : (b : Book) → Standing b → keepsRule (laid b) ≡ true
 laid-keeps b h =
     let o : Orderly b = standing-orderly b h in
-    and-both (eqb (length (laid b)) 2048 && lawfulBook (bookOf (laid b))) (sameRows (laid b) (laid (bookOf (laid b))))
-    (and-both (eqb (length (laid b)) 2048) (lawfulBook (bookOf (laid b))) (eq-eqb (length (laid b)) 2048 (sound-laid b o .long))
+    and-both (eqb (length (laid b)) 2560 && lawfulBook (bookOf (laid b))) (sameRows (laid b) (laid (bookOf (laid b))))
+    (and-both (eqb (length (laid b)) 2560) (lawfulBook (bookOf (laid b))) (eq-eqb (length (laid b)) 2560 (sound-laid b o .long))
     (subst (λ (z : Book). lawfulBook z ≡ true) (sym (book-laid b o)) (standing-lawful b h)))
     (subst (λ (z : Book). sameRows (laid b) (laid z) ≡ true) (sym (book-laid b o)) (sameRows-refl (laid b)))
 

@@ -22,7 +22,7 @@ left-standing b l = left-by (l .0) b (l .1) .standing
 keeps-left : (slice : List Row) → keepsRule slice ≡ true → (b : Book) × Left b × (slice ≡ laid b)
 keeps-left slice h =
     let b : Book = bookOf slice in
-    let k = and-three (eqb (length slice) 2048) (lawfulBook b) (sameRows slice (laid b)) h in
+    let k = and-three (eqb (length slice) 2560) (lawfulBook b) (sameRows slice (laid b)) h in
     (b, (plainDelivery b, plain-read b (lawful-standing b (k .1))), sameRows-true slice (laid b) (k .2))
 
 pub rule-tested : RuleTested

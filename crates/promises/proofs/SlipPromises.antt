@@ -44,7 +44,7 @@ unfolding reading
 run-reads-afresh d b ss e =
     let a : Accepted d b = left-by d b e in
     let c : Book = run ss b in
-    let k : Kept b c = kept-run b ss b (record { apart = refl; blocks = a .standing .blocks }) in
+    let k : Kept b c = kept-run b ss b (record { apart = refl; blocks = a .standing Block }) in
     ap (λ (r : Result). r ▹ tableRead Block (written c)) (a .before-blocks)
     ∙ blocks-back b (c .blocks) (k .blocks)
     ∙ ap (λ (z : Book). leaves z) (sym (k .apart))
@@ -74,7 +74,7 @@ accepted-placed i (Fails n k) x = refl
 
 module _ (d : Delivery) (b : Book) (e : reading d ≡ leaves b) where
   blocks-held : Held Block b (b .blocks)
-  blocks-held = left-by d b e .standing .blocks
+  blocks-held = left-by d b e .standing Block
 
   there : (ys : List Row) (row : Row) → Held Block b ys → Fielded row →
       readThere d ys row ≡ passes (tooManyRows when full Block (with-rows Block ys b) ⊳ ruled Block row (with-rows Block ys b))
@@ -137,7 +137,7 @@ refused-alike d b line p e h f r =
     let good : badField (numbers ss) ≡ Passes = passed (badField (numbers ss)) (and-right (known (wish ss)) (passes (badField (numbers ss))) h) in
     let n : Fielded row = fielded (numbers ss) (wish-eleven ss (ap elevenWished f)) good in
     let c : Check = tooManyRows when full Block b ⊳ ruled Block row b in
-    let q = placed-refused 4 (2 + length (b .blocks)) c (entered Block row b) p (sym (read-there d b (b .blocks) row e (left-by d b e .standing .blocks) n) ∙ r) in
+    let q = placed-refused 4 (2 + length (b .blocks)) c (entered Block row b) p (sym (read-there d b (b .blocks) row e (left-by d b e .standing Block) n) ∙ r) in
     let slip : slipCheck line b ≡ c = ap (λ (w : Wish). lineJudged w (numbers ss) row b) f ∙ rw good in
     (slip ∙ q .0, q .1, q .2)
 
@@ -233,8 +233,8 @@ run-left b ss l = (with-blocks (written (run ss b)) (l .0), run-reads-afresh (l 
 pub other-tables-kept : OtherTablesKept
 other-tables-kept b ss l =
     let c : Book = run ss b in
-    let k : Kept b c = kept-run b ss b (record { apart = refl; blocks = left-by (l .0) b (l .1) .standing .blocks }) in
-    (ap (λ (z : Book). z .types) (k .apart), ap (λ (z : Book). z .depots) (k .apart), ap (λ (z : Book). z .stops) (k .apart))
+    let k : Kept b c = kept-run b ss b (record { apart = refl; blocks = left-by (l .0) b (l .1) .standing Block }) in
+    (ap (λ (z : Book). z .types) (k .apart), ap (λ (z : Book). z .depots) (k .apart), ap (λ (z : Book). z .stops) (k .apart), ap (λ (z : Book). z .points) (k .apart))
 
 -- so the questions keep their answers
 pub blocks-kept : BlocksKept

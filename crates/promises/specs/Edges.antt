@@ -16,14 +16,14 @@ use Rattle.promises.specs.Sheet.{sheet}
 pub data Case : Type 0 where
   -- the cell of that table and column in line 2 of a text: number, table, line, column; 1 and its value, or 2 and its stretch, or zeros
   cell : ℕ → ℕ → String → List ℕ → Case
-  -- four texts and no slip: the day sheet
-  day : String → String → String → String → String → Case
+  -- five texts and no slip: the day sheet
+  day : String → String → String → String → String → String → Case
   -- a cell as it stands: how many bytes its content has
   long : String → ℕ → Case
 
 abbrev pub passes : Case → Bool
 passes (cell table column s answer) = same (cellPaper (cellAsked (bytes s) table 2 column)) answer
-passes (day s1 s2 s3 s4 out) = same (sheet (record { types = bytes s1; depots = bytes s2; stops = bytes s3; blocks = bytes s4 }) []) (bytes out)
+passes (day s1 s2 s3 s6 s4 out) = same (sheet (record { types = bytes s1; depots = bytes s2; stops = bytes s3; points = bytes s6; blocks = bytes s4 }) []) (bytes out)
 passes (long s n) = eqb (length (content (bytes s))) n
 
 -- a d2 cell, a c40 cell, a c4 cell, an ACCESS_EQUIP, each in a vehicle_type
@@ -42,7 +42,7 @@ equip s = "VERSION;VEH_TYPE_NR;VEH_TYPE_ACCESS_EQUIP\n1;4;" ++ s ++ "\n"
 -- one block, by its first stop, its begin and its end, behind good tables
 abbrev block : String → String → String → String → Case
 block stop begin end out =
-    day "VERSION;VEH_TYPE_NR\n1;4\n" "VERSION;DEPOT_NR\n1;3\n" "VERSION;STOP_NR;STOP_NAME\n1;20;Yard\n"
+    day "VERSION;VEH_TYPE_NR\n1;4\n" "VERSION;DEPOT_NR\n1;3\n" "VERSION;STOP_NR;STOP_NAME\n1;20;Yard\n" "VERSION;STOP_NR;STOPPING_POINT_NR\n1;20;1\n"
     ("VERSION;DAY_TYPE_NR;DEPOT_NR;BLOCK_NR;VEH_TYP_NR;DEP_STOP_NR;DEP_STOPPING_POINT_NR;BEGIN_OF_BLOCK;ARR_STOP_NR;ARR_STOPPING_POINT_NR;END_OF_BLOCK\n1;5;3;101;4;"
     ++ stop ++ ";1;" ++ begin ++ ";20;1;" ++ end ++ "\n")
     out
@@ -66,13 +66,13 @@ cases =
     block "20" "500" "500" "T\t1\t4\t0\t1\nS\t1\t1\n" ∷
     block "20" "500" "499" "X\t11\t4\t2\t11\n" ∷
     -- "STOP_NR 0 is 8, column 2."
-    day (d2 "1") "VERSION;DEPOT_NR\n" "VERSION;STOP_NR;STOP_NAME\n1;0;Yard\n" "" "X\t8\t3\t2\t2\n" ∷
+    day (d2 "1") "VERSION;DEPOT_NR\n" "VERSION;STOP_NR;STOP_NAME\n1;0;Yard\n" "" "" "X\t8\t3\t2\t2\n" ∷
     -- "DEP_STOP_NR 100000 is well formed and then 10, column 6."
     block "100000" "500" "500" "X\t10\t4\t2\t6\n" ∷
     -- "Keys `1;07` and `1;7` collide: 9."
-    day "VERSION;VEH_TYPE_NR\n1;07\n1;7\n" "" "" "" "X\t9\t1\t3\t0\n" ∷
+    day "VERSION;VEH_TYPE_NR\n1;07\n1;7\n" "" "" "" "" "X\t9\t1\t3\t0\n" ∷
     -- "Text of length 0: 2, column 1."
-    day "" "" "" "" "X\t2\t1\t1\t1\n" ∷ []
+    day "" "" "" "" "" "X\t2\t1\t1\t1\n" ∷ []
 
 -- the claim: each case has its answer
 abbrev pub EdgesHold : Type 0

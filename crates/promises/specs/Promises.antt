@@ -19,7 +19,7 @@ use Rattle.text.specs.Fields.{fields}
 use Rattle.tables.specs.Columns.{columnsOf, columnAt, number, keyWidth, keptWidth}
 use Rattle.tables.specs.declared.Sort.the-variants as sort-is
 use Rattle.tables.specs.declared.Table.{Table}
-use Rattle.tables.specs.declared.Table.the-variants.{VehicleType, Depot, Stop, Block}
+use Rattle.tables.specs.declared.Table.the-variants.{VehicleType, Depot, Stop, StopPoint, Block}
 use Rattle.rows.specs.Rows.{column, sameKey, stands, found, removed, rising}
 use Rattle.rows.specs.Room.{zeros}
 use Rattle.book.specs.Book.{Book, empty, rows, entered, knows}
@@ -49,10 +49,10 @@ Determined = (A : Type 0) (call one other : A) → one ≡ call → other ≡ ca
 
 -- "A fault gets one number and a place, by a fixed order": the order is that of the tables (`DeliveryRefused`), of the lines of each
 -- (`RefusedAtFirst`, `SlipRefusedAtFirst`), and on a line that of the checks (`headerCheck`, `judged`, `lineJudged`). Of a delivery the number is
--- one from 1 to 11, in one of its four tables
+-- one from 1 to 11, in one of its five tables
 abbrev pub ReadingNumbered : Type 0
 ReadingNumbered = (d : Delivery) (p : Place) → reading d ≡ refused p →
-    (1 ≤ p .number) × (p .number ≤ 11) × (1 ≤ p .table) × (p .table ≤ 4)
+    (1 ≤ p .number) × (p .number ≤ 11) × ((t : Table) × (p .table ≡ number t))
 
 -- and of a slip 1 to 13, in table 5
 abbrev pub SlipNumbered : Type 0
@@ -60,7 +60,7 @@ SlipNumbered = (s : Bytes) (b : Book) (p : Place) → posting s b ≡ refused p 
 
 -- "A refused reading leaves an empty book"
 abbrev pub RefusedReadingEmpties : Type 0
-RefusedReadingEmpties = (d : Delivery) (slice : List Row) (p : Place) → length slice ≡ 2048 → readCall d slice .verdict ≡ Refused p →
+RefusedReadingEmpties = (d : Delivery) (slice : List Row) (p : Place) → length slice ≡ 2560 → readCall d slice .verdict ≡ Refused p →
     readCall d slice .book ≡ laid empty
 
 -- "a refused slip the book untouched"; the working area ends all zero
@@ -82,7 +82,7 @@ RefusedSheetKeeps = (v : Verdict) (book : List Row) (out : Bytes) (p : Place) �
 
 -- what is lent at another length is 16 and stays as it came
 abbrev pub WrongBookStays : Type 0
-WrongBookStays = (d : Delivery) (slice : List Row) → (length slice ≡ 2048 → ⊥) →
+WrongBookStays = (d : Delivery) (slice : List Row) → (length slice ≡ 2560 → ⊥) →
     (readCall d slice .verdict ≡ Refused (place 16 0 0 0)) × (readCall d slice .book ≡ slice)
 
 abbrev pub WrongWorkStays : Type 0
@@ -160,15 +160,17 @@ SlipRefusedAtFirst = (s : Bytes) (b : Book) (p : Place) →
     (posting s b ≡ refused p)
     ↔ (((overlong s ≡ true) × (p ≡ place 1 5 0 0)) ⊎ ((overlong s ≡ false) × FirstFault slipCheck slipLeaves 5 1 (slipLines s) b p))
 
--- the four tables in order: each is read on the book that the ones before it leave
+-- the five tables in order: each is read on the book that the ones before it leave
 pub record InOrder (d : Delivery) (b : Book) : Type 0 where
   pub behind-types : Book
   pub behind-depots : Book
   pub behind-stops : Book
+  pub behind-points : Book
   pub types : tableRead VehicleType (d .types) empty ≡ leaves behind-types
   pub depots : tableRead Depot (d .depots) behind-types ≡ leaves behind-depots
   pub stops : tableRead Stop (d .stops) behind-depots ≡ leaves behind-stops
-  pub blocks : tableRead Block (d .blocks) behind-stops ≡ leaves b
+  pub points : tableRead StopPoint (d .points) behind-stops ≡ leaves behind-points
+  pub blocks : tableRead Block (d .blocks) behind-points ≡ leaves b
 
 abbrev pub DeliveryInOrder : Type 0
 DeliveryInOrder = (d : Delivery) (b : Book) → (reading d ≡ leaves b) ↔ InOrder d b
@@ -179,8 +181,10 @@ pub data FaultyTable (d : Delivery) (p : Place) : Type 0 where
   in-depots : (b : Book) → tableRead VehicleType (d .types) empty ≡ leaves b → tableRead Depot (d .depots) b ≡ refused p → FaultyTable d p
   in-stops : (b c : Book) → tableRead VehicleType (d .types) empty ≡ leaves b → tableRead Depot (d .depots) b ≡ leaves c →
       tableRead Stop (d .stops) c ≡ refused p → FaultyTable d p
-  in-blocks : (b c e : Book) → tableRead VehicleType (d .types) empty ≡ leaves b → tableRead Depot (d .depots) b ≡ leaves c →
-      tableRead Stop (d .stops) c ≡ leaves e → tableRead Block (d .blocks) e ≡ refused p → FaultyTable d p
+  in-points : (b c e : Book) → tableRead VehicleType (d .types) empty ≡ leaves b → tableRead Depot (d .depots) b ≡ leaves c →
+      tableRead Stop (d .stops) c ≡ leaves e → tableRead StopPoint (d .points) e ≡ refused p → FaultyTable d p
+  in-blocks : (b c e f : Book) → tableRead VehicleType (d .types) empty ≡ leaves b → tableRead Depot (d .depots) b ≡ leaves c →
+      tableRead Stop (d .stops) c ≡ leaves e → tableRead StopPoint (d .points) e ≡ leaves f → tableRead Block (d .blocks) f ≡ refused p → FaultyTable d p
 
 abbrev pub DeliveryRefused : Type 0
 DeliveryRefused = (d : Delivery) (p : Place) → (reading d ≡ refused p) ↔ FaultyTable d p
@@ -190,6 +194,7 @@ abbrev pub textOf : Table → Delivery → Bytes
 textOf VehicleType d = d .types
 textOf Depot d = d .depots
 textOf Stop d = d .stops
+textOf StopPoint d = d .points
 textOf Block d = d .blocks
 
 -- how many of the rows are this row
@@ -252,7 +257,7 @@ StretchesAgree = (t : Table) (s : Bytes) (line k : ℕ) → columnAt t (k - 1) .
 
 -- the delivery with another text of blocks
 abbrev pub with-blocks : Bytes → Delivery → Delivery
-with-blocks s d = record { types = d .types; depots = d .depots; stops = d .stops; blocks = s }
+with-blocks s d = record { types = d .types; depots = d .depots; stops = d .stops; points = d .points; blocks = s }
 
 -- "Blocks written out and read back give the same book": with the same other tables
 abbrev pub ReadsBack : Type 0
@@ -274,7 +279,7 @@ WriteCallAnswers = (b : Book) (out : Bytes) → Left b →
 
 -- reading, writing and reading by the calls: the same book again, whatever was lent
 abbrev pub CallsReadBack : Type 0
-CallsReadBack = (d : Delivery) (b : Book) (book : List Row) (out : Bytes) → reading d ≡ leaves b → length book ≡ 2048 → length (written b) ≤ length out →
+CallsReadBack = (d : Delivery) (b : Book) (book : List Row) (out : Bytes) → reading d ≡ leaves b → length book ≡ 2560 → length (written b) ≤ length out →
     let w = writeCall (readCall d book .book) out in
     readCall (with-blocks (take (w .size) (w .out)) d) book ≡ readCall d book
 
@@ -371,7 +376,7 @@ TypesKept = (b : Book) (ss : List Bytes) (version type : ℕ) → Left b → som
 -- and the other tables, which no slip touches
 abbrev pub OtherTablesKept : Type 0
 OtherTablesKept = (b : Book) (ss : List Bytes) → Left b →
-    (run ss b .types ≡ b .types) × (run ss b .depots ≡ b .depots) × (run ss b .stops ≡ b .stops)
+    (run ss b .types ≡ b .types) × (run ss b .depots ≡ b .depots) × (run ss b .stops ≡ b .stops) × (run ss b .points ≡ b .points)
 
 -- "The book rule: it is a book that some accepted delivery leaves." A slip, accepted or not, leaves a book that keeps the rule
 abbrev pub RuleKept : Type 0
@@ -385,7 +390,7 @@ slipsCalled (s ∷ ss) book work = slipsCalled ss (slipCall s book work .book) (
 -- it is the book that a reading afresh lends, row for row, and so is every answer got from it
 abbrev pub CallsReadAfresh : Type 0
 CallsReadAfresh = (d : Delivery) (b : Book) (ss : List Bytes) (book work : List Row) →
-    reading d ≡ leaves b → length book ≡ 2048 → length work ≡ 512 →
+    reading d ≡ leaves b → length book ≡ 2560 → length work ≡ 512 →
     (slipsCalled ss (readCall d book .book) work ≡ laid (run ss b))
     × (slipsCalled ss (readCall d book .book) work ≡ readCall (with-blocks (written (run ss b)) d) book .book)
 

@@ -145,16 +145,16 @@ pub book-empty : (ys : List Row) → ys ≡ laid empty → bookOf ys ≡ empty
 book-empty ys e = rw e (book-laid empty orderly-empty)
 
 module _ (d : Delivery) (xs : List Row) where
-  pub read-sized : (length xs ≡ 2048 → ⊥) → (v : Verdict) → v ≡ nowhere badLoan → outcome v xs ≡ readCall d xs
-  read-sized n v e = rw (ne-eqb (length xs) 2048 n, e)
+  pub read-sized : (length xs ≡ 2560 → ⊥) → (v : Verdict) → v ≡ nowhere badLoan → outcome v xs ≡ readCall d xs
+  read-sized n v e = rw (ne-eqb (length xs) 2560 n, e)
 
-  module _ (sized : length xs ≡ 2048) (v : Verdict) (ys : List Row) (is : resultOf v ys ≡ reading d) where
+  module _ (sized : length xs ≡ 2560) (v : Verdict) (ys : List Row) (is : resultOf v ys ≡ reading d) where
     pub read-accepted : v ≡ Accepted → Sound ys → outcome Accepted ys ≡ readCall d xs
     read-accepted a sound =
         let z : leaves (bookOf ys) ≡ reading d = subst (λ (x : Verdict). resultOf x ys ≡ reading d) a is in
-        rw (eq-eqb (length xs) 2048 sized, ← z, laid-book ys sound)
+        rw (eq-eqb (length xs) 2560 sized, ← z, laid-book ys sound)
 
     pub read-refused : (p : Place) → v ≡ Refused p → (zs : List Row) → zs ≡ laid empty → outcome (Refused p) zs ≡ readCall d xs
     read-refused p a zs e =
         let z : refused p ≡ reading d = subst (λ (x : Verdict). resultOf x ys ≡ reading d) a is in
-        rw (eq-eqb (length xs) 2048 sized, ← z, e)
+        rw (eq-eqb (length xs) 2560 sized, ← z, e)

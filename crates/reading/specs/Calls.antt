@@ -27,12 +27,12 @@ readOutcome (leaves b) = outcome Accepted (laid b)
 -- "Book and working area each have one fixed size; one lent at another length is 16, before all else: that one stays as it came"
 abbrev pub readCall : Delivery → List Row → Outcome
 readCall d slice =
-    if eqb (length slice) 2048 then readOutcome (reading d) else outcome (nowhere badLoan) slice
+    if eqb (length slice) 2560 then readOutcome (reading d) else outcome (nowhere badLoan) slice
 
 -- what a verdict and a book's slice come to, where the slice is not looked at behind a refusal
 abbrev pub resultOf : Verdict → List Row → Result
 resultOf Accepted slice = leaves (bookOf slice)
 resultOf (Refused p) slice = refused p
 
-abbrev pub delivery : Bytes → Bytes → Bytes → Bytes → Delivery
-delivery a b c d = record { types = a; depots = b; stops = c; blocks = d }
+abbrev pub delivery : Bytes → Bytes → Bytes → Bytes → Bytes → Delivery
+delivery a b c d e = record { types = a; depots = b; stops = c; points = d; blocks = e }

@@ -17,7 +17,7 @@ use Rattle.text.specs.Numbers.{value}
 use Rattle.tables.specs.Columns.{Column, columnsOf, number, keptWidth}
 use Rattle.tables.specs.Values.{cellCheck}
 use Rattle.tables.specs.declared.Table.{Table}
-use Rattle.tables.specs.declared.Table.the-variants.{VehicleType, Depot, Stop, Block}
+use Rattle.tables.specs.declared.Table.the-variants.{VehicleType, Depot, Stop, StopPoint, Block}
 use Rattle.rows.specs.Rows.{wide}
 use Rattle.book.specs.Book.{Book, empty, entered, full}
 use Rattle.book.specs.Rules.{ruled}
@@ -81,20 +81,22 @@ topFaults t s =
 unfoldable pub tableRead : Table → Bytes → Book → Result
 tableRead t s b = unless (topFaults t s) (rowsRead t (headerOf t s) 2 (rowLines (lines s)) b)
 
--- the four texts
+-- the five texts
 pub record Delivery : Type 0 where
   pub types : Bytes
   pub depots : Bytes
   pub stops : Bytes
+  pub points : Bytes
   pub blocks : Bytes
 
--- "in this order: tables 1 to 4"
+-- "in this order: tables 1 to 4", stop_point "between stop and vehicle_block"
 unfoldable pub reading : Delivery → Result
 reading d =
     leaves empty
     ▹ tableRead VehicleType (d .types)
     ▹ tableRead Depot (d .depots)
     ▹ tableRead Stop (d .stops)
+    ▹ tableRead StopPoint (d .points)
     ▹ tableRead Block (d .blocks)
 
 -- "The book rule: it is a book that some accepted delivery leaves."

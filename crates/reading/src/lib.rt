@@ -18,6 +18,7 @@ ghost use Rattle.reading.specs.Heading.{places, headed, heading, namesCh
 ghost use Rattle.reading.specs.CellQuestion.{answered, said, tableCell, cellAsked, stretchOf};
 ghost use Rattle.reading.specs.Asking.{cellJudged, rowAnswer};
 ghost use Rattle.reading.specs.Calls.{outcome, resultOf, readCall, delivery};
+use book::BOOK_ROWS;
 use refusals::Cell;
 use refusals::Check;
 use refusals::Place;
@@ -392,16 +393,18 @@ fn take_tables(
     types: &[u8],
     depots: &[u8],
     stops: &[u8],
+    points: &[u8],
     blocks: &[u8],
     book: &mut [Row],
 ) -> Verdict
     requires { ⌜ Sound (now book) × (bookOf (now book) ≡ empty) ⌝ }
-    ensures { λ r. ⌜ Sound (now (book .exit)) × (resultOf r (now (book .exit)) ≡ reading (delivery (now (types .entry)) (now (depots .entry)) (now (stops .entry)) (now (blocks .entry)))) ⌝ }
+    ensures { λ r. ⌜ Sound (now (book .exit)) × (resultOf r (now (book .exit)) ≡ reading (delivery (now (types .entry)) (now (depots .entry)) (now (stops .entry)) (now (points .entry)) (now (blocks .entry)))) ⌝ }
 {
     let a = take_table(types, Table::VehicleType, book);
     let b = then_table(a, depots, Table::Depot, book);
     let c = then_table(b, stops, Table::Stop, book);
-    then_table(c, blocks, Table::Block, book)
+    let d = then_table(c, points, Table::StopPoint, book);
+    then_table(d, blocks, Table::Block, book)
 }
 
 // The reading of a delivery: its verdict, and the book that it leaves.
@@ -409,16 +412,17 @@ pub fn read(
     vehicle_type: &[u8],
     depot: &[u8],
     stop: &[u8],
+    stop_point: &[u8],
     vehicle_block: &[u8],
     book: &mut [Row],
 ) -> Verdict
-    ensures { λ r. ⌜ outcome r (now (book .exit)) ≡ readCall (delivery (now («vehicle_type» .entry)) (now (depot .entry)) (now (stop .entry)) (now («vehicle_block» .entry))) (now (book .entry)) ⌝ }
+    ensures { λ r. ⌜ outcome r (now (book .exit)) ≡ readCall (delivery (now («vehicle_type» .entry)) (now (depot .entry)) (now (stop .entry)) (now («stop_point» .entry)) (now («vehicle_block» .entry))) (now (book .entry)) ⌝ }
 {
-    if book.len() != 2048 {
+    if book.len() != BOOK_ROWS {
         return Check::bad_loan().on(Place::NO_TABLE, Place::NO_LINE);
     }
     book::clear(book);
-    let verdict = take_tables(vehicle_type, depot, stop, vehicle_block, book);
+    let verdict = take_tables(vehicle_type, depot, stop, stop_point, vehicle_block, book);
     match verdict {
         Verdict::Accepted => Verdict::Accepted,
         Verdict::Refused(p) => {

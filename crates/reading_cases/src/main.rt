@@ -14,6 +14,8 @@ const DEPOTS: [u8; 17] = *b"VERSION;DEPOT_NR\n";
 
 const STOPS: [u8; 26] = *b"VERSION;STOP_NR;STOP_NAME\n";
 
+const POINTS: [u8; 34] = *b"VERSION;STOP_NR;STOPPING_POINT_NR\n";
+
 const BLOCKS: [u8; 145] =
     *b"VERSION;DAY_TYPE_NR;DEPOT_NR;BLOCK_NR;VEH_TYP_NR;DEP_STOP_NR;DEP_STOPPING_POINT_NR;BEGIN_OF_BLOCK;ARR_STOP_NR;ARR_STOPPING_POINT_NR;END_OF_BLOCK\n";
 
@@ -27,6 +29,12 @@ const TWO_TYPES: [u8; 28] = *b"VERSION;VEH_TYPE_NR\n1;4\n1;7\n";
 const ONE_DEPOT: [u8; 21] = *b"VERSION;DEPOT_NR\n1;3\n";
 
 const TWO_STOPS: [u8; 46] = *b"VERSION;STOP_NR;STOP_NAME\n1;20;Yard\n1;31;Mill\n";
+
+// Enough for 512 points, of which a stop has 100.
+const SIX_STOPS: [u8; 94] =
+    *b"VERSION;STOP_NR;STOP_NAME\n1;20;Yard\n1;31;Mill\n1;40;Bridge\n1;41;Bridge\n1;42;Bridge\n1;43;Bridge\n";
+
+const TWO_POINTS: [u8; 48] = *b"VERSION;STOP_NR;STOPPING_POINT_NR\n1;20;1\n1;31;2\n";
 
 fn text(bytes: &[u8]) {
     io::write_all(STDOUT_FILENO, bytes);
@@ -88,7 +96,8 @@ fn part_of(table: u64) -> usize {
         1 => 0,
         2 => ROWS,
         3 => 2 * ROWS,
-        _ => 3 * ROWS,
+        6 => 3 * ROWS,
+        _ => 4 * ROWS,
     }
 }
 
@@ -97,23 +106,25 @@ fn last_of(table: u64) -> usize {
         1 => ROWS - 1,
         2 => 2 * ROWS - 1,
         3 => 3 * ROWS - 1,
-        _ => 4 * ROWS - 1,
+        6 => 4 * ROWS - 1,
+        _ => 5 * ROWS - 1,
     }
 }
 
 // One table's text beside others that are good.
 fn deliver(table: u64, s: &[u8], book: &mut [Row]) -> Verdict {
     match table {
-        1 => reading::read(s, &DEPOTS, &STOPS, &BLOCKS, book),
-        2 => reading::read(&TYPES, s, &STOPS, &BLOCKS, book),
-        3 => reading::read(&TYPES, &DEPOTS, s, &BLOCKS, book),
-        _ => reading::read(&TWO_TYPES, &ONE_DEPOT, &TWO_STOPS, s, book),
+        1 => reading::read(s, &DEPOTS, &STOPS, &POINTS, &BLOCKS, book),
+        2 => reading::read(&TYPES, s, &STOPS, &POINTS, &BLOCKS, book),
+        3 => reading::read(&TYPES, &DEPOTS, s, &POINTS, &BLOCKS, book),
+        6 => reading::read(&TYPES, &DEPOTS, &SIX_STOPS, s, &BLOCKS, book),
+        _ => reading::read(&TWO_TYPES, &ONE_DEPOT, &TWO_STOPS, &TWO_POINTS, s, book),
     }
 }
 
 // A table's text, read into a book that held something else before; its rows are shown.
 fn table(name: &[u8], number: u64, s: &[u8]) {
-    let mut book = [[7u64; 11]; 4 * ROWS];
+    let mut book = [[7u64; 11]; 5 * ROWS];
     let v = deliver(number, s, &mut book);
     verdict(name, v);
     rows_from(&book, part_of(number));
@@ -129,6 +140,10 @@ fn depots(name: &[u8], s: &[u8]) {
 
 fn stops(name: &[u8], s: &[u8]) {
     table(name, 3, s);
+}
+
+fn points(name: &[u8], s: &[u8]) {
+    table(name, 6, s);
 }
 
 fn blocks(name: &[u8], s: &[u8]) {
@@ -169,14 +184,18 @@ fn type_rows(name: &[u8], lines: &[u8]) {
     below(name, 1, &TYPE_COLUMNS, lines);
 }
 
+fn point_rows(name: &[u8], lines: &[u8]) {
+    below(name, 6, &POINTS, lines);
+}
+
 fn block_rows(name: &[u8], lines: &[u8]) {
     below(name, 4, &BLOCKS, lines);
 }
 
-// Four texts; the rows of one table are shown.
-fn delivery(name: &[u8], a: &[u8], b: &[u8], c: &[u8], d: &[u8], shown: u64) {
-    let mut book = [[7u64; 11]; 4 * ROWS];
-    let v = reading::read(a, b, c, d, &mut book);
+// Five texts in the order of reading; the rows of one table are shown.
+fn delivery(name: &[u8], a: &[u8], b: &[u8], c: &[u8], d: &[u8], e: &[u8], shown: u64) {
+    let mut book = [[7u64; 11]; 5 * ROWS];
+    let v = reading::read(a, b, c, d, e, &mut book);
     verdict(name, v);
     rows_from(&book, part_of(shown));
 }
@@ -185,7 +204,7 @@ fn delivery(name: &[u8], a: &[u8], b: &[u8], c: &[u8], d: &[u8], shown: u64) {
 fn file(name: &[u8], path: &[u8], number: u64) {
     let mut buffer = [0u8; 65537];
     let n = files::load(path, &mut buffer);
-    let mut book = [[7u64; 11]; 4 * ROWS];
+    let mut book = [[7u64; 11]; 5 * ROWS];
     let v = deliver(number, &buffer[..n], &mut book);
     verdict(name, v);
     row_at(&book, part_of(number));
@@ -230,6 +249,7 @@ fn whole(name: &[u8], shown: u64) {
         b"VERSION;VEH_TYPE_NR;VEH_TYPE_TEXT\n1;4;\"solo; low floor\"\n1;7;\"joint \"\"old\"\"\"\n",
         &ONE_DEPOT,
         &TWO_STOPS,
+        &TWO_POINTS,
         b"VERSION;DAY_TYPE_NR;DEPOT_NR;BLOCK_NR;VEH_TYP_NR;DEP_STOP_NR;DEP_STOPPING_POINT_NR;BEGIN_OF_BLOCK;ARR_STOP_NR;ARR_STOPPING_POINT_NR;END_OF_BLOCK\n1;5;3;101;4;20;1;18000;31;2;46800\n1;5;3;102;7;31;2;21600;20;1;25201\n1;6;3;101;4;20;1;80000;20;1;90000\n",
         shown,
     );
@@ -240,6 +260,7 @@ fn whole_case() {
     whole(b"whole case, types", 1);
     whole(b"whole case, depots", 2);
     whole(b"whole case, stops", 3);
+    whole(b"whole case, stop points", 6);
     whole(b"whole case, blocks", 4);
 }
 
@@ -365,6 +386,44 @@ fn stop_headers() {
     stops(
         b"stops, 33 cells",
         b"VERSION;STOP_NR;STOP_NAME;;;;;;;;;;;;;;;;;;;;;;;;;;;;;;\n",
+    );
+}
+
+fn point_headers() {
+    points(b"no text of stop points", b"");
+    points(
+        b"points lack the version",
+        b"STOP_NR;STOPPING_POINT_NR\n20;1\n",
+    );
+    points(b"points lack the stop", b"VERSION;STOPPING_POINT_NR\n1;1\n");
+    points(b"points lack the point", b"VERSION;STOP_NR\n1;20\n");
+    points(
+        b"points, a column twice",
+        b"VERSION;STOP_NR;STOPPING_POINT_NR;STOP_NR\n",
+    );
+    points(
+        b"points, quote fault in the header",
+        b"VERSION;STOP_NR;\"STOPPING_POINT_NR\n",
+    );
+    points(
+        b"points, 33 cells",
+        b"VERSION;STOP_NR;STOPPING_POINT_NR;;;;;;;;;;;;;;;;;;;;;;;;;;;;;;\n",
+    );
+}
+
+// Names of other tables are unknown to stop_point, as are its own columns that the workshop does not read.
+fn point_names() {
+    points(
+        b"a block's names in stop_point",
+        b"VERSION;DEP_STOP_NR;DEP_STOPPING_POINT_NR\n",
+    );
+    points(
+        b"points in areas, other order",
+        b"STOPPING_POINT_NR;STOP_AREA_NR;STOP_NAME;STOP_NAME;STOP_NR;VERSION\n1;x;;;20;1\n",
+    );
+    stops(
+        b"a point's name in stop",
+        b"VERSION;STOP_NR;STOP_NAME;STOPPING_POINT_NR;STOPPING_POINT_NR\n1;20;Yard;x;\n",
     );
 }
 
@@ -506,6 +565,7 @@ fn cuts_elsewhere() {
         b"stops, quote open",
         b"VERSION;STOP_NR;STOP_NAME\n1;20;\"Yard\n",
     );
+    point_rows(b"points, quote behind", b"1;20;1\"\n");
     block_rows(b"blocks, byte 9", b"1;5;3;101;4;20;1;500\t;31;2;500\n");
 }
 
@@ -519,6 +579,8 @@ fn cell_counts() {
         b"stops, a cell too many",
         b"VERSION;STOP_NR;STOP_NAME\n1;20;Yard;\n",
     );
+    point_rows(b"points, a cell too few", b"1;20\n");
+    point_rows(b"points, a cell too many", b"1;20;1;\n");
     block_rows(b"blocks, a cell too few", b"1;5;3;101;4;20;1;500;31;2\n");
 }
 
@@ -643,6 +705,20 @@ fn stop_columns() {
     stops(b"name a blank", b"VERSION;STOP_NR;STOP_NAME\n1;1; \n");
 }
 
+// 8 at each column of stop_point.
+fn point_columns() {
+    point_rows(b"point version 0", b"0;20;1\n");
+    point_rows(b"point version of 3 digits", b"001;20;1\n");
+    point_rows(b"point at stop 0", b"1;0;1\n");
+    point_rows(b"point at a stop of 6 digits", b"1;000020;1\n");
+    point_rows(b"point of 3 digits", b"1;20;001\n");
+    point_rows(b"point no digits", b"1;20;A\n");
+    point_rows(b"point empty", b"1;20;\n");
+    point_rows(b"two columns of a point bad", b"1;x;x\n");
+    point_rows(b"point 0", b"1;20;0\n");
+    point_rows(b"every width of a point full", b"01;00020;99\n");
+}
+
 // 8 at each column of a block: every width full, and then each one digit longer.
 fn block_widths() {
     block_rows(
@@ -738,6 +814,45 @@ fn other_keys() {
     );
 }
 
+// A point's key is all three numbers, whichever area it is in.
+fn point_keys() {
+    point_rows(b"point twice", b"1;20;1\n01;020;01\n");
+    points(
+        b"point twice, in two areas",
+        b"VERSION;STOP_NR;STOP_AREA_NR;STOPPING_POINT_NR\n1;20;1;1\n1;20;2;1\n",
+    );
+    point_rows(
+        b"the same stop, other points, and the same points of another stop",
+        b"1;31;2\n1;20;10\n1;20;2\n1;31;1\n1;20;1\n",
+    );
+    delivery(
+        b"the same point in another version",
+        &TYPES,
+        &DEPOTS,
+        b"VERSION;STOP_NR;STOP_NAME\n1;20;Yard\n2;20;Yard\n",
+        b"VERSION;STOP_NR;STOPPING_POINT_NR\n2;20;1\n1;20;1\n",
+        &BLOCKS,
+        6,
+    );
+}
+
+// A stop point names a known stop: 10, behind the others.
+fn point_references() {
+    point_rows(b"point at an unknown stop", b"1;21;1\n");
+    point_rows(b"point at a stop of another version", b"2;20;1\n");
+    point_rows(b"point at stop 99999", b"1;20;1\n1;99999;1\n");
+    point_rows(b"7 before a point's 10", b"1;21;1;\n");
+    point_rows(b"8 before a point's 10", b"1;21;x\n");
+    point_rows(
+        b"an earlier point's 10 before a later one's 9",
+        b"1;20;1\n1;21;1\n1;20;1\n",
+    );
+    point_rows(
+        b"an earlier point's 9 before a later one's 10",
+        b"1;20;1\n1;20;1\n1;21;1\n",
+    );
+}
+
 // The rules of a block: 11, 9, 10.
 fn times_and_keys() {
     block_rows(b"end equal to begin", b"1;5;3;101;4;20;1;500;31;2;500\n");
@@ -765,6 +880,72 @@ fn references() {
     );
 }
 
+// 10 at a block's points, each sought together with its stop.
+fn point_references_of_blocks() {
+    block_rows(
+        b"departure at a point of another stop",
+        b"1;5;3;101;4;20;2;500;31;2;500\n",
+    );
+    block_rows(
+        b"arrival at a point of another stop",
+        b"1;5;3;101;4;20;1;500;31;1;500\n",
+    );
+    block_rows(b"departure at point 0", b"1;5;3;101;4;20;0;500;31;2;500\n");
+    block_rows(b"arrival at point 99", b"1;5;3;101;4;20;1;500;31;99;500\n");
+    delivery(
+        b"a point of another version",
+        b"VERSION;VEH_TYPE_NR\n2;4\n",
+        b"VERSION;DEPOT_NR\n2;3\n",
+        b"VERSION;STOP_NR;STOP_NAME\n1;20;Yard\n2;20;Yard\n",
+        b"VERSION;STOP_NR;STOPPING_POINT_NR\n1;20;1\n2;20;2\n",
+        b"VERSION;DAY_TYPE_NR;DEPOT_NR;BLOCK_NR;VEH_TYP_NR;DEP_STOP_NR;DEP_STOPPING_POINT_NR;BEGIN_OF_BLOCK;ARR_STOP_NR;ARR_STOPPING_POINT_NR;END_OF_BLOCK\n2;5;3;101;4;20;2;500;20;1;500\n",
+        4,
+    );
+    delivery(
+        b"no stop points at all",
+        &TWO_TYPES,
+        &ONE_DEPOT,
+        &TWO_STOPS,
+        &POINTS,
+        b"VERSION;DAY_TYPE_NR;DEPOT_NR;BLOCK_NR;VEH_TYP_NR;DEP_STOP_NR;DEP_STOPPING_POINT_NR;BEGIN_OF_BLOCK;ARR_STOP_NR;ARR_STOPPING_POINT_NR;END_OF_BLOCK\n1;5;3;101;4;20;1;500;31;2;500\n",
+        4,
+    );
+}
+
+// References by column: 3, 5, 6, 7, 9, 10, and behind 11 and 9.
+fn order_of_references() {
+    block_rows(
+        b"depot before departure point",
+        b"1;5;4;101;4;20;9;500;31;2;500\n",
+    );
+    block_rows(
+        b"type before departure point",
+        b"1;5;3;101;9;20;9;500;31;2;500\n",
+    );
+    block_rows(
+        b"departure before its point",
+        b"1;5;3;101;4;21;9;500;31;2;500\n",
+    );
+    block_rows(
+        b"departure point before arrival",
+        b"1;5;3;101;4;20;9;500;32;2;500\n",
+    );
+    block_rows(
+        b"departure point before arrival point",
+        b"1;5;3;101;4;20;9;500;31;9;500\n",
+    );
+    block_rows(
+        b"arrival before its point",
+        b"1;5;3;101;4;20;1;500;32;9;500\n",
+    );
+    block_rows(b"8 before a point", b"1;5;3;101;4;20;9;500;31;2;x\n");
+    block_rows(b"11 before a point", b"1;5;3;101;4;20;9;500;31;2;499\n");
+    block_rows(
+        b"9 before a point",
+        b"1;5;3;101;4;20;1;500;31;2;500\n1;5;3;101;4;20;1;500;31;9;500\n",
+    );
+}
+
 fn order_of_block_rules() {
     block_rows(b"8 before 11", b"1;5;3;101;4;20;100;500;31;2;499\n");
     block_rows(b"8 before 10", b"1;5;4;101;4;20;1;500;31;2;x\n");
@@ -787,6 +968,7 @@ fn tables_in_order() {
         b"X\n",
         b"",
         b"",
+        b"",
         1,
     );
     delivery(
@@ -795,32 +977,73 @@ fn tables_in_order() {
         b"VERSION;DEPOT_NR\n1\n",
         b"",
         b"",
+        b"",
         1,
     );
     delivery(
-        b"header fault of table 3 before table 4",
+        b"header fault of table 3 before tables 6 and 4",
         &TYPES,
         &DEPOTS,
         b"",
         b"",
+        b"",
         1,
     );
-    delivery(b"table 4 last", &TYPES, &DEPOTS, &STOPS, b"", 1);
-    delivery(b"four headers alone", &TYPES, &DEPOTS, &STOPS, &BLOCKS, 1);
+}
+
+// stop_point is read between stop and vehicle_block, though its number is 6.
+fn tables_behind_stops() {
+    delivery(
+        b"row fault of table 3 before header fault of table 6",
+        &TYPES,
+        &DEPOTS,
+        b"VERSION;STOP_NR;STOP_NAME\n1;20;\n",
+        b"",
+        &BLOCKS,
+        1,
+    );
+    delivery(
+        b"header fault of table 6 before table 4",
+        &TYPES,
+        &DEPOTS,
+        &STOPS,
+        b"",
+        b"",
+        1,
+    );
+    delivery(
+        b"row fault of table 6 before header fault of table 4",
+        &TYPES,
+        &DEPOTS,
+        &TWO_STOPS,
+        b"VERSION;STOP_NR;STOPPING_POINT_NR\n1;20;1\n1;21;1\n",
+        b"",
+        1,
+    );
+    delivery(b"table 4 last", &TYPES, &DEPOTS, &STOPS, &POINTS, b"", 1);
+    delivery(
+        b"five headers alone",
+        &TYPES,
+        &DEPOTS,
+        &STOPS,
+        &POINTS,
+        &BLOCKS,
+        1,
+    );
 }
 
 // A book of another length is 16 and stays as it came.
 fn lengths() {
-    let mut short = [[7u64; 11]; 2047];
-    let v = reading::read(b"", b"", b"", b"", &mut short);
-    verdict(b"book of 2,047 rows", v);
+    let mut short = [[7u64; 11]; 2559];
+    let v = reading::read(b"", b"", b"", b"", b"", &mut short);
+    verdict(b"book of 2,559 rows", v);
     row_at(&short, 0);
-    row_at(&short, 2046);
-    let mut long = [[7u64; 11]; 2049];
-    let w = reading::read(b"", b"", b"", b"", &mut long);
-    verdict(b"book of 2,049 rows", w);
+    row_at(&short, 2558);
+    let mut long = [[7u64; 11]; 2561];
+    let w = reading::read(b"", b"", b"", b"", b"", &mut long);
+    verdict(b"book of 2,561 rows", w);
     row_at(&long, 0);
-    row_at(&long, 2048);
+    row_at(&long, 2560);
 }
 
 // 512 rows pass, the next one is 5.
@@ -845,6 +1068,8 @@ fn full_tables() {
     file(b"513 types", b"types-513.din", 1);
     file(b"512 stops", b"stops-512.din", 3);
     file(b"513 stops", b"stops-513.din", 3);
+    file(b"512 stop points", b"points-512.din", 6);
+    file(b"513 stop points", b"points-513.din", 6);
     file(b"512 blocks", b"blocks-512.din", 4);
     file(b"513 blocks", b"blocks-513.din", 4);
 }
@@ -855,6 +1080,7 @@ fn long_texts() {
     file(b"65,537 bytes of types", b"bytes-65537.din", 1);
     file(b"65,537 bytes", b"bytes-65537.din", 2);
     file(b"65,537 bytes of stops", b"bytes-65537.din", 3);
+    file(b"65,537 bytes of stop points", b"bytes-65537.din", 6);
     file(b"65,537 bytes of blocks", b"bytes-65537.din", 4);
 }
 
@@ -901,6 +1127,45 @@ fn cells_answered() {
         2,
         2,
         2,
+    );
+}
+
+// Cells of stop_point, which is table 6.
+fn cells_of_points() {
+    cell(
+        b"version of a point",
+        b"VERSION;STOP_NR;STOPPING_POINT_NR\n1;20;1\n02;31;07\n",
+        6,
+        3,
+        1,
+    );
+    cell(
+        b"stop of a point",
+        b"VERSION;STOP_NR;STOPPING_POINT_NR\n1;20;1\n02;31;07\n",
+        6,
+        3,
+        2,
+    );
+    cell(
+        b"number of a point",
+        b"VERSION;STOP_NR;STOPPING_POINT_NR\n1;20;1\n02;31;07\n",
+        6,
+        3,
+        3,
+    );
+    cell(
+        b"point that cannot be read",
+        b"VERSION;STOP_NR;STOPPING_POINT_NR\n1;20;100\n",
+        6,
+        2,
+        3,
+    );
+    cell(
+        b"header without points",
+        b"VERSION;STOP_NR\n1;20\n",
+        6,
+        2,
+        1,
     );
 }
 
@@ -973,6 +1238,14 @@ fn what_does_not_matter() {
 fn asked_beside_the_tables() {
     cell(b"table 0", b"VERSION;DEPOT_NR\n1;3\n", 0, 2, 1);
     cell(b"table 5", b"VERSION;DEPOT_NR\n1;3\n", 5, 2, 1);
+    cell(
+        b"stop points as table 5",
+        b"VERSION;STOP_NR;STOPPING_POINT_NR\n1;20;1\n",
+        5,
+        2,
+        3,
+    );
+    cell(b"table 7", b"VERSION;DEPOT_NR\n1;3\n", 7, 2, 1);
     cell(b"column 0", b"VERSION;DEPOT_NR\n1;3\n", 2, 2, 0);
     cell(b"column 3 of depot", b"VERSION;DEPOT_NR\n1;3\n", 2, 2, 3);
     cell(
@@ -981,6 +1254,13 @@ fn asked_beside_the_tables() {
         1,
         2,
         12,
+    );
+    cell(
+        b"column 4 of stop_point",
+        b"VERSION;STOP_NR;STOPPING_POINT_NR\n1;20;1\n",
+        6,
+        2,
+        4,
     );
     cell(b"column before header", b"", 2, 2, 3);
 }
@@ -1054,6 +1334,8 @@ fn main() {
     header_columns();
     type_headers();
     stop_headers();
+    point_headers();
+    point_names();
     block_headers();
     first_columns_missing();
     last_columns_missing();
@@ -1069,20 +1351,27 @@ fn main() {
     optional_cells();
     depot_columns();
     stop_columns();
+    point_columns();
     block_widths();
     block_widths_behind();
     block_cells();
     depot_keys();
     other_keys();
+    point_keys();
+    point_references();
     times_and_keys();
     references();
+    point_references_of_blocks();
+    order_of_references();
     order_of_block_rules();
     tables_in_order();
+    tables_behind_stops();
     lengths();
     depot_files();
     full_tables();
     long_texts();
     cells_answered();
+    cells_of_points();
     optional_cells_asked();
     what_does_not_matter();
     asked_beside_the_tables();

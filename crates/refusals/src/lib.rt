@@ -74,6 +74,8 @@ impl Place {
 
     pub const SLIP: u64 = 5;
 
+    pub const STOP_POINT: u64 = 6;
+
     // The lines of a place that names no row.
     pub const NO_LINE: u64 = 0;
 

@@ -19,12 +19,12 @@ use Rattle.text.proofs.Cutting.{fields-some}
 use Rattle.text.proofs.Marking.{Stands, field-stands}
 use Rattle.tables.specs.Columns.{keyWidth, references}
 use Rattle.tables.specs.declared.Table.{Table}
-use Rattle.tables.specs.declared.Table.the-variants.{Block}
+use Rattle.tables.specs.declared.Table.the-variants.{VehicleType, Depot, Stop, StopPoint, Block}
 use Rattle.tables.specs.declared.Reference.{Reference}
 use Rattle.rows.specs.Rows.{wide, column}
 use Rattle.rows.specs.Room.{zeros}
 use Rattle.book.specs.Book.{Book, rows, knows, full}
-use Rattle.book.specs.Rules.{timeFault, unknownOf, unknown, ruled}
+use Rattle.book.specs.Rules.{timeFault, named, unknownOf, unknown, ruled}
 use Rattle.book.proofs.Referring.{getD-padded, stands-wide}
 use Rattle.reading.specs.Heading.{rowed}
 use Rattle.reading.specs.declared.Judged.{Judged}
@@ -114,6 +114,14 @@ module _ (ns : List ℕ) where
   pub time-wide : timeFault Block (wide ns) ≡ timeFault Block ns
   time-wide = rw (getD-padded ns padding 10, getD-padded ns padding 7)
 
+  -- the key that a column names
+  named-wide : (t : Table) (k : ℕ) → named t k (wide ns) ≡ named t k ns
+  named-wide VehicleType k = rw (getD-padded ns padding 0, getD-padded ns padding (k - 1))
+  named-wide Depot k = rw (getD-padded ns padding 0, getD-padded ns padding (k - 1))
+  named-wide Stop k = rw (getD-padded ns padding 0, getD-padded ns padding (k - 1))
+  named-wide StopPoint k = rw (getD-padded ns padding 0, getD-padded ns padding (k - 1 - 1), getD-padded ns padding (k - 1))
+  named-wide Block k = rw (getD-padded ns padding 0, getD-padded ns padding (k - 1))
+
   module _ (b : Book) where
     pub knows-wide : (t : Table) → knows t (wide ns) b ≡ knows t ns b
     knows-wide t = stands-wide (keyWidth t) ns (rows t b)
@@ -121,7 +129,7 @@ module _ (ns : List ℕ) where
     unknownOf-wide : (xs : List Reference) → unknownOf xs (wide ns) b ≡ unknownOf xs ns b
     unfolding unknownOf
     unknownOf-wide [] = refl
-    unknownOf-wide (x ∷ xs) = rw (getD-padded ns padding 0, getD-padded ns padding (x .column - 1), unknownOf-wide xs)
+    unknownOf-wide (x ∷ xs) = rw (named-wide (x .to) (x .column), unknownOf-wide xs)
 
     pub unknown-wide : (t : Table) → unknown t (wide ns) b ≡ unknown t ns b
     unknown-wide t = unknownOf-wide (references t)

@@ -15,11 +15,11 @@ use Rattle.reading.specs.Calls.{readCall}
 use Rattle.reading.specs.Calls as reading-is
 use Rattle.slips.specs.Calls.{Outcome, outcome, cleared, slipCall, emptied, thenSlip, dayCall}
 
-pub book-emptied : (xs : List Row) → length xs ≡ 2048 → laid empty ≡ emptied xs
-book-emptied xs e = rw (eq-eqb (length xs) 2048 e)
+pub book-emptied : (xs : List Row) → length xs ≡ 2560 → laid empty ≡ emptied xs
+book-emptied xs e = rw (eq-eqb (length xs) 2560 e)
 
-pub book-stays : (xs : List Row) → (length xs ≡ 2048 → ⊥) → xs ≡ emptied xs
-book-stays xs h = rw (ne-eqb (length xs) 2048 h)
+pub book-stays : (xs : List Row) → (length xs ≡ 2560 → ⊥) → xs ≡ emptied xs
+book-stays xs h = rw (ne-eqb (length xs) 2560 h)
 
 module _ (d : Delivery) (s : Bytes) (xs work : List Row) where
   -- 16 of the working area

@@ -12,7 +12,7 @@ use Rattle.refusals.specs.declared.Check.{Check}
 use Rattle.refusals.specs.declared.Check.the-variants.{Passes, Fails}
 use Rattle.text.specs.Numbers.{value}
 use Rattle.text.specs.Fields.{fields}
-use Rattle.tables.specs.declared.Table.the-variants.{VehicleType, Depot, Stop, Block}
+use Rattle.tables.specs.declared.Table.the-variants.{VehicleType, Depot, Stop, StopPoint, Block}
 use Rattle.rows.specs.Rows.{wide, removed}
 use Rattle.rows.specs.Room.{filled}
 use Rattle.rows.proofs.Keys.{sameKey-refl}
@@ -105,23 +105,39 @@ stops-stay Replace row b = refl
 stops-stay Delete row b = refl
 stops-stay Unknown row b = refl
 
--- the first 1536 rows are those of the first three tables
-front-laid : (b : Book) → Orderly b → take 1536 (laid b) ≡ filled 512 (b .types) ++ (filled 512 (b .depots) ++ filled 512 (b .stops))
+pub points-stay : (w : Wish) (row : Row) (b : Book) → granted w row b .points ≡ b .points
+points-stay Add row b = refl
+points-stay Replace row b = refl
+points-stay Delete row b = refl
+points-stay Unknown row b = refl
+
+-- the first 2048 rows are those of the other tables
+front-laid : (b : Book) → Orderly b → take 2048 (laid b) ≡ filled 512 (b .types) ++ (filled 512 (b .depots) ++ (filled 512 (b .stops) ++ filled 512 (b .points)))
 front-laid b o =
     let f0 = filled 512 (b .types) in
     let f1 = filled 512 (b .depots) in
     let f2 = filled 512 (b .stops) in
-    let f3 = filled 512 (b .blocks) in
-    let e : laid b ≡ (f0 ++ (f1 ++ f2)) ++ f3 = sym (rw (append-assoc f0 (f1 ++ f2) f3, append-assoc f1 f2 f3)) in
-    let n : length (f0 ++ (f1 ++ f2)) ≡ 1536 =
-    omega (arith, length-append f0 (f1 ++ f2), length-append f1 f2, length-filled 512 (b .types) (o .few VehicleType), length-filled 512 (b .depots) (o .few Depot), length-filled 512 (b .stops) (o .few Stop)) in
-    ap (take 1536) e ∙ take-at (f0 ++ (f1 ++ f2)) f3 1536 n
+    let f3 = filled 512 (b .points) in
+    let f4 = filled 512 (b .blocks) in
+    let e : laid b ≡ (f0 ++ (f1 ++ (f2 ++ f3))) ++ f4 = sym (rw (append-assoc f0 (f1 ++ (f2 ++ f3)) f4, append-assoc f1 (f2 ++ f3) f4, append-assoc f2 f3 f4)) in
+    let n : length (f0 ++ (f1 ++ (f2 ++ f3))) ≡ 2048 =
+    omega (
+      arith,
+      length-append f0 (f1 ++ (f2 ++ f3)),
+      length-append f1 (f2 ++ f3),
+      length-append f2 f3,
+      length-filled 512 (b .types) (o .few VehicleType),
+      length-filled 512 (b .depots) (o .few Depot),
+      length-filled 512 (b .stops) (o .few Stop),
+      length-filled 512 (b .points) (o .few StopPoint),
+    ) in
+    ap (take 2048) e ∙ take-at (f0 ++ (f1 ++ (f2 ++ f3))) f4 2048 n
 
-pub front-stays : (line : Bytes) (b : Book) → Orderly b → slipCheck line b ≡ Passes → take 1536 (laid (slipLeaves line b)) ≡ take 1536 (laid b)
+pub front-stays : (line : Bytes) (b : Book) → Orderly b → slipCheck line b ≡ Passes → take 2048 (laid (slipLeaves line b)) ≡ take 2048 (laid b)
 front-stays line b o p =
     let w = wish (fields line) in
     front-laid (slipLeaves line b) (orderly-line line b o p)
-    ∙ (rw (types-stay w (rowIn line) b, depots-stay w (rowIn line) b, stops-stay w (rowIn line) b))
+    ∙ (rw (types-stay w (rowIn line) b, depots-stay w (rowIn line) b, stops-stay w (rowIn line) b, points-stay w (rowIn line) b))
     ∙ sym (front-laid b o)
 
 -- a sound slice stays so through a line
@@ -133,5 +149,5 @@ taken line xs ys sound p e =
     record {
       sound = rw e (sound-laid (slipLeaves line b) q);
       leaves = ap bookOf e ∙ book-laid (slipLeaves line b) q;
-      front = ap (take 1536) e ∙ front-stays line b o p ∙ ap (take 1536) (laid-book xs sound);
+      front = ap (take 2048) e ∙ front-stays line b o p ∙ ap (take 2048) (laid-book xs sound);
     }

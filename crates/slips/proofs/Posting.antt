@@ -28,7 +28,7 @@ use Rattle.reading.specs.Reading.{Result, refused, leaves, unless}
 use Rattle.slips.specs.Slips.{wish, rowIn, slipCheck, slipLeaves, linesPosted, posting}
 use Rattle.slips.specs.Taking.{LinesTaken}
 use Rattle.slips.specs.Calls.{outcome, workSized, cleared, slipOutcome, slipCall}
-use Rattle.slips.proofs.Granting.{types-stay, depots-stay, stops-stay}
+use Rattle.slips.proofs.Granting.{types-stay, depots-stay, stops-stay, points-stay}
 
 -- a check that is accepted on its line passes
 placed-accepted : (t i : ℕ) (c : Check) → placed t i c ≡ Accepted → c ≡ Passes
@@ -74,13 +74,13 @@ lines-end s at i b h = ap (λ (ls : List Bytes). linesPosted i ls b) (slip-lines
 -- the whole slip --------------------------------------------------------------------------------------------------------------------
 
 -- the blocks put back behind the tables that stayed
-pub put-back : (xs ys zs : List Row) (from : ℕ) → from ≡ 1536 → length xs ≡ 2048 → length ys ≡ 2048 → take 1536 ys ≡ take 1536 xs → zs ≡ part 3 xs
+pub put-back : (xs ys zs : List Row) (from : ℕ) → from ≡ 2048 → length xs ≡ 2560 → length ys ≡ 2560 → take 2048 ys ≡ take 2048 xs → zs ≡ part 4 xs
     → take from ys ++ (zs ++ drop (from + 512 - from) (drop from ys)) ≡ xs
 put-back xs ys zs from f lx ly e z =
     let n : from + 512 - from ≡ 512 = omega arith in
-    let g : length (drop 1536 ys) ≤ 512 = omega (arith, length-drop 1536 ys) in
-    let h : length (drop 1536 xs) ≤ 512 = omega (arith, length-drop 1536 xs) in
-    rw (n, f, e, z, drop-of-length-le (drop 1536 ys) g, append-nil, take-all 512 (drop 1536 xs) h, take-append-drop 1536 xs)
+    let g : length (drop 2048 ys) ≤ 512 = omega (arith, length-drop 2048 ys) in
+    let h : length (drop 2048 xs) ≤ 512 = omega (arith, length-drop 2048 xs) in
+    rw (n, f, e, z, drop-of-length-le (drop 2048 ys) g, append-nil, take-all 512 (drop 2048 xs) h, take-append-drop 2048 xs)
 
 module _ (s : Bytes) (xs work : List Row) where
   -- all lines were taken
@@ -152,3 +152,6 @@ module _ (s : Bytes) (b b′ : Book) (e : posting s b ≡ leaves b′) where
 
   pub posting-stops : b′ .stops ≡ b .stops
   posting-stops = lines-stay (λ x. x .stops) (λ l x. stops-stay (wish (fields l)) (rowIn l) x) 1 (slipLines s) b b′ posting-lines
+
+  pub posting-points : b′ .points ≡ b .points
+  posting-points = lines-stay (λ x. x .points) (λ l x. points-stay (wish (fields l)) (rowIn l) x) 1 (slipLines s) b b′ posting-lines

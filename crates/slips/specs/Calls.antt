@@ -46,7 +46,7 @@ slipCall s book work =
 
 -- "A refused reading leaves an empty book"; a book of another length "stays as it came"
 abbrev pub emptied : List Row → List Row
-emptied book = if eqb (length book) 2048 then laid empty else book
+emptied book = if eqb (length book) 2560 then laid empty else book
 
 -- the slip is judged only on the book that an accepted delivery leaves
 abbrev pub thenSlip : Verdict → Bytes → List Row → List Row → Outcome

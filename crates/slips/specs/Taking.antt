@@ -9,9 +9,9 @@ use Rattle.book.specs.Room.{bookOf, Sound}
 use Rattle.reading.specs.Calls.{resultOf}
 use Rattle.slips.specs.Slips.{slipLeaves, linesPosted}
 
--- `xs` is what the slice held before, and `ys` behind it. Only blocks change: the parts of types, depots and stops are the first 1536 rows
+-- `xs` is what the slice held before, and `ys` behind it. Only blocks change: the parts of types, depots, stops and stop points are the first 2048 rows
 abbrev pub frontStays : List Row → List Row → Type 0
-frontStays xs ys = take 1536 ys ≡ take 1536 xs
+frontStays xs ys = take 2048 ys ≡ take 2048 xs
 
 -- of a line that passes
 pub record Taken (line : Bytes) (xs ys : List Row) : Type 0 where

@@ -18,6 +18,7 @@ ghost use Rattle.reading.specs.Calls.{delivery};
 ghost use Rattle.slips.specs.Calls.{outcome, cleared, slipOutcome, slipCall, emptied, dayCall};
 ghost use Rattle.slips.specs.Taking.{Taken, LinesTaken};
 ghost use Rattle.slips.specs.Slips.{numbers, letter, counted, wish, missingBlock, lineJudged, granted, slipCheck, askedBy, asked, fieldsRead, linesPosted};
+use book::BOOK_ROWS;
 use reading::Judged;
 use refusals::Check;
 use refusals::Place;
@@ -375,7 +376,7 @@ pub fn slip(slip: &[u8], book: &mut [Row], work: &mut [Row]) -> Verdict
 fn empty_book(book: &mut [Row])
     ensures { λ _. ⌜ now (book .exit) ≡ emptied (now (book .entry)) ⌝ }
 {
-    if book.len() == 4 * ROWS {
+    if book.len() == BOOK_ROWS {
         book::clear(book);
     }
 }
@@ -385,18 +386,19 @@ pub fn day(
     vehicle_type: &[u8],
     depot: &[u8],
     stop: &[u8],
+    stop_point: &[u8],
     vehicle_block: &[u8],
     slip: &[u8],
     book: &mut [Row],
     work: &mut [Row],
 ) -> Verdict
-    ensures { λ r. ⌜ outcome r (now (book .exit)) (now (work .exit)) ≡ dayCall (delivery (now («vehicle_type» .entry)) (now (depot .entry)) (now (stop .entry)) (now («vehicle_block» .entry))) (now (slip .entry)) (now (book .entry)) (now (work .entry)) ⌝ }
+    ensures { λ r. ⌜ outcome r (now (book .exit)) (now (work .exit)) ≡ dayCall (delivery (now («vehicle_type» .entry)) (now (depot .entry)) (now (stop .entry)) (now («stop_point» .entry)) (now («vehicle_block» .entry))) (now (slip .entry)) (now (book .entry)) (now (work .entry)) ⌝ }
 {
     if work.len() != ROWS {
         empty_book(book);
         return Check::bad_loan().on(Place::NO_TABLE, Place::NO_LINE);
     }
-    match reading::read(vehicle_type, depot, stop, vehicle_block, book) {
+    match reading::read(vehicle_type, depot, stop, stop_point, vehicle_block, book) {
         Verdict::Accepted => crate::slip(slip, book, work),
         Verdict::Refused(place) => {
             rows::clear(work);

@@ -56,6 +56,12 @@ fn good(book: &[Row]) {
     say(b", ");
     counted(
         rows_between(book, 3 * ROWS, 4 * ROWS),
+        b"stop point",
+        b"stop points",
+    );
+    say(b", ");
+    counted(
+        rows_between(book, 4 * ROWS, 5 * ROWS),
         b"vehicle block",
         b"vehicle blocks",
     );
@@ -68,12 +74,21 @@ fn table_name(table: u64) {
         2 => say(b"depot"),
         3 => say(b"stop"),
         4 => say(b"vehicle_block"),
+        6 => say(b"stop_point"),
         _ => say(b"the book"),
     }
 }
 
+// A block's points, at columns 7 and 10, are sought by their stop too.
+fn unknown_row(column: u64) {
+    match column {
+        7 | 10 => say(b"this point, with its version and its stop, is in no row of stop_point"),
+        _ => say(b"this number, with its version, is in no row of the table that it refers to"),
+    }
+}
+
 // What each number of refusal means, for a person.
-fn meaning(refusal: u64) {
+fn meaning(refusal: u64, column: u64) {
     match refusal {
         1 => say(b"the file has more than 65,536 bytes"),
         2 => say(b"this column is required and the header lacks it"),
@@ -86,7 +101,7 @@ fn meaning(refusal: u64) {
             b"this cell is empty though required, or not digits, or too long, or out of its range",
         ),
         9 => say(b"the key of this row stands in an earlier row"),
-        10 => say(b"this number, with its version, is in no row of the table that it refers to"),
+        10 => unknown_row(column),
         11 => say(b"the block ends before it begins"),
         _ => say(b"the book was lent at another length"),
     }
@@ -123,6 +138,14 @@ fn stop_column(column: u64) {
     }
 }
 
+fn point_column(column: u64) {
+    match column {
+        1 => say(&tables::VERSION),
+        2 => say(&tables::STOP_NR),
+        _ => say(&tables::STOPPING_POINT_NR),
+    }
+}
+
 fn block_column(column: u64) {
     match column {
         1 => say(&tables::VERSION),
@@ -144,6 +167,7 @@ fn column_name(table: u64, column: u64) {
         1 => type_column(column),
         2 => depot_column(column),
         3 => stop_column(column),
+        6 => point_column(column),
         _ => block_column(column),
     }
 }
@@ -376,20 +400,31 @@ fn offence(p: Place, t: Table, text: &[u8]) {
     }
 }
 
-fn fault(p: Place, types: &[u8], depots: &[u8], stops: &[u8], blocks: &[u8]) {
+fn fault(p: Place, types: &[u8], depots: &[u8], stops: &[u8], points: &[u8], blocks: &[u8]) {
     say(b"fault: ");
     place(p);
     say(b", refusal ");
     number(p.number);
     say(b": ");
-    meaning(p.number);
+    meaning(p.number, p.column);
     say(b"\n");
     let table = p.table;
     match table {
         Place::VEHICLE_TYPE => offence(p, Table::VehicleType, types),
         Place::DEPOT => offence(p, Table::Depot, depots),
         Place::STOP => offence(p, Table::Stop, stops),
+        Place::STOP_POINT => offence(p, Table::StopPoint, points),
         _ => offence(p, Table::Block, blocks),
+    }
+}
+
+// Reads the delivery and says what came of it.
+fn answer(types: &[u8], depots: &[u8], stops: &[u8], points: &[u8], blocks: &[u8]) {
+    let mut book = [[0u64; 11]; 5 * ROWS];
+    let verdict = reading::read(types, depots, stops, points, blocks, &mut book);
+    match verdict {
+        Verdict::Accepted => good(&book),
+        Verdict::Refused(p) => fault(p, types, depots, stops, points, blocks),
     }
 }
 
@@ -398,21 +433,18 @@ fn main() {
     let mut types = [0u8; 65537];
     let mut depots = [0u8; 65537];
     let mut stops = [0u8; 65537];
+    let mut points = [0u8; 65537];
     let mut blocks = [0u8; 65537];
     let t = files::load_or_tell(b"vehicle_type.din", &mut types);
     let d = files::load_or_tell(b"depot.din", &mut depots);
     let s = files::load_or_tell(b"stop.din", &mut stops);
+    let p = files::load_or_tell(b"stop_point.din", &mut points);
     let b = files::load_or_tell(b"vehicle_block.din", &mut blocks);
-    let mut book = [[0u64; 11]; 4 * ROWS];
-    let verdict = reading::read(
+    answer(
         &types[..t],
         &depots[..d],
         &stops[..s],
+        &points[..p],
         &blocks[..b],
-        &mut book,
     );
-    match verdict {
-        Verdict::Accepted => good(&book),
-        Verdict::Refused(p) => fault(p, &types[..t], &depots[..d], &stops[..s], &blocks[..b]),
-    }
 }

@@ -1,4 +1,4 @@
--- The figures of the four tables: what the constant tables hold is what the definition lists, and the bounds that callers need. Assumes nothing.
+-- The figures of the tables: what the constant tables hold is what the definition lists, and the bounds that callers need. Assumes nothing.
 use mathlib.Core.Path.{_≡_, refl, ap, sym, _∙_}
 use mathlib.Core.List.{List, [], _∷_}
 use mathlib.Core.Bool.{Bool, true, false, _&&_}
@@ -10,39 +10,36 @@ use lib.Seq.{getD-take}
 use borrow.Author.Tests.{leb-true}
 use Rattle.words.proofs.Lists.{every, every-at, and-left, and-right}
 use Rattle.tables.specs.declared.Table.{Table}
-use Rattle.tables.specs.declared.Table.the-variants.{VehicleType, Depot, Stop, Block}
+use Rattle.tables.specs.declared.Table.the-variants.{VehicleType, Depot, Stop, StopPoint, Block}
 use Rattle.tables.specs.declared.Sort.{Sort}
 use Rattle.tables.specs.declared.Sort.the-variants.{Decimal, Text}
 use Rattle.tables.specs.Columns.{Column, columnsOf, columnAt, noColumn, version, keyWidth, keptWidth, partOf, references, ref}
 
 -- the code's tables -----------------------------------------------------------------------------------------------------------
 
-pub part-below : (t : Table) → partOf t < 4
+pub part-below : (t : Table) → partOf t < 5
 part-below VehicleType = lit≤ tt
 part-below Depot = lit≤ tt
 part-below Stop = lit≤ tt
+part-below StopPoint = lit≤ tt
 part-below Block = lit≤ tt
 
 -- a table's figure stands in its part
-pub figured : (f : Table → ℕ) (t : Table) → getD (f VehicleType ∷ f Depot ∷ f Stop ∷ f Block ∷ []) (partOf t) 0 ≡ f t
+pub figured : (f : Table → ℕ) (t : Table) → getD (f VehicleType ∷ f Depot ∷ f Stop ∷ f StopPoint ∷ f Block ∷ []) (partOf t) 0 ≡ f t
 figured f VehicleType = refl
 figured f Depot = refl
 figured f Stop = refl
+figured f StopPoint = refl
 figured f Block = refl
 
--- only a block has references
-pub references-few : (t : Table) → length (references t) ≤ 4
-references-few VehicleType = lit≤ tt
-references-few Depot = lit≤ tt
-references-few Stop = lit≤ tt
-references-few Block = lit≤ tt
-
--- its reference of a number
-pub reference-read : (t : Table) (i k : ℕ) → i ≡ k → i < length (references t) → getD (references Block) k (ref 0 VehicleType) ≡ getD (references t) i (ref 0 VehicleType)
-reference-read VehicleType i k e h = absurd (omega arith)
-reference-read Depot i k e h = absurd (omega arith)
-reference-read Stop i k e h = absurd (omega arith)
-reference-read Block i k e h = ap (λ (n : ℕ). getD (references Block) n (ref 0 VehicleType)) (sym e)
+-- only stop points and blocks have references
+pub reference-of-point : (t : Table) (i : ℕ) → (t ≡ Block → ⊥) → i < length (references t) → getD (references StopPoint) 0 (ref 0 VehicleType) ≡ getD (references t) i (ref 0 VehicleType)
+reference-of-point VehicleType i n h = absurd (omega arith)
+reference-of-point Depot i n h = absurd (omega arith)
+reference-of-point Stop i n h = absurd (omega arith)
+reference-of-point StopPoint zero n h = refl
+reference-of-point StopPoint (suc i) n h = absurd (omega arith)
+reference-of-point Block i n h = absurd (n refl)
 
 -- past the last column there is none
 pub past-the-last : (t : Table) (i : ℕ) → length (columnsOf t) ≤ i → noColumn .rules ≡ columnAt t i .rules
@@ -55,18 +52,21 @@ unfolding columnsOf
 columns-few VehicleType = lit≤ tt
 columns-few Depot = lit≤ tt
 columns-few Stop = lit≤ tt
+columns-few StopPoint = lit≤ tt
 columns-few Block = lit≤ tt
 
 pub keys-some : (t : Table) → 1 ≤ keyWidth t
 keys-some VehicleType = lit≤ tt
 keys-some Depot = lit≤ tt
 keys-some Stop = lit≤ tt
+keys-some StopPoint = lit≤ tt
 keys-some Block = lit≤ tt
 
 pub keys-kept : (t : Table) → keyWidth t ≤ keptWidth t
 keys-kept VehicleType = lit≤ tt
 keys-kept Depot = lit≤ tt
 keys-kept Stop = lit≤ tt
+keys-kept StopPoint = lit≤ tt
 keys-kept Block = lit≤ tt
 
 pub kept-columns : (t : Table) → keptWidth t ≤ length (columnsOf t)
@@ -74,6 +74,7 @@ unfolding columnsOf
 kept-columns VehicleType = lit≤ tt
 kept-columns Depot = lit≤ tt
 kept-columns Stop = lit≤ tt
+kept-columns StopPoint = lit≤ tt
 kept-columns Block = lit≤ tt
 
 pub kept-few : (t : Table) → keptWidth t ≤ 11
@@ -90,6 +91,7 @@ unfolding columnsOf
 first-version VehicleType = refl
 first-version Depot = refl
 first-version Stop = refl
+first-version StopPoint = refl
 first-version Block = refl
 
 pub version-low : (t : Table) → columnAt t 0 .rules .low ≡ 1
@@ -105,6 +107,7 @@ unfolding columnsOf
 all-narrow VehicleType = refl
 all-narrow Depot = refl
 all-narrow Stop = refl
+all-narrow StopPoint = refl
 all-narrow Block = refl
 
 pub decimal-width : (t : Table) (i : ℕ) → columnAt t i .rules .sort ≡ Decimal → columnAt t i .rules .width ≤ 9
@@ -129,6 +132,7 @@ unfolding columnsOf
 all-asked VehicleType = refl
 all-asked Depot = refl
 all-asked Stop = refl
+all-asked StopPoint = refl
 all-asked Block = refl
 
 kept-asked : (t : Table) (i : ℕ) → i < keptWidth t → asked (columnAt t i) ≡ true

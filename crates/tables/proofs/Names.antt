@@ -12,7 +12,7 @@ use Rattle.words.specs.Words.{Bytes, if_then_else_, bytes, same}
 use Rattle.words.proofs.Lists.{every, and-left, and-right, listed, getD-listed}
 use Rattle.text.specs.Cells.{quoted, stretch, once, content}
 use Rattle.tables.specs.declared.Table.{Table}
-use Rattle.tables.specs.declared.Table.the-variants.{VehicleType, Depot, Stop, Block}
+use Rattle.tables.specs.declared.Table.the-variants.{VehicleType, Depot, Stop, StopPoint, Block}
 use Rattle.tables.specs.Columns.{Column, columnsOf, columnFrom, columnNumber, columnAt, noColumn}
 
 -- the code asks each name once, from the last column to the first
@@ -63,6 +63,7 @@ unfolding columnsOf bytes
 all-unquoted VehicleType = refl
 all-unquoted Depot = refl
 all-unquoted Stop = refl
+all-unquoted StopPoint = refl
 all-unquoted Block = refl
 
 from-once : (k : ℕ) (xs : List Column) (s : Bytes) → every unquoted xs ≡ true → columnFrom k xs (once false s) ≡ columnFrom k xs s
@@ -89,6 +90,7 @@ unfolding columnNumber columnFrom columnsOf bytes same
 found VehicleType = refl
 found Depot = refl
 found Stop = refl
+found StopPoint = refl
 found Block = refl
 
 pub number-of-name : (t : Table) (i : ℕ) → i < length (columnsOf t) → columnNumber t (columnAt t i .name) ≡ suc i

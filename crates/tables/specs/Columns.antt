@@ -1,4 +1,4 @@
--- The four tables of columns.
+-- The tables of columns.
 use mathlib.Core.List.{List, [], _∷_, _++_}
 use mathlib.Core.Bool.{Bool, true, false, _&&_, _||_, not}
 use Prim.Native.Nat.{ℕ, zero, suc, _+_, _-_, _^_}
@@ -8,7 +8,7 @@ use lib.ListN.{length, getD}
 use Rattle.words.specs.Words.{Bytes, if_then_else_, bytes, same}
 use Rattle.text.specs.Numbers.{isDecimal, value}
 use Rattle.tables.specs.declared.Table.{Table}
-use Rattle.tables.specs.declared.Table.the-variants.{VehicleType, Depot, Stop, Block}
+use Rattle.tables.specs.declared.Table.the-variants.{VehicleType, Depot, Stop, StopPoint, Block}
 use Rattle.tables.specs.declared.Named.{Named}
 use Rattle.tables.specs.declared.Named.the-variants.{Known, Unknown}
 use Rattle.tables.specs.declared.Sort.{Sort}
@@ -49,6 +49,10 @@ also n x = record { name = x .name; other = bytes n; rules = x .rules }
 abbrev pub version : Column
 version = K (range 1 99 (d 2 "VERSION"))
 
+-- "2 STOP_NR (both as in stop)"
+abbrev pub stopNumber : Column
+stopNumber = K (range 1 99999 (d 5 "STOP_NR"))
+
 unfoldable pub columnsOf : Table → List Column
 columnsOf VehicleType =
     version ∷
@@ -67,8 +71,12 @@ columnsOf Depot =
     K (d 5 "DEPOT_NR") ∷ []
 columnsOf Stop =
     version ∷
-    K (range 1 99999 (d 5 "STOP_NR")) ∷
+    stopNumber ∷
     r (c 50 "STOP_NAME") ∷ []
+columnsOf StopPoint =
+    version ∷
+    stopNumber ∷
+    K (d 2 "STOPPING_POINT_NR") ∷ []
 columnsOf Block =
     version ∷
     K (d 9 "DAY_TYPE_NR") ∷
@@ -82,11 +90,12 @@ columnsOf Block =
     r (d 2 "ARR_STOPPING_POINT_NR") ∷
     r (d 6 "END_OF_BLOCK") ∷ []
 
--- "with these numbers: 1 vehicle_type, 2 depot, 3 stop, 4 vehicle_block"
+-- "with these numbers: 1 vehicle_type, 2 depot, 3 stop, 4 vehicle_block", and stop_point "takes number 6"; 5 is the slip's
 abbrev pub number : Table → ℕ
 number VehicleType = 1
 number Depot = 2
 number Stop = 3
+number StopPoint = 6
 number Block = 4
 
 -- the table of a number
@@ -96,6 +105,7 @@ numbered n =
     else if eqb n 2 then Known Depot
     else if eqb n 3 then Known Stop
     else if eqb n 4 then Known Block
+    else if eqb n 6 then Known StopPoint
     else Unknown
 
 -- how many columns are keys, which come first
@@ -103,13 +113,15 @@ abbrev pub keyWidth : Table → ℕ
 keyWidth VehicleType = 2
 keyWidth Depot = 2
 keyWidth Stop = 2
+keyWidth StopPoint = 3
 keyWidth Block = 4
 
--- "The book holds the keys of tables 1 to 3 and the 11 numbers of each block": how many of a row's numbers it keeps
+-- "The book holds the keys of tables 1 to 3 and the 11 numbers of each block", and the keys of stop points: how many of a row's numbers it keeps
 abbrev pub keptWidth : Table → ℕ
 keptWidth VehicleType = 2
 keptWidth Depot = 2
 keptWidth Stop = 2
+keptWidth StopPoint = 3
 keptWidth Block = 11
 
 -- which part of the book is the table's, counted from 0
@@ -117,18 +129,21 @@ abbrev pub partOf : Table → ℕ
 partOf VehicleType = 0
 partOf Depot = 1
 partOf Stop = 2
-partOf Block = 3
+partOf StopPoint = 3
+partOf Block = 4
 
 -- a column and the table in which its number stands, "each together with VERSION"
 abbrev pub ref : ℕ → Table → Reference
 ref k t = record { column = k; to = t }
 
--- "References of a block: column 3 to depot, 5 to vehicle_type, 6 and 9 to stop."
+-- "References of a block: column 3 to depot, 5 to vehicle_type, 6 and 9 to stop." "A stop point must name a known stop, and columns 6 with 7
+-- and 9 with 10 of a block must name a known point": "column 7 or 10, after the stop's own; for a stop point, column 2"
 abbrev pub references : Table → List Reference
 references VehicleType = []
 references Depot = []
 references Stop = []
-references Block = ref 3 Depot ∷ ref 5 VehicleType ∷ ref 6 Stop ∷ ref 9 Stop ∷ []
+references StopPoint = ref 2 Stop ∷ []
+references Block = ref 3 Depot ∷ ref 5 VehicleType ∷ ref 6 Stop ∷ ref 7 StopPoint ∷ ref 9 Stop ∷ ref 10 StopPoint ∷ []
 
 -- names --------------------------------------------------------------------------------------------------------------------
 

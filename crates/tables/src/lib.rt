@@ -18,6 +18,7 @@ pub enum Table {
     VehicleType,
     Depot,
     Stop,
+    StopPoint,
     Block,
 }
 
@@ -43,7 +44,8 @@ pub struct Rules {
     pub required: bool,
 }
 
-// A column whose number, together with VERSION, is the key of a row in another table.
+// A column whose number, together with VERSION, is the key of a row in another table; of a stop point together with its stop's number, one
+// column before.
 pub struct Reference {
     pub column: usize,
     pub to: Table,
@@ -88,6 +90,8 @@ pub const STOP_NR: [u8; 7] = *b"STOP_NR";
 
 pub const STOP_NAME: [u8; 9] = *b"STOP_NAME";
 
+pub const STOPPING_POINT_NR: [u8; 17] = *b"STOPPING_POINT_NR";
+
 pub const DAY_TYPE_NR: [u8; 11] = *b"DAY_TYPE_NR";
 
 pub const BLOCK_NR: [u8; 8] = *b"BLOCK_NR";
@@ -121,6 +125,15 @@ const STOP_KEY: Rules = Rules {
     width: 5,
     low: 1,
     high: 99999,
+    key: true,
+    required: true,
+};
+
+const D2_KEY: Rules = Rules {
+    sort: Sort::Decimal,
+    width: 2,
+    low: 0,
+    high: 99,
     key: true,
     required: true,
 };
@@ -233,8 +246,13 @@ const NO_COLUMN: Rules = Rules {
     required: false,
 };
 
-// The references of a block: the column, counted from 1, and the table in which its number stands.
-const BLOCK_REFERENCES: [Reference; 4] = [
+// The references: the column, counted from 1, and the table in which its number stands.
+const STOP_POINT_REFERENCES: [Reference; 1] = [Reference {
+    column: 2,
+    to: Table::Stop,
+}];
+
+const BLOCK_REFERENCES: [Reference; 6] = [
     Reference {
         column: 3,
         to: Table::Depot,
@@ -248,8 +266,16 @@ const BLOCK_REFERENCES: [Reference; 4] = [
         to: Table::Stop,
     },
     Reference {
+        column: 7,
+        to: Table::StopPoint,
+    },
+    Reference {
         column: 9,
         to: Table::Stop,
+    },
+    Reference {
+        column: 10,
+        to: Table::StopPoint,
     },
 ];
 
@@ -294,6 +320,17 @@ fn stop_rules(i: usize) -> Rules
     }
 }
 
+fn stop_point_rules(i: usize) -> Rules
+    ensures { λ r. ⌜ r ≡ columnAt Table.StopPoint i .rules ⌝ }
+{
+    match i {
+        0 => VERSION_KEY,
+        1 => STOP_KEY,
+        2 => D2_KEY,
+        _ => NO_COLUMN,
+    }
+}
+
 fn block_rules(i: usize) -> Rules
     ensures { λ r. ⌜ r ≡ columnAt Table.Block i .rules ⌝ }
 {
@@ -310,6 +347,20 @@ fn block_rules(i: usize) -> Rules
         9 => D2_REQUIRED,
         10 => D6_REQUIRED,
         _ => NO_COLUMN,
+    }
+}
+
+fn block_reference(i: usize) -> Reference
+    requires { ⌜ i < 6 ⌝ }
+    ensures { λ r. ⌜ r ≡ getD (references Table.Block) i (ref 0 Table.VehicleType) ⌝ }
+{
+    match i {
+        0 => BLOCK_REFERENCES[0],
+        1 => BLOCK_REFERENCES[1],
+        2 => BLOCK_REFERENCES[2],
+        3 => BLOCK_REFERENCES[3],
+        4 => BLOCK_REFERENCES[4],
+        _ => BLOCK_REFERENCES[5],
     }
 }
 
@@ -378,6 +429,16 @@ fn stop_column(name: &[u8]) -> usize
     r
 }
 
+fn stop_point_column(name: &[u8]) -> usize
+    ensures { λ r. ⌜ r ≡ columnNumber Table.StopPoint (now (name .entry)) ⌝ }
+{
+    let mut r = 0;
+    r = or(name, &STOPPING_POINT_NR, 3, r);
+    r = or(name, &STOP_NR, 2, r);
+    r = or(name, &VERSION, 1, r);
+    r
+}
+
 fn block_column(name: &[u8]) -> usize
     ensures { λ r. ⌜ r ≡ columnNumber Table.Block (now (name .entry)) ⌝ }
 {
@@ -399,20 +460,21 @@ fn block_column(name: &[u8]) -> usize
 
 impl Table {
     // The figures of each table, by the table's part in the book.
-    pub const NUMBER: [u64; 4] = [
+    pub const NUMBER: [u64; 5] = [
         Place::VEHICLE_TYPE,
         Place::DEPOT,
         Place::STOP,
+        Place::STOP_POINT,
         Place::VEHICLE_BLOCK,
     ];
 
-    pub const COLUMNS: [usize; 4] = [11, 2, 3, 11];
+    pub const COLUMNS: [usize; 5] = [11, 2, 3, 3, 11];
 
-    pub const KEYS: [usize; 4] = [2, 2, 2, 4];
+    pub const KEYS: [usize; 5] = [2, 2, 2, 3, 4];
 
-    pub const KEPT: [usize; 4] = [2, 2, 2, 11];
+    pub const KEPT: [usize; 5] = [2, 2, 2, 3, 11];
 
-    pub const REFERENCES: [usize; 4] = [0, 0, 0, 4];
+    pub const REFERENCES: [usize; 5] = [0, 0, 0, 1, 6];
 
     // The constructor by number.
     pub fn numbered(n: u64) -> Named
@@ -423,6 +485,7 @@ impl Table {
             Place::DEPOT => Named::Known(Table::Depot),
             Place::STOP => Named::Known(Table::Stop),
             Place::VEHICLE_BLOCK => Named::Known(Table::Block),
+            Place::STOP_POINT => Named::Known(Table::StopPoint),
             _ => Named::Unknown,
         }
     }
@@ -434,19 +497,21 @@ impl Table {
             Table::VehicleType => 0,
             Table::Depot => 1,
             Table::Stop => 2,
-            Table::Block => 3,
+            Table::StopPoint => 3,
+            Table::Block => 4,
         }
     }
 
-    // Of four figures, one for each part of the book, the table's own.
-    fn figure(self, figures: [usize; 4]) -> usize
+    // Of the figures, one for each part of the book, the table's own.
+    fn figure(self, figures: [usize; 5]) -> usize
         ensures { λ r. ⌜ r ≡ getD figures (partOf self) 0 ⌝ }
     {
         match self {
             Table::VehicleType => figures[0],
             Table::Depot => figures[1],
             Table::Stop => figures[2],
-            Table::Block => figures[3],
+            Table::StopPoint => figures[3],
+            Table::Block => figures[4],
         }
     }
 
@@ -457,7 +522,8 @@ impl Table {
             Table::VehicleType => Table::NUMBER[0],
             Table::Depot => Table::NUMBER[1],
             Table::Stop => Table::NUMBER[2],
-            Table::Block => Table::NUMBER[3],
+            Table::StopPoint => Table::NUMBER[3],
+            Table::Block => Table::NUMBER[4],
         }
     }
 
@@ -487,6 +553,7 @@ impl Table {
             Table::VehicleType => type_rules(i),
             Table::Depot => depot_rules(i),
             Table::Stop => stop_rules(i),
+            Table::StopPoint => stop_point_rules(i),
             Table::Block => block_rules(i),
         }
     }
@@ -499,6 +566,7 @@ impl Table {
             Table::VehicleType => type_column(name),
             Table::Depot => depot_column(name),
             Table::Stop => stop_column(name),
+            Table::StopPoint => stop_point_column(name),
             Table::Block => block_column(name),
         }
     }
@@ -509,16 +577,13 @@ impl Table {
         self.figure(Table::REFERENCES)
     }
 
-    // Only a block has references.
     pub fn reference(self, i: usize) -> Reference
         requires { ⌜ i < length (references self) ⌝ }
         ensures { λ r. ⌜ r ≡ getD (references self) i (ref 0 Table.VehicleType) ⌝ }
     {
-        match i {
-            0 => BLOCK_REFERENCES[0],
-            1 => BLOCK_REFERENCES[1],
-            2 => BLOCK_REFERENCES[2],
-            _ => BLOCK_REFERENCES[3],
+        match self {
+            Table::Block => block_reference(i),
+            _ => STOP_POINT_REFERENCES[0],
         }
     }
 }

@@ -55,7 +55,7 @@ header-length = refl
 -- the blocks are the first rows of their part
 blocks-lent : (xs : List Row) (from n : ℕ) → from ≡ partOf Block * 512 → n ≡ length (bookOf xs .blocks)
     → take n (take (from + 512 - from) (drop from xs)) ≡ bookOf xs .blocks
-blocks-lent xs from n e en = rw (part-lent Block xs from e, en) (used-take (part 3 xs))
+blocks-lent xs from n e en = rw (part-lent Block xs from e, en) (used-take (part 4 xs))
 
 -- so what is written of their part is what the call answers
 abbrev answered : List Row → Bytes → Outcome

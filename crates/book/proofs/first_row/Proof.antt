@@ -1,4 +1,4 @@
--- `book::first_row` meets its contract: there are four parts. Assumes nothing.
+-- `book::first_row` meets its contract: there are five parts. Assumes nothing.
 use Rattle.tables.proofs.Figures.{part-below}
 use native.Mathlib.Omega.{arith}
 use borrow.Author.Needs.{needs}

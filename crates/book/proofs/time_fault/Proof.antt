@@ -15,6 +15,9 @@ enum-told-3 c = search needs
 enum-told-4 : tie.Need-enum-told-4
 enum-told-4 c = search needs
 
+enum-told-5 : tie.Need-enum-told-5
+enum-told-5 c = search needs
+
 array-read-result : tie.Need-array-read-result
 array-read-result c = search needs
 
@@ -31,7 +34,10 @@ returns-3 : tie.Need-returns-3
 returns-3 c = search needs
 
 returns-4 : tie.Need-returns-4
-returns-4 c = rw (c .enum-told4 .given .1)
+returns-4 c = search needs
+
+returns-5 : tie.Need-returns-5
+returns-5 c = rw (c .enum-told5 .given .1)
 
 pub time-fault-spec : {M : Type 1} → statement M
 time-fault-spec =
@@ -41,9 +47,11 @@ time-fault-spec =
     enum-told-2
     enum-told-3
     enum-told-4
+    enum-told-5
     array-read-result
     array-read-result-2
     returns
     returns-2
     returns-3
-    returns-4)
+    returns-4
+    returns-5)

@@ -29,32 +29,12 @@ references-holds c = (search needs, c .references2 .ensures, refl)
 reference-requires : tie.Need-reference-requires Inv-references μ-references
 reference-requires c κs = omega (arith, c .before .references .inv .1)
 
-array-read-key : tie.Need-array-read-key Inv-references μ-references
-array-read-key c = search needs
-
-sub-key : tie.Need-sub-key Inv-references μ-references
-sub-key c =
+named-requires : tie.Need-named-requires Inv-references μ-references
+named-requires c κs =
     let at = c .before .before in
     let f = referring (at .before .before .args .t) (at .references .i) (omega (arith, at .references .inv .1)) in
     let e = ap (λ (x : Reference). x .column) (c .reference .ensures) in
-    omega (arith, f .0, f .1, e)
-
-mul-key : tie.Need-mul-key Inv-references μ-references
-mul-key c =
-    let at = c .before .before in
-    let f = referring (at .before .before .args .t) (at .references .i) (omega (arith, at .references .inv .1)) in
-    let e = ap (λ (x : Reference). x .column) (c .reference .ensures) in
-    omega (arith, f .0, f .1, e)
-
-array-read-key-2 : tie.Need-array-read-key-2 Inv-references μ-references
-array-read-key-2 c =
-    let at = c .before .before in
-    let f = referring (at .before .before .args .t) (at .references .i) (omega (arith, at .references .inv .1)) in
-    let e = ap (λ (x : Reference). x .column) (c .reference .ensures) in
-    omega (arith, f .0, f .1, e)
-
-key-requires : tie.Need-key-requires Inv-references μ-references
-key-requires c κs = search needs
+    (omega (arith, f .0, e), omega (arith, f .1, e))
 
 knowing-requires : tie.Need-knowing-requires Inv-references μ-references
 knowing-requires c κs = search needs
@@ -69,9 +49,9 @@ returns c =
     let at = kn .before .before .before .before in
     let st = at .before .before in
     let b = bookOf (st .args .book .now) in
-    let there = asked-there (st .args .t) (st .args .t3) b (at .references .i) (x .result) (kn .before .key .result) (kn .knowing .result) (x .ensures) (kn .before .key .ensures) (kn .knowing .ensures) ∙ not-true _ (c .before .if1 .taken) in
+    let there = asked-there (st .args .t) (st .args .row) b (at .references .i) (x .result) (kn .before .named .result) (kn .knowing .result) (x .ensures) (kn .before .named .ensures) (kn .knowing .ensures) ∙ not-true _ (c .before .if1 .taken) in
     let more : at .references .i < length (references (st .args .t)) = omega (arith, at .references .inv .1, kn .before .before .before .references-test .taken) in
-    c .no-row .ensures ∙ sym (at .references .inv .2 ∙ unknown-here (st .args .t) (st .args .t3) b (at .references .i) more there ∙ ap (λ (y : Reference). noRow (y .column)) (sym (x .ensures)))
+    c .no-row .ensures ∙ sym (at .references .inv .2 ∙ unknown-here (st .args .t) (st .args .row) b (at .references .i) more there ∙ ap (λ (y : Reference). noRow (y .column)) (sym (x .ensures)))
 
 add-i : tie.Need-add-i Inv-references μ-references
 add-i c = search needs
@@ -86,15 +66,15 @@ references-again c =
     let at = kn .before .before .before .before in
     let st = at .before .before in
     let b = bookOf (st .args .book .now) in
-    let there = asked-there (st .args .t) (st .args .t3) b (at .references .i) (x .result) (kn .before .key .result) (kn .knowing .result) (x .ensures) (kn .before .key .ensures) (kn .knowing .ensures) ∙ not-false _ (c .if1 .left) in
+    let there = asked-there (st .args .t) (st .args .row) b (at .references .i) (x .result) (kn .before .named .result) (kn .knowing .result) (x .ensures) (kn .before .named .ensures) (kn .knowing .ensures) ∙ not-false _ (c .if1 .left) in
     let more : at .references .i < length (references (st .args .t)) = omega (arith, at .references .inv .1, kn .before .before .before .references-test .taken) in
-    (omega arith, at .references .inv .1, at .references .inv .2 ∙ unknown-next (st .args .t) (st .args .t3) b (at .references .i) more there)
+    (omega arith, at .references .inv .1, at .references .inv .2 ∙ unknown-next (st .args .t) (st .args .row) b (at .references .i) more there)
 
 returns-2 : tie.Need-returns-2 Inv-references μ-references
 returns-2 c =
     let at = c .before in
     let st = at .before .before in
-    sym (at .references .inv .2 ∙ unknown-end (st .args .t) (st .args .t3) (bookOf (st .args .book .now)) (at .references .i) (omega (arith, at .references .inv .1)))
+    sym (at .references .inv .2 ∙ unknown-end (st .args .t) (st .args .row) (bookOf (st .args .book .now)) (at .references .i) (omega (arith, at .references .inv .1)))
 
 pub unknown-reference-spec : {M : Type 1} → statement M
 unknown-reference-spec =
@@ -105,11 +85,7 @@ unknown-reference-spec =
     references-requires
     references-holds
     reference-requires
-    array-read-key
-    sub-key
-    mul-key
-    array-read-key-2
-    key-requires
+    named-requires
     knowing-requires
     no-row-requires
     returns

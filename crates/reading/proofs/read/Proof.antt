@@ -16,8 +16,8 @@ on-requires c κs = search needs
 
 returns : tie.Need-returns
 returns c =
-    let st = c .before .before .before .before .before .before .before in
-    read-sized (delivery (st .args .vehicle-type .now) (st .args .depot .now) (st .args .stop .now) (st .args .vehicle-block .now)) (st .args .book .now) (c .before .before .if1 .taken) (c .on .result)
+    let st = c .before .before .before .before .before .before .before .before in
+    read-sized (delivery (st .args .vehicle-type .now) (st .args .depot .now) (st .args .stop .now) (st .args .stop-point .now) (st .args .vehicle-block .now)) (st .args .book .now) (c .before .before .if1 .taken) (c .on .result)
     (c .on .ensures ∙ rw (c .before .bad-loan .ensures))
 
 clear-requires : tie.Need-clear-requires
@@ -40,16 +40,16 @@ same-length c = search needs
 
 returns-2 : tie.Need-returns-2
 returns-2 c =
-    let st = c .before .before .before .before .before .before .before .before .before .before .before .before .before in
-    read-accepted (delivery (st .args .vehicle-type .now) (st .args .depot .now) (st .args .stop .now) (st .args .vehicle-block .now)) (st .args .book .now) (c .before .before .before .before .before .before .before .before .if1 .left) (c .before .before .before .take-tables .result) _ (c .before .before .before .take-tables .ensures .1) (c .enum-told .given .1) (c .before .before .before .take-tables .ensures .0)
+    let st = c .before .before .before .before .before .before .before .before .before .before .before .before .before .before in
+    read-accepted (delivery (st .args .vehicle-type .now) (st .args .depot .now) (st .args .stop .now) (st .args .stop-point .now) (st .args .vehicle-block .now)) (st .args .book .now) (c .before .before .before .before .before .before .before .before .if1 .left) (c .before .before .before .take-tables .result) _ (c .before .before .before .take-tables .ensures .1) (c .enum-told .given .1) (c .before .before .before .take-tables .ensures .0)
 
 same-length-2 : tie.Need-same-length-2
 same-length-2 c = search needs
 
 returns-3 : tie.Need-returns-3
 returns-3 c =
-    let st = c .before .before .before .before .before .before .before .before .before .before .before .before .before .before .before .before .before in
-    read-refused (delivery (st .args .vehicle-type .now) (st .args .depot .now) (st .args .stop .now) (st .args .vehicle-block .now)) (st .args .book .now) (c .before .before .before .before .before .before .before .before .before .before .before .before .if1 .left) (c .before .before .before .before .before .before .before .take-tables .result) _ (c .before .before .before .before .before .before .before .take-tables .ensures .1) _ (c .before .before .before .before .verdict .given .1) _ (c .before .clear2 .ensures)
+    let st = c .before .before .before .before .before .before .before .before .before .before .before .before .before .before .before .before .before .before in
+    read-refused (delivery (st .args .vehicle-type .now) (st .args .depot .now) (st .args .stop .now) (st .args .stop-point .now) (st .args .vehicle-block .now)) (st .args .book .now) (c .before .before .before .before .before .before .before .before .before .before .before .before .if1 .left) (c .before .before .before .before .before .before .before .take-tables .result) _ (c .before .before .before .before .before .before .before .take-tables .ensures .1) _ (c .before .before .before .before .verdict .given .1) _ (c .before .clear2 .ensures)
 
 pub read-spec : {M : Type 1} → statement M
 read-spec =

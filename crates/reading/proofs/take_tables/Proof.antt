@@ -1,7 +1,7 @@
 use mathlib.Core.Path.{_≡_, refl, ap, sym, _∙_}
 use Rattle.reading.specs.Reading.{Result, reading, tableRead, _▹_}
 use Rattle.reading.specs.Calls.{resultOf, delivery}
-use Rattle.tables.specs.declared.Table.the-variants.{VehicleType, Depot, Stop, Block}
+use Rattle.tables.specs.declared.Table.the-variants.{VehicleType, Depot, Stop, StopPoint, Block}
 use Rattle.book.specs.Book.{Book, empty}
 use Rattle.words.specs.Words.{Bytes}
 use borrow.Author.Needs.{needs}
@@ -20,23 +20,35 @@ then-table-requires-2 c κs = search needs
 then-table-requires-3 : tie.Need-then-table-requires-3
 then-table-requires-3 c κs = search needs
 
+then-table-requires-4 : tie.Need-then-table-requires-4
+then-table-requires-4 c κs = search needs
+
 same-length : tie.Need-same-length
 same-length c = search needs
 
-whole : (a b d e : Bytes) → (tableRead VehicleType a empty ▹ tableRead Depot b ▹ tableRead Stop d ▹ tableRead Block e) ≡ reading (delivery a b d e)
+whole : (a b d e f : Bytes) → (tableRead VehicleType a empty ▹ tableRead Depot b ▹ tableRead Stop d ▹ tableRead StopPoint e ▹ tableRead Block f) ≡ reading (delivery a b d e f)
 unfolding reading
-whole a b d e = refl
+whole a b d e f = refl
 
 returns : tie.Need-returns
 returns c =
-    let st = c .before .before .before .before .before .before .before .before .before .before .before .before .before .before .before .before in (
-      c .before .then-table3 .ensures .0,
-      c .before .then-table3 .ensures .1
-          ∙ ap (λ (r : Result). r ▹ tableRead Block (st .args .blocks .now)) (c .before .before .before .before .then-table2 .ensures .1)
-          ∙ ap (λ (r : Result). r ▹ tableRead Stop (st .args .stops .now) ▹ tableRead Block (st .args .blocks .now)) (c .before .before .before .before .before .before .before .then-table .ensures .1)
-          ∙ ap (λ (r : Result). r ▹ tableRead Depot (st .args .depots .now) ▹ tableRead Stop (st .args .stops .now) ▹ tableRead Block (st .args .blocks .now)) (c .before .before .before .before .before .before .before .before .before .before .take-table .ensures .1)
-          ∙ ap (λ (b : Book). tableRead VehicleType (st .args .types .now) b ▹ tableRead Depot (st .args .depots .now) ▹ tableRead Stop (st .args .stops .now) ▹ tableRead Block (st .args .blocks .now)) (st .pre .1)
-          ∙ whole (st .args .types .now) (st .args .depots .now) (st .args .stops .now) (st .args .blocks .now),
+    let points = c .before .before .before in
+    let stops = points .before .before .before in
+    let depots = stops .before .before .before in
+    let types = depots .before .before .before in
+    let st = types .before .before .before .before .before .before .before .before in
+    let blocks-read = tableRead Block (st .args .blocks .now) in
+    let points-read = tableRead StopPoint (st .args .points .now) in
+    let stops-read = tableRead Stop (st .args .stops .now) in
+    let depots-read = tableRead Depot (st .args .depots .now) in (
+      c .before .then-table4 .ensures .0,
+      c .before .then-table4 .ensures .1
+          ∙ ap (λ (r : Result). r ▹ blocks-read) (points .before .then-table3 .ensures .1)
+          ∙ ap (λ (r : Result). r ▹ points-read ▹ blocks-read) (stops .before .then-table2 .ensures .1)
+          ∙ ap (λ (r : Result). r ▹ stops-read ▹ points-read ▹ blocks-read) (depots .before .then-table .ensures .1)
+          ∙ ap (λ (r : Result). r ▹ depots-read ▹ stops-read ▹ points-read ▹ blocks-read) (types .before .take-table .ensures .1)
+          ∙ ap (λ (b : Book). tableRead VehicleType (st .args .types .now) b ▹ depots-read ▹ stops-read ▹ points-read ▹ blocks-read) (st .pre .1)
+          ∙ whole (st .args .types .now) (st .args .depots .now) (st .args .stops .now) (st .args .points .now) (st .args .blocks .now),
     )
 
 pub take-tables-spec : {M : Type 1} → statement M
@@ -47,5 +59,6 @@ take-tables-spec =
     then-table-requires
     then-table-requires-2
     then-table-requires-3
+    then-table-requires-4
     same-length
     returns)

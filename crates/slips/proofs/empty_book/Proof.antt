@@ -5,9 +5,6 @@ use Rattle.slips.proofs.Days.{book-emptied, book-stays}
 use Rattle.slips.proofs.empty_book.Statement.{statement}
 use Rattle.slips.proofs.empty_book.Tie as tie
 
-mul-if1 : tie.Need-mul-if1
-mul-if1 c = search needs
-
 clear-requires : tie.Need-clear-requires
 clear-requires c κs = search needs
 
@@ -21,4 +18,4 @@ returns-2 : tie.Need-returns-2
 returns-2 c = book-stays (c .before .args .book .now) (c .if1 .left)
 
 pub empty-book-spec : {M : Type 1} → statement M
-empty-book-spec = tie.close (tie.spec mul-if1 clear-requires same-length returns returns-2)
+empty-book-spec = tie.close (tie.spec clear-requires same-length returns returns-2)

@@ -82,7 +82,7 @@ returns-2 c =
     let n = c .before .before .before .before .before .before .before .before .before .before .before .before .before .before .before .part in
     let xs = st .args .book .now in
     let taken = rw (c .before .before .before .before .before .place .given .1) at (t .ensures) in
-    let from : n .result * 512 ≡ 1536 = omega (arith, n .ensures) in
+    let from : n .result * 512 ≡ 2048 = omega (arith, n .ensures) in
     whole-refused (st .args .slip .now) xs (st .args .work .now) (t .last .1 .0) _ (c .before .before .before .before .before .place .given .0 .0) taken
     (put-back xs (t .last .1 .0) _ (n .result * 512) from (st .pre .0 .long) (taken .sound .long) (taken .front) (c .before .copy2 .ensures ∙ c .before .before .before .before .before .before .before .before .before .before .before .copy .ensures ∙ part-lent Block xs (n .result * 512) from))
 

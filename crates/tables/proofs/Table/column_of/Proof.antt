@@ -25,6 +25,12 @@ stop-column-requires c κs = search needs
 enum-told-4 : tie.Need-enum-told-4
 enum-told-4 c = search needs
 
+stop-point-column-requires : tie.Need-stop-point-column-requires
+stop-point-column-requires c κs = search needs
+
+enum-told-5 : tie.Need-enum-told-5
+enum-told-5 c = search needs
+
 block-column-requires : tie.Need-block-column-requires
 block-column-requires c κs = search needs
 
@@ -38,7 +44,10 @@ returns-3 : tie.Need-returns-3
 returns-3 c = c .stop-column .ensures ∙ rw (c .before .enum-told3 .given .1)
 
 returns-4 : tie.Need-returns-4
-returns-4 c = c .block-column .ensures ∙ rw (c .before .enum-told4 .given .1)
+returns-4 c = c .stop-point-column .ensures ∙ rw (c .before .enum-told4 .given .1)
+
+returns-5 : tie.Need-returns-5
+returns-5 c = c .block-column .ensures ∙ rw (c .before .enum-told5 .given .1)
 
 pub column-of-spec : {M : Type 1} → statement M
 column-of-spec =
@@ -51,8 +60,11 @@ column-of-spec =
     enum-told-3
     stop-column-requires
     enum-told-4
+    stop-point-column-requires
+    enum-told-5
     block-column-requires
     returns
     returns-2
     returns-3
-    returns-4)
+    returns-4
+    returns-5)

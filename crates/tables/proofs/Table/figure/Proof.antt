@@ -27,6 +27,12 @@ enum-told-4 c = search needs
 array-read-result-4 : tie.Need-array-read-result-4
 array-read-result-4 c = search needs
 
+enum-told-5 : tie.Need-enum-told-5
+enum-told-5 c = search needs
+
+array-read-result-5 : tie.Need-array-read-result-5
+array-read-result-5 c = search needs
+
 returns : tie.Need-returns
 returns c = rw (c .enum-told .given .1)
 
@@ -38,6 +44,9 @@ returns-3 c = rw (c .enum-told3 .given .1)
 
 returns-4 : tie.Need-returns-4
 returns-4 c = rw (c .enum-told4 .given .1)
+
+returns-5 : tie.Need-returns-5
+returns-5 c = rw (c .enum-told5 .given .1)
 
 pub figure-spec : {M : Type 1} → statement M
 figure-spec =
@@ -51,7 +60,10 @@ figure-spec =
     array-read-result-3
     enum-told-4
     array-read-result-4
+    enum-told-5
+    array-read-result-5
     returns
     returns-2
     returns-3
-    returns-4)
+    returns-4
+    returns-5)

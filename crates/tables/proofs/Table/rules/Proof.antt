@@ -24,6 +24,12 @@ stop-rules-requires c κs = search needs
 enum-told-4 : tie.Need-enum-told-4
 enum-told-4 c = search needs
 
+stop-point-rules-requires : tie.Need-stop-point-rules-requires
+stop-point-rules-requires c κs = search needs
+
+enum-told-5 : tie.Need-enum-told-5
+enum-told-5 c = search needs
+
 block-rules-requires : tie.Need-block-rules-requires
 block-rules-requires c κs = search needs
 
@@ -37,7 +43,10 @@ returns-3 : tie.Need-returns-3
 returns-3 c = rw (c .before .enum-told3 .given .1) (c .stop-rules .ensures)
 
 returns-4 : tie.Need-returns-4
-returns-4 c = rw (c .before .enum-told4 .given .1) (c .block-rules .ensures)
+returns-4 c = rw (c .before .enum-told4 .given .1) (c .stop-point-rules .ensures)
+
+returns-5 : tie.Need-returns-5
+returns-5 c = rw (c .before .enum-told5 .given .1) (c .block-rules .ensures)
 
 pub rules-spec : {M : Type 1} → statement M
 rules-spec =
@@ -50,8 +59,11 @@ rules-spec =
     enum-told-3
     stop-rules-requires
     enum-told-4
+    stop-point-rules-requires
+    enum-told-5
     block-rules-requires
     returns
     returns-2
     returns-3
-    returns-4)
+    returns-4
+    returns-5)
