@@ -43,7 +43,7 @@
  *
  * POINTERS: each points to at least as many elements as the length beside it says, is not null (not even for length 0),
  * and is aligned for its type. No array that is written to may overlap another argument. Nothing is kept after a call, and no
- * function has state of its own, so calls on different arrays may run at the same time.
+ * function has state of its own, so calls on different arrays may run at the same time. A call needs some 50 KB of stack.
  *
  * In C before C23 an array of rows that is not const needs a cast where rows of const are asked for:
  *

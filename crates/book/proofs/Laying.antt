@@ -2,24 +2,21 @@
 -- changes keep a book in order. Assumes nothing.
 use mathlib.Core.Path.{_≡_, refl, sym, ap, _∙_}
 use mathlib.Core.List.{List, [], _++_, append-assoc, append-nil}
-use mathlib.Core.Bool.{true, false, not}
+use mathlib.Core.Bool.{true}
 use Prim.Native.Nat.{ℕ, _+_, _-_, _*_, _≤_, _<_}
 use native.Mathlib.Omega.{arith}
-use lib.Dec.{eqb, leb, lit≤}
+use lib.Dec.{lit≤}
 use lib.ListN.{length, take, drop, getD, length-append, length-take, length-drop, take-append-drop, replicate, replicate-append-replicate}
 use lib.Seq.{take-at, drop-at, take-all, drop-drop, getD-take, getD-drop}
-use borrow.Author.Tests.{leb-false}
 use Rattle.words.specs.Words.{Row}
 use Rattle.tables.specs.Columns.{keyWidth, partOf}
 use Rattle.tables.specs.declared.Table.{Table}
 use Rattle.tables.specs.declared.Table.the-variants.{VehicleType, Depot, Stop, StopPoint, Block}
-use Rattle.tables.proofs.Figures.{part-below, keys-some}
-use Rattle.rows.specs.Rows.{column, replaced, removed, rising}
+use Rattle.tables.proofs.Figures.{part-below}
+use Rattle.rows.specs.Rows.{inserted, rising}
 use Rattle.rows.specs.Room.{zeros, filled, used, Holds, holds}
-use Rattle.rows.proofs.Rising.{rising-inserted, rising-replaced, rising-removed}
-use Rattle.rows.proofs.Room.{Versioned, used-versioned, used-within, used-row, used-filled, length-filled, full-last, holds-filled}
-use Rattle.rows.proofs.Changes.{length-inserted-most, length-replaced, length-removed-most, versioned-inserted, versioned-replaced, versioned-removed}
-use Rattle.book.specs.Book.{Book, empty, rows, with-rows, entered, full}
+use Rattle.rows.proofs.Room.{Versioned, used-versioned, used-within, used-row, used-filled, length-filled, holds-filled}
+use Rattle.book.specs.Book.{Book, empty, rows, with-rows, entered}
 use Rattle.book.specs.Room.{laid, part, bookOf, Sound}
 
 -- a list between two others -----------------------------------------------------------------------------------------------------
@@ -66,7 +63,7 @@ rows-part Block xs = refl
 
 -- a table of a sound slice, by the part that is lent
 module _ (t : Table) (xs : List Row) (sound : Sound xs) (from : ℕ) (here : from ≡ partOf t * 512) where
-  abbrev lent : List Row
+  abbrev pub lent : List Row
   lent = take (from + 512 - from) (drop from xs)
 
   pub lent-holds : (k : ℕ) → k ≡ keyWidth t → Holds k lent
@@ -93,18 +90,6 @@ row-at t xs from i e l h =
     let g : i < length us = rw (rows-part t xs) at h in
     let m : i < 512 = omega (arith, used-within (part (partOf t) xs), length-part xs l t) in
     ap (λ (r : List Row). getD r i []) (rows-part t xs) ∙ used-row (part (partOf t) xs) i g ∙ part-row t xs from i e m
-
--- a table is full where the last row of its part is used
-pub full-part : (t : Table) (xs : List Row) (from : ℕ) → from ≡ partOf t * 512 → Sound xs → full t (bookOf xs) ≡ not (eqb (getD (getD xs (from + 512 - 1) []) 0 0) 0)
-full-part t xs from e sound =
-    let p = part (partOf t) xs in
-    let l : length p ≡ 512 = length-part xs (sound .long) t in
-    let m : from + 511 ≡ from + 512 - 1 = omega arith in
-    let last : getD p 511 [] ≡ getD xs (from + 512 - 1) [] = part-row t xs from 511 e (omega arith) ∙ ap (λ (n : ℕ). getD xs n []) m in
-    ap (λ (us : List Row). leb 512 (length us)) (rows-part t xs)
-    ∙ ap (λ (n : ℕ). leb n (length (used p))) (sym l)
-    ∙ full-last p (sound .tables t .rest) 511 (sym l)
-    ∙ ap (λ (r : Row). not (eqb (getD r 0 0) 0)) last
 
 -- a book in order ------------------------------------------------------------------------------------------------------------------
 
@@ -135,6 +120,17 @@ with-same Depot b = refl
 with-same Stop b = refl
 with-same StopPoint b = refl
 with-same Block b = refl
+
+-- a book's tables are apart
+pub with-with : (t : Table) (xs ys : List Row) (b : Book) → with-rows t xs (with-rows t ys b) ≡ with-rows t xs b
+with-with VehicleType xs ys b = refl
+with-with Depot xs ys b = refl
+with-with Stop xs ys b = refl
+with-with StopPoint xs ys b = refl
+with-with Block xs ys b = refl
+
+pub entered-with : (t : Table) (row : Row) (xs : List Row) (b : Book) → entered t row (with-rows t xs b) ≡ with-rows t (inserted (keyWidth t) row xs) b
+entered-with t row xs b = ap (λ (l : List Row). with-rows t (inserted (keyWidth t) row l) (with-rows t xs b)) (rows-with t xs b) ∙ with-with t (inserted (keyWidth t) row xs) xs b
 
 pub rows-empty : (t : Table) → rows t empty ≡ []
 rows-empty VehicleType = refl
@@ -170,6 +166,9 @@ every-table P b Block ys h k Depot = k Depot
 every-table P b Block ys h k Stop = k Stop
 every-table P b Block ys h k StopPoint = k StopPoint
 every-table P b Block ys h k Block = h
+
+pub rows-apart : (t u : Table) (xs : List Row) (b : Book) → (partOf u ≡ partOf t → ⊥) → rows u (with-rows t xs b) ≡ rows u b
+rows-apart t u xs b n = every-table (λ v l. (partOf v ≡ partOf t → ⊥) → l ≡ rows v b) b t xs (λ m. absurd (m refl)) (λ v m. refl) u n
 
 -- what stands before and behind a table in the slice
 record Around (t : Table) (b : Book) : Type 0 where
@@ -298,21 +297,6 @@ module _ (xs : List Row) (sound : Sound xs) where
       let n : from + 512 - from ≡ 512 = omega arith in
       rw (n, e, f) (ap (λ (l : List Row). take (partOf t * 512) l ++ (filled 512 ys ++ drop 512 (drop (partOf t * 512) l))) (sym laid-book) ∙ part-put (bookOf xs) (orderly-book .few) t ys)
 
--- a table's rows changed in the part that is lent, whatever the change is
-module _ (t : Table) (xs : List Row) (sound : Sound xs) (from : ℕ) (here : from ≡ partOf t * 512) where
-  pub lent-room : full t (bookOf xs) ≡ false → length (used (lent t xs sound from here)) < length (lent t xs sound from here)
-  lent-room e =
-      omega (arith, lent-length t xs sound from here, ap (λ (l : List Row). length l) (lent-rows t xs sound from here), leb-false 512 (length (rows t (bookOf xs))) e)
-
-  pub lent-changed : (change : ℕ → Row → List Row → List Row) (k : ℕ) → k ≡ keyWidth t → (row : Row) (zs : List Row)
-      → zs ≡ filled (length (lent t xs sound from here)) (change k row (used (lent t xs sound from here)))
-      → take from xs ++ (zs ++ drop (from + 512 - from) (drop from xs)) ≡ laid (with-rows t (change (keyWidth t) row (rows t (bookOf xs))) (bookOf xs))
-  lent-changed change k e row zs f =
-      lent-back xs sound t from here (change (keyWidth t) row (rows t (bookOf xs))) zs
-      (f ∙ ap (λ (n : ℕ). filled n (change k row (used (lent t xs sound from here)))) (lent-length t xs sound from here)
-      ∙ ap (λ (n : ℕ). filled 512 (change n row (used (lent t xs sound from here)))) e
-      ∙ ap (λ (l : List Row). filled 512 (change (keyWidth t) row l)) (lent-rows t xs sound from here))
-
 -- changes keep a book in order -------------------------------------------------------------------------------------------------------
 
 pub orderly-with : (b : Book) → Orderly b → (t : Table) (ys : List Row) → length ys ≤ 512 → rising (keyWidth t) ys ≡ true → Versioned ys → Orderly (with-rows t ys b)
@@ -326,22 +310,6 @@ orderly-with b o t ys f r v =
 pub orderly-empty : Orderly empty
 unfolding rising Versioned
 orderly-empty = record { few = λ t. rw rows-empty (lit≤ tt); rises = λ t. rw rows-empty; versioned = λ t. rw rows-empty tt }
-
-module _ (b : Book) (o : Orderly b) (t : Table) (row : Row) where
-  pub orderly-entered : 1 ≤ column 1 row → full t b ≡ false → Orderly (entered t row b)
-  orderly-entered v room =
-      orderly-with b o t _ (omega (arith, length-inserted-most (keyWidth t) row (rows t b), leb-false 512 (length (rows t b)) room))
-      (rising-inserted (keyWidth t) row (rows t b) (o .rises t)) (versioned-inserted (keyWidth t) row (rows t b) v (o .versioned t))
-
-  pub orderly-replaced : Orderly (with-rows t (replaced (keyWidth t) row (rows t b)) b)
-  orderly-replaced =
-      orderly-with b o t _ (omega (arith, length-replaced (keyWidth t) row (rows t b), o .few t))
-      (rising-replaced (keyWidth t) row (rows t b) (o .rises t)) (versioned-replaced (keyWidth t) row (rows t b) (keys-some t) (o .versioned t))
-
-  pub orderly-removed : Orderly (with-rows t (removed (keyWidth t) row (rows t b)) b)
-  orderly-removed =
-      orderly-with b o t _ (omega (arith, length-removed-most (keyWidth t) row (rows t b), o .few t))
-      (rising-removed (keyWidth t) row (rows t b) (o .rises t)) (versioned-removed (keyWidth t) row (rows t b) (o .versioned t))
 
 -- the empty book: 2560 rows of zeros
 five-alike : {A : Type 0} (m : ℕ) (z : A) → replicate (m + (m + (m + (m + m)))) z ≡ replicate m z ++ (replicate m z ++ (replicate m z ++ (replicate m z ++ replicate m z)))

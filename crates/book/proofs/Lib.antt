@@ -1,5 +1,7 @@
 pub mod Laying
 pub mod Referring
+pub mod Points
+pub mod Shelving
 pub mod Keeping
 pub mod Sums
 pub mod Answers

@@ -1,23 +1,29 @@
 -- A key by its numbers alone finds what the row of it finds; the references of a row, one by one. Assumes nothing.
 use mathlib.Core.Path.{_≡_, refl, sym, ap, _∙_}
+use mathlib.Core.Logic.{⊎-elim}
 use mathlib.Core.List.{List, [], _∷_, _++_}
 use mathlib.Core.Bool.{Bool, true, false}
 use Prim.Native.Nat.{ℕ, zero, suc, _+_, _-_, _≤_, _<_}
 use native.Mathlib.Omega.{arith}
-use lib.Dec.{lit≤}
+use lib.Dec.{lit≤, ltb}
 use lib.ListN.{length, drop, getD, replicate, drop-of-length-le}
+use borrow.Author.Tests.{ltb-true}
+use denote.Enum.Declared.{tagOf}
+use types.Run.{OneOf}
 use Rattle.words.specs.Words.{Row}
-use Rattle.words.proofs.Lists.{drop-step}
+use Rattle.words.proofs.Lists.{drop-step, every, and-left, and-right}
 use Rattle.refusals.specs.Verdicts.{keyStands, noRow, endsEarly}
 use Rattle.refusals.specs.declared.Check.{Check}
 use Rattle.refusals.specs.declared.Check.the-variants.{Passes}
-use Rattle.tables.specs.Columns.{references, ref, keyWidth}
+use Rattle.tables.specs.Columns.{references, ref, keyWidth, partOf}
 use Rattle.tables.specs.declared.Table.{Table}
+use Rattle.tables.proofs.Table.{the-type}
 use Rattle.tables.specs.declared.Table.the-variants.{VehicleType, Depot, Stop, StopPoint, Block}
 use Rattle.tables.specs.declared.Reference.{Reference}
 use Rattle.rows.specs.Rows.{wide, column, orderFrom, sameKey, stands, found}
-use Rattle.book.specs.Book.{Book, knows, rows}
+use Rattle.book.specs.Book.{Book, knows, rows, with-rows}
 use Rattle.book.specs.Rules.{timeFault, named, unknownOf, unknown, ruled}
+use Rattle.book.proofs.Laying.{rows-apart}
 
 -- zeros behind the numbers: past their end a list reads as 0 too
 getD-zeros : (n i : ℕ) → _≡_ {A = ℕ} (getD (replicate n 0) i 0) 0
@@ -75,6 +81,14 @@ named-pair Stop k row n = refl
 named-pair StopPoint k row n = absurd (n refl)
 named-pair Block k row n = refl
 
+-- and the tables of the tags 0, 1 and 2 have a key of two: those that a match leaves behind stop points and blocks
+pub pair-width : (t : Table) → OneOf (0 ∷ 1 ∷ 2 ∷ []) (tagOf the-type t) → 2 ≡ keyWidth t
+pair-width VehicleType h = refl
+pair-width Depot h = refl
+pair-width Stop h = refl
+pair-width StopPoint h = ⊎-elim (λ n. omega (arith, n)) (⊎-elim (λ n. omega (arith, n)) (λ n. omega (arith, n))) h
+pair-width Block h = ⊎-elim (λ n. omega (arith, n)) (⊎-elim (λ n. omega (arith, n)) (λ n. omega (arith, n))) h
+
 -- the references one by one
 module _ (t : Table) (row : Row) (b : Book) (i : ℕ) where
   abbrev pub there : Bool
@@ -101,6 +115,29 @@ pub asked-there : (t : Table) (row : Row) (b : Book) (i : ℕ) (x : Reference) (
 asked-there t row b i x k r e f g =
     ap (λ (y : Reference). knows (y .to) (named (y .to) (y .column) row) b) (sym e)
     ∙ sym (g ∙ ap (λ (l : Row). knows (x .to) l b) f ∙ stands-wide (keyWidth (x .to)) _ (rows (x .to) b))
+
+-- what is referred to is read before
+refers-back : (t : Table) → every (λ x. ltb (partOf (x .to)) (partOf t)) (references t) ≡ true
+refers-back VehicleType = refl
+refers-back Depot = refl
+refers-back Stop = refl
+refers-back StopPoint = refl
+refers-back Block = refl
+
+known-alike : (n : ℕ) (b c : Book) → ((u : Table) → partOf u < n → rows u b ≡ rows u c) → (xs : List Reference) → every (λ x. ltb (partOf (x .to)) n) xs ≡ true →
+    (row : Row) → unknownOf xs row b ≡ unknownOf xs row c
+unfolding unknownOf
+known-alike n b c e [] h row = refl
+known-alike n b c e (x ∷ xs) h row =
+    let here : ltb (partOf (x .to)) n ≡ true = and-left (ltb (partOf (x .to)) n) (every (λ x. ltb (partOf (x .to)) n) xs) h in
+    rw (e (x .to) (ltb-true (partOf (x .to)) n here), known-alike n b c e xs (and-right (ltb (partOf (x .to)) n) (every (λ x. ltb (partOf (x .to)) n) xs) h) row)
+
+-- so a row's references depend on the tables before its own alone
+pub unknown-before : (t : Table) (b c : Book) → ((u : Table) → partOf u < partOf t → rows u b ≡ rows u c) → (row : Row) → unknown t row b ≡ unknown t row c
+unknown-before t b c e row = known-alike (partOf t) b c e (references t) (refers-back t) row
+
+pub unknown-with : (t : Table) (row : Row) (xs : List Row) (b : Book) → unknown t row (with-rows t xs b) ≡ unknown t row b
+unknown-with t row xs b = unknown-before t (with-rows t xs b) b (λ u l. rows-apart t u xs b (λ e. omega arith)) row
 
 -- the rules of a row, in their order
 module _ (t : Table) (row : Row) (b : Book) where

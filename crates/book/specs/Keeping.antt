@@ -1,4 +1,5 @@
 -- The test of the book rule.
+use mathlib.Core.Path.{_≡_}
 use mathlib.Core.List.{List, [], _∷_}
 use mathlib.Core.Bool.{Bool, true, false, _&&_, not}
 use Prim.Native.Nat.{ℕ}
@@ -32,6 +33,18 @@ lawful t b row =
 unfoldable pub all {ℓ} : {A : Type ℓ} → (A → Bool) → List A → Bool
 all f [] = true
 all f (x ∷ xs) = f x && all f xs
+
+-- "A stop point must name a known stop": all of them do
+abbrev pub pointsNamed : Book → Bool
+pointsNamed b = all (λ x. passes (unknown StopPoint x b)) (b .points)
+
+-- a block's stops need no search of their own where each known point names a known stop
+abbrev pub Referable : Table → Book → Type 0
+Referable VehicleType b = Unit {0}
+Referable Depot b = Unit {0}
+Referable Stop b = Unit {0}
+Referable StopPoint b = Unit {0}
+Referable Block b = pointsNamed b ≡ true
 
 abbrev pub lawfulTable : Table → Book → Bool
 lawfulTable t b = leb (length (rows t b)) 512 && rising (keyWidth t) (rows t b) && all (lawful t b) (rows t b)

@@ -4,4 +4,5 @@ pub mod Rules
 pub mod Questions
 pub mod Room
 pub mod Keeping
+pub mod Shelving
 pub mod Calls

@@ -30,11 +30,15 @@ named Stop k row = column 1 row ∷ column k row ∷ []
 named StopPoint k row = column 1 row ∷ column (k - 1) row ∷ column k row ∷ []
 named Block k row = column 1 row ∷ column k row ∷ []
 
+-- whether a row's reference finds its row
+abbrev pub finds : Reference → Row → Book → Bool
+finds x row b = knows (x .to) (named (x .to) (x .column) row) b
+
 -- 10: "reference finds no row", at the first such column
 unfoldable pub unknownOf : List Reference → Row → Book → Check
 unknownOf [] row b = Passes
 unknownOf (x ∷ xs) row b =
-    noRow (x .column) when not (knows (x .to) (named (x .to) (x .column) row) b)
+    noRow (x .column) when not (finds x row b)
     ⊳ unknownOf xs row b
 
 abbrev pub unknown : Table → Row → Book → Check

@@ -6,20 +6,23 @@ ghost use Prim.Native.Nat.{ℕ, _+_, _*_, _≤_, _<_};
 ghost use lib.ListN.{length, take, getD};
 ghost use Rattle.words.specs.Words.{if_then_else_, same};
 ghost use Rattle.refusals.specs.Verdicts.{nowhere};
-ghost use Rattle.tables.specs.Columns.{columnsOf, inRange, keptWidth, keyWidth, partOf};
-ghost use Rattle.rows.specs.Rows.{wide, found, replaced, removed};
-ghost use Rattle.rows.specs.Room.{holds, rowOf};
-ghost use Rattle.book.specs.Book.{Book, empty, rows, with-rows, entered, knows, full};
-ghost use Rattle.book.specs.Rules.{timeFault, named, unknown, ruled};
+ghost use Rattle.tables.specs.Columns.{columnsOf, inRange, keptWidth, keyWidth, partOf, references, ref};
+ghost use Rattle.rows.specs.Rows.{wide, column, found, rising};
+ghost use Rattle.rows.specs.Room.{holds, rowOf, spot};
+ghost use Rattle.rows.specs.Shelf.{shelved, Shelf};
+ghost use Rattle.book.specs.Book.{empty, rows, knows};
+ghost use Rattle.book.specs.Rules.{timeFault, named, finds, unknown};
 ghost use Rattle.book.specs.Questions.{ofType, secondsOf, countOf, seven};
 ghost use Rattle.book.specs.Room.{laid, part, bookOf, Sound};
-ghost use Rattle.book.specs.Keeping.{ranged, lawful, all, keepsRule};
+ghost use Rattle.book.specs.Keeping.{ranged, lawful, all, pointsNamed, Referable, keepsRule};
+ghost use Rattle.book.specs.Shelving.{shelfBook, OnShelf, Entered};
 ghost use Rattle.book.specs.Calls.{typeAnswered, typeCall, blockAnswered, blockCall};
 use refusals::Check;
 use refusals::Place;
 use refusals::Verdict;
 use rows::ROWS;
 use rows::Row;
+use rows::Spot;
 use tables::Rules;
 use tables::Table;
 
@@ -59,15 +62,19 @@ fn key(version: u64, number: u64) -> Row
     [version, number, 0, 0, 0, 0, 0, 0, 0, 0, 0]
 }
 
-// Whether the key of a row stands in a table of the book.
+// Whether the key of a row stands in a table of the book. The key's width is written out for each table: a search
+// by a known width compares in registers.
 pub fn knowing(book: &[Row], t: Table, row: Row) -> bool
     requires { ⌜ Sound (now book) ⌝ }
     ensures { λ r. ⌜ r ≡ knows t row (bookOf (now (book .entry))) ⌝ }
 {
-    let k = t.keys();
     let from = first_row(t);
     let to = from + ROWS;
-    rows::standing(&book[from..to], k, row)
+    match t {
+        Table::StopPoint => rows::standing(&book[from..to], 3, row),
+        Table::Block => rows::standing(&book[from..to], 4, row),
+        _ => rows::standing(&book[from..to], 2, row),
+    }
 }
 
 // How many rows a table has.
@@ -87,16 +94,6 @@ pub fn row_at(book: &[Row], t: Table, i: usize) -> Row
 {
     let from = first_row(t);
     book[from + i]
-}
-
-// A table is full where the last row of its part is used.
-pub fn is_full(book: &[Row], t: Table) -> bool
-    requires { ⌜ Sound (now book) ⌝ }
-    ensures { λ r. ⌜ r ≡ full t (bookOf (now (book .entry))) ⌝ }
-{
-    let from = first_row(t);
-    let last = from + ROWS - 1;
-    book[last][0] != 0
 }
 
 // 11. Only a block has times.
@@ -135,19 +132,55 @@ fn named(to: Table, column: usize, row: Row) -> Row
     }
 }
 
-// 10: the first reference that finds no row.
-pub fn unknown_reference(book: &[Row], t: Table, row: Row) -> Check
+// Whether the reference at place i of a table's finds its row.
+fn finds(book: &[Row], t: Table, i: usize, row: Row) -> bool
+    requires { ⌜ Sound (now book) × (i < length (references t)) ⌝ }
+    ensures { λ r. ⌜ r ≡ finds (getD (references t) i (ref 0 Table.VehicleType)) row (bookOf (now (book .entry))) ⌝ }
+{
+    let reference = t.reference(i);
+    let to = reference.to;
+    knowing(book, to, named(to, reference.column, row))
+}
+
+// Whether a block's references all find their rows. Those to its stops, at places 2 and 4, need no search: each stands before one to a point
+// of that stop, and a known point's stop is known.
+fn block_finds(book: &[Row], row: Row) -> bool
+    requires { ⌜ Sound (now book) × (pointsNamed (bookOf (now book)) ≡ true) ⌝ }
+    ensures { λ r. ⌜ (r ≡ true → unknown Table.Block row (bookOf (now (book .entry))) ≡ Check.Passes) ⌝ }
+{
+    if !finds(book, Table::Block, 0, row) {
+        return false;
+    }
+    if !finds(book, Table::Block, 1, row) {
+        return false;
+    }
+    if !finds(book, Table::Block, 3, row) {
+        return false;
+    }
+    finds(book, Table::Block, 5, row)
+}
+
+// Whether it is soon known that a row's references all find their rows.
+fn soon_known(book: &[Row], t: Table, row: Row) -> bool
+    requires { ⌜ Sound (now book) × Referable t (bookOf (now book)) ⌝ }
+    ensures { λ r. ⌜ (r ≡ true → unknown t row (bookOf (now (book .entry))) ≡ Check.Passes) ⌝ }
+{
+    match t {
+        Table::Block => block_finds(book, row),
+        _ => false,
+    }
+}
+
+// 10: the first reference that finds no row, one by one.
+fn first_unknown(book: &[Row], t: Table, row: Row) -> Check
     requires { ⌜ Sound (now book) ⌝ }
     ensures { λ r. ⌜ r ≡ unknown t row (bookOf (now (book .entry))) ⌝ }
 {
     let n = t.references();
     let mut i = 0;
     'references: while i < n {
-        let reference = t.reference(i);
-        let column = reference.column;
-        let to = reference.to;
-        let there = named(to, column, row);
-        if !knowing(book, to, there) {
+        if !finds(book, t, i, row) {
+            let column = t.reference(i).column;
             return Check::no_row(column as u64);
         }
         i += 1;
@@ -155,51 +188,93 @@ pub fn unknown_reference(book: &[Row], t: Table, row: Row) -> Check
     Check::Passes
 }
 
-// 11, 9, 10: the only place where a row's rules are decided.
-pub fn rule(book: &[Row], t: Table, row: Row) -> Check
-    requires { ⌜ Sound (now book) ⌝ }
-    ensures { λ r. ⌜ r ≡ ruled t row (bookOf (now (book .entry))) ⌝ }
+// 10
+pub fn unknown_reference(book: &[Row], t: Table, row: Row) -> Check
+    requires { ⌜ Sound (now book) × Referable t (bookOf (now book)) ⌝ }
+    ensures { λ r. ⌜ r ≡ unknown t row (bookOf (now (book .entry))) ⌝ }
+{
+    if soon_known(book, t, row) {
+        return Check::Passes;
+    }
+    first_unknown(book, t, row)
+}
+
+// A table's rows onto a shelf, and how many they are.
+pub fn shelve(book: &[Row], t: Table, slots: &mut [Row], order: &mut [u16]) -> usize
+    requires { ⌜ Sound (now book) × Referable t (bookOf (now book)) × (length (now slots) ≡ 512) × (length (now order) ≡ 512) ⌝ }
+    ensures { λ r. ⌜ OnShelf t (now (book .entry)) (now (slots .exit)) (now (order .exit)) r × (shelfBook t (now (book .entry)) (now (slots .exit)) (now (order .exit)) r ≡ bookOf (now (book .entry))) ⌝ }
+{
+    let from = first_row(t);
+    let to = from + ROWS;
+    rows::copy(&book[from..to], slots);
+    rows::number_slots(order);
+    count_rows(book, t)
+}
+
+// The shelf's rows into their part of the book.
+pub fn lay_table(book: &mut [Row], t: Table, slots: &[Row], order: &[u16], n: usize)
+    requires { ⌜ OnShelf t (now book) (now slots) (now order) n ⌝ }
+    ensures { λ _. ⌜ now (book .exit) ≡ laid (shelfBook t (now (book .entry)) (now (slots .entry)) (now (order .entry)) n) ⌝ }
+{
+    let begin = first_row(t);
+    let end = begin + ROWS;
+    rows::lay_out(slots, order, n, &mut book[begin..end]);
+}
+
+// Where the key of a row stands on the table's shelf, or would stand. The width is written out as in `knowing`.
+pub fn spot_of(t: Table, slots: &[Row], order: &[u16], n: usize, row: &Row) -> Spot
+    requires { ⌜ Shelf (now slots) (now order) n × (rising (keyWidth t) (shelved (now slots) (now order) n) ≡ true) ⌝ }
+    ensures { λ r. ⌜ r ≡ spot (keyWidth t) (now (row .entry)) (shelved (now (slots .entry)) (now (order .entry)) n) ⌝ }
+{
+    match t {
+        Table::StopPoint => rows::seek_slot(slots, order, n, 3, row),
+        Table::Block => rows::seek_slot(slots, order, n, 4, row),
+        _ => rows::seek_slot(slots, order, n, 2, row),
+    }
+}
+
+// 10, and a row whose key has a gap on the shelf enters there.
+fn put_row(
+    book: &[Row],
+    t: Table,
+    row: Row,
+    slots: &mut [Row],
+    order: &mut [u16],
+    n: usize,
+    at: usize,
+) -> Check
+    requires { ⌜ OnShelf t (now book) (now slots) (now order) n × (n < 512) × (1 ≤ column 1 row) × (timeFault t row ≡ false) × (spot (keyWidth t) row (shelved (now slots) (now order) n) ≡ Spot.Gap at) ⌝ }
+    ensures { λ r. ⌜ Entered t row (now (book .entry)) (now (slots .entry)) (now (slots .exit)) (now (order .entry)) (now (order .exit)) n r ⌝ }
+{
+    let check = unknown_reference(book, t, row);
+    match check {
+        Check::Fails { number, column } => Check::Fails { number, column },
+        Check::Passes => {
+            rows::put_slot(slots, order, n, at, row);
+            Check::Passes
+        }
+    }
+}
+
+// 11, 9, 10, for a reading and for a slip line that adds: a row that keeps the rules enters.
+pub fn enter(
+    book: &[Row],
+    t: Table,
+    row: Row,
+    slots: &mut [Row],
+    order: &mut [u16],
+    n: usize,
+) -> Check
+    requires { ⌜ OnShelf t (now book) (now slots) (now order) n × (n < 512) × (1 ≤ column 1 row) ⌝ }
+    ensures { λ r. ⌜ Entered t row (now (book .entry)) (now (slots .entry)) (now (slots .exit)) (now (order .entry)) (now (order .exit)) n r ⌝ }
 {
     if time_fault(t, row) {
         return Check::ends_early();
     }
-    if knowing(book, t, row) {
-        return Check::key_stands();
+    match spot_of(t, &slots[..], &order[..], n, &row) {
+        Spot::At(_) => Check::key_stands(),
+        Spot::Gap(at) => put_row(book, t, row, slots, order, n, at),
     }
-    unknown_reference(book, t, row)
-}
-
-// A row enters its table, where it has room.
-pub fn enter(book: &mut [Row], t: Table, row: Row)
-    requires { ⌜ Sound (now book) × (full t (bookOf (now book)) ≡ false) ⌝ }
-    ensures { λ _. ⌜ now (book .exit) ≡ laid (entered t row (bookOf (now (book .entry)))) ⌝ }
-{
-    let k = t.keys();
-    let from = first_row(t);
-    let to = from + ROWS;
-    rows::insert(&mut book[from..to], k, row);
-}
-
-// Another block for the one of the same key.
-pub fn replace_block(book: &mut [Row], row: Row)
-    requires { ⌜ Sound (now book) ⌝ }
-    ensures { λ _. ⌜ now (book .exit) ≡ laid (with-rows Table.Block (replaced 4 row (bookOf (now (book .entry)) .blocks)) (bookOf (now (book .entry)))) ⌝ }
-{
-    let k = Table::Block.keys();
-    let from = first_row(Table::Block);
-    let to = from + ROWS;
-    rows::replace(&mut book[from..to], k, row);
-}
-
-// The block of that key goes.
-pub fn remove_block(book: &mut [Row], row: Row)
-    requires { ⌜ Sound (now book) ⌝ }
-    ensures { λ _. ⌜ now (book .exit) ≡ laid (with-rows Table.Block (removed 4 row (bookOf (now (book .entry)) .blocks)) (bookOf (now (book .entry)))) ⌝ }
-{
-    let k = Table::Block.keys();
-    let from = first_row(Table::Block);
-    let to = from + ROWS;
-    rows::remove(&mut book[from..to], k, row);
 }
 
 // The empty book.
@@ -251,7 +326,7 @@ fn rest_zero(t: Table, row: Row) -> bool
 
 // Whether a row could stand in its table of this book.
 fn is_lawful(book: &[Row], t: Table, row: Row) -> bool
-    requires { ⌜ Sound (now book) ⌝ }
+    requires { ⌜ Sound (now book) × Referable t (bookOf (now book)) ⌝ }
     ensures { λ r. ⌜ r ≡ lawful t (bookOf (now (book .entry))) row ⌝ }
 {
     if !rest_zero(t, row) {
@@ -273,7 +348,7 @@ fn is_lawful(book: &[Row], t: Table, row: Row) -> bool
 }
 
 fn lawful_rows(book: &[Row], t: Table) -> bool
-    requires { ⌜ Sound (now book) ⌝ }
+    requires { ⌜ Sound (now book) × Referable t (bookOf (now book)) ⌝ }
     ensures { λ r. ⌜ r ≡ all (lawful t (bookOf (now (book .entry)))) (rows t (bookOf (now (book .entry)))) ⌝ }
 {
     let n = count_rows(book, t);

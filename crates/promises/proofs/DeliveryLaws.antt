@@ -14,7 +14,7 @@ use Rattle.tables.specs.declared.Table.{Table}
 use Rattle.tables.specs.declared.Table.the-variants.{VehicleType, Depot, Stop, StopPoint, Block}
 use Rattle.book.specs.Book.{Book, empty, rows, with-rows}
 use Rattle.book.specs.Rules.{unknownOf}
-use Rattle.book.proofs.Laying.{rows-empty}
+use Rattle.book.proofs.Laying.{rows-empty, rows-apart}
 use Rattle.tables.proofs.Figures.{part-below}
 use Rattle.reading.specs.Reading.{leaves, _▹_, tableRead, Delivery, reading}
 use Rattle.writer.specs.Writing.{linesWritten, namesLine, rowLine, written}
@@ -22,7 +22,8 @@ use Rattle.promises.specs.Promises.{InOrder, textOf}
 use Rattle.promises.proofs.TestLaws.{came}
 use Rattle.rows.specs.Rows.{rising as rises}
 use Rattle.promises.proofs.PlainLaws.{plainLine, plainText, plain-names-block, plain-line-block}
-use Rattle.promises.proofs.HeldLaws.{Good, EachGood, Held, rows-apart, unknown-before, good-eleven, held-moved, held-table, table-back}
+use Rattle.book.proofs.Referring.{unknown-before}
+use Rattle.promises.proofs.HeldLaws.{Good, EachGood, Held, good-eleven, held-moved, held-table, table-back}
 
 -- every table of the book stands by right
 abbrev pub Standing : Book → Type 0

@@ -6,10 +6,8 @@ use mathlib.Core.Bool.{true, false}
 use mathlib.Core.List.{List, [], _∷_, _++_, map, append-nil}
 use lib.ListN.{length, take, length-append, length-map, length-take, length-replicate, replicate}
 use lib.Seq.{take-at, append-snoc}
-use lib.Dec.{ltb}
-use borrow.Author.Tests.{leb-false, ltb-true, lt-leb, le-ltb}
+use borrow.Author.Tests.{leb-false, lt-leb, le-ltb}
 use Rattle.words.specs.Words.{Bytes, Row}
-use Rattle.words.proofs.Lists.{every, and-left, and-right}
 use Rattle.refusals.specs.Verdicts.{_⊳_, _when_, placed, place, tooManyRows, endsEarly, keyStands}
 use Rattle.refusals.specs.declared.Check.{Check}
 use Rattle.refusals.specs.declared.Check.the-variants.{Passes, Fails}
@@ -18,20 +16,20 @@ use Rattle.refusals.specs.declared.Verdict.the-variants.{Accepted, Refused}
 use Rattle.text.specs.Numbers.{value}
 use Rattle.text.specs.Lines.{lines, rowLines}
 use Rattle.text.specs.Cells.{cut, cellsOf}
-use Rattle.tables.specs.Columns.{columnsOf, number, keyWidth, keptWidth, partOf, references}
+use Rattle.tables.specs.Columns.{columnsOf, number, keyWidth, keptWidth}
 use Rattle.tables.specs.declared.Table.{Table}
 use Rattle.tables.specs.declared.Table.the-variants.{VehicleType, Depot, Stop, StopPoint, Block}
-use Rattle.tables.specs.declared.Reference.{Reference}
 use Rattle.rows.specs.Rows.{wide, keyOrder, inserted, stands, rising as rises}
 use Rattle.rows.specs.declared.Order.{Order}
 use Rattle.rows.specs.declared.Order.the-variants.{Less, Same, More}
 use Rattle.book.specs.Book.{Book, rows, with-rows, entered, full, knows}
-use Rattle.book.specs.Rules.{timeFault, unknown, unknownOf, ruled}
+use Rattle.book.specs.Rules.{timeFault, unknown, ruled}
 use Rattle.book.specs.Keeping.{ranged}
 use Rattle.reading.specs.Header.{Header, cutCheck, contents, contentsFrom}
 use Rattle.reading.specs.Reading.{Result, leaves, refused, unless, _▹_, badCell, judged, rowRead, rowsRead, tableRead, headerOf, topFaults}
 use Rattle.writer.specs.Writing.{linesWritten}
-use Rattle.book.proofs.Laying.{rows-with, with-same, every-table}
+use Rattle.book.proofs.Laying.{rows-with, with-same, with-with, entered-with}
+use Rattle.book.proofs.Referring.{unknown-with}
 use Rattle.promises.proofs.TestLaws.{both, unfailed, going-on}
 use Rattle.rows.proofs.Rising.{rising-true, rising-inserted}
 use Rattle.rows.proofs.Changes.{length-inserted}
@@ -39,44 +37,6 @@ use Rattle.tables.proofs.Figures.{kept-few}
 use Rattle.promises.proofs.LastRowLaws.{AboveAll, above-all, inserted-last, stands-not}
 use Rattle.promises.proofs.LineLaws.{Unbroken, EachUnbroken, lines-written}
 use Rattle.promises.proofs.PlainLaws.{plainNames, plainHeader, plainLine, plainText, Eleven, eleven-long, kept-numeric, cells-ranged, row-read, row-judged, unbroken-line, unbroken-plain, names-good, names-read, names-short, line-short}
-
--- a book's tables are apart ----------------------------------------------------------------------------------------------
-
-pub with-with : (t : Table) (xs ys : List Row) (b : Book) → with-rows t xs (with-rows t ys b) ≡ with-rows t xs b
-with-with VehicleType xs ys b = refl
-with-with Depot xs ys b = refl
-with-with Stop xs ys b = refl
-with-with StopPoint xs ys b = refl
-with-with Block xs ys b = refl
-
-pub entered-with : (t : Table) (row : Row) (xs : List Row) (b : Book) → entered t row (with-rows t xs b) ≡ with-rows t (inserted (keyWidth t) row xs) b
-entered-with t row xs b = ap (λ (l : List Row). with-rows t (inserted (keyWidth t) row l) (with-rows t xs b)) (rows-with t xs b) ∙ with-with t (inserted (keyWidth t) row xs) xs b
-
-pub rows-apart : (t u : Table) (xs : List Row) (b : Book) → (partOf u ≡ partOf t → ⊥) → rows u (with-rows t xs b) ≡ rows u b
-rows-apart t u xs b n = every-table (λ v l. (partOf v ≡ partOf t → ⊥) → l ≡ rows v b) b t xs (λ m. absurd (m refl)) (λ v m. refl) u n
-
--- what is referred to is read before
-refers-back : (t : Table) → every (λ x. ltb (partOf (x .to)) (partOf t)) (references t) ≡ true
-refers-back VehicleType = refl
-refers-back Depot = refl
-refers-back Stop = refl
-refers-back StopPoint = refl
-refers-back Block = refl
-
-known-alike : (n : ℕ) (b c : Book) → ((u : Table) → partOf u < n → rows u b ≡ rows u c) → (xs : List Reference) → every (λ x. ltb (partOf (x .to)) n) xs ≡ true →
-    (row : Row) → unknownOf xs row b ≡ unknownOf xs row c
-unfolding unknownOf
-known-alike n b c e [] h row = refl
-known-alike n b c e (x ∷ xs) h row =
-    let here : ltb (partOf (x .to)) n ≡ true = and-left (ltb (partOf (x .to)) n) (every (λ x. ltb (partOf (x .to)) n) xs) h in
-    rw (e (x .to) (ltb-true (partOf (x .to)) n here), known-alike n b c e xs (and-right (ltb (partOf (x .to)) n) (every (λ x. ltb (partOf (x .to)) n) xs) h) row)
-
--- so a row's references depend on the tables before its own alone
-pub unknown-before : (t : Table) (b c : Book) → ((u : Table) → partOf u < partOf t → rows u b ≡ rows u c) → (row : Row) → unknown t row b ≡ unknown t row c
-unknown-before t b c e row = known-alike (partOf t) b c e (references t) (refers-back t) row
-
-pub unknown-with : (t : Table) (row : Row) (xs : List Row) (b : Book) → unknown t row (with-rows t xs b) ≡ unknown t row b
-unknown-with t row xs b = unknown-before t (with-rows t xs b) b (λ u l. rows-apart t u xs b (λ e. omega arith)) row
 
 -- rows that stand by right -----------------------------------------------------------------------------------------------
 

@@ -32,7 +32,8 @@ use Rattle.promises.proofs.TestLaws.{both, unfailed, going-on}
 use Rattle.rows.proofs.Rising.{rising-replaced, rising-removed}
 use Rattle.rows.proofs.Changes.{length-replaced, length-removed-most}
 use Rattle.promises.proofs.PlainLaws.{Eleven, eleven, eleven-long, kept-numeric, cells-ranged}
-use Rattle.promises.proofs.HeldLaws.{Good, EachGood, Held, held-moved, held-insert, unknown-with}
+use Rattle.book.proofs.Referring.{unknown-with}
+use Rattle.promises.proofs.HeldLaws.{Good, EachGood, Held, held-moved, held-insert}
 
 module _ (b : Book) (row : Row) where
   good-replaced : (xs : List Row) → Good Block b row → EachGood Block b xs → EachGood Block b (replaced 4 row xs)

@@ -170,7 +170,7 @@ rowed-passes Passes row e = refl
 rowed-passes (Fails n k) row e = e
 
 module _ (t : Table) (h : Header) (line : Bytes) (p : read t h line .check ≡ Passes) where
-  line-passes : (cutCheck h (cut line) ⊳ cellsCheck t h line) ≡ Passes
+  pub line-passes : (cutCheck h (cut line) ⊳ cellsCheck t h line) ≡ Passes
   line-passes = rowed-passes (cutCheck h (cut line) ⊳ cellsCheck t h line) (rowRead t h line) p
 
   pub read-passes : cellsCheck t h line ≡ Passes

@@ -1,4 +1,4 @@
--- Laws of a line taken into a lent book, of the rows of a text, of a table and of a delivery. Assumes nothing.
+-- Laws of a line taken onto the shelf of its table, of the rows of a text, of a table and of a delivery. Assumes nothing.
 use mathlib.Core.Path.{_≡_, refl, ap, sym, subst, _∙_}
 use mathlib.Core.List.{List}
 use Prim.Native.Nat.{ℕ, suc, _+_, _-_, _≤_, _<_}
@@ -7,7 +7,7 @@ use native.Mathlib.Numerals.{add-one}
 use lib.ListN.{length, take, drop}
 use borrow.Author.Tests.{lt-ltb, le-ltb, eq-eqb, ne-eqb}
 use Rattle.words.specs.Words.{Bytes, Row}
-use Rattle.refusals.specs.Verdicts.{placed, nowhere, textTooLong, badLoan}
+use Rattle.refusals.specs.Verdicts.{placed, nowhere, textTooLong, tooManyRows, badLoan}
 use Rattle.refusals.specs.declared.Place.{Place}
 use Rattle.refusals.specs.declared.Check.{Check}
 use Rattle.refusals.specs.declared.Check.the-variants.{Passes, Fails}
@@ -19,49 +19,61 @@ use Rattle.text.specs.declared.Line.{Line}
 use Rattle.text.proofs.Lining.{line-from, lines-none, head-line, row-lines}
 use Rattle.tables.specs.Columns.{number}
 use Rattle.tables.specs.declared.Table.{Table}
+use Rattle.rows.specs.Rows.{column}
 use Rattle.book.specs.Book.{Book, empty, entered}
 use Rattle.book.specs.Room.{laid, bookOf, Sound}
-use Rattle.book.proofs.Laying.{orderly-book, orderly-entered, orderly-empty, book-laid, sound-laid, laid-book}
+use Rattle.book.specs.Shelving.{shelfBook, OnShelf, Entered}
+use Rattle.book.proofs.Laying.{orderly-empty, book-laid, sound-laid, laid-book}
+use Rattle.book.proofs.Shelving.{shelf-most, shelf-full, shelf-room, sound-shelf, book-shelf}
 use Rattle.reading.specs.Header.{Header, header, headerCheck}
-use Rattle.reading.specs.Reading.{refused, leaves, unless, judged, rowRead, rowsRead, tableRead, Delivery, reading}
-use Rattle.reading.specs.Heading.{headed, heading, KeptOf, judgement, Taken}
+use Rattle.reading.specs.Reading.{Result, refused, leaves, unless, judged, rowRead, rowsRead, tableRead, Delivery, reading}
+use Rattle.reading.specs.Heading.{headed, heading, KeptOf, read, Taken}
 use Rattle.reading.specs.Calls.{outcome, readCall, resultOf}
 use Rattle.reading.specs.declared.Heading.{Heading}
 use Rattle.reading.specs.declared.Judged.{Judged}
 use Rattle.reading.proofs.Names as names
-use Rattle.reading.proofs.Judging.{judgement-check, judgement-row, passes-room, passes-version}
+use Rattle.reading.proofs.Judging.{judged-full, judged-bad, judged-good, good-row, good-version}
 
 -- a line ------------------------------------------------------------------------------------------------------------------------
 
-module _ (t : Table) (h : Header) (line : Bytes) (xs : List Row) (j : Judged) (is : j ≡ judgement t h line (bookOf xs)) where
-  pub line-passes : j .check ≡ Passes → judged t h line (bookOf xs) ≡ Passes
-  line-passes e = sym (judgement-check t h line (bookOf xs) j is) ∙ e
+-- a line that is refused says nothing of the shelf behind it
+pub refused-shelf : {A : Type 0} (n k : ℕ) (c : Check) → c ≡ Fails n k → c ≡ Passes → A
+refused-shelf n k c f p = let z : _≡_ {A = ℕ} 0 1 = cc in absurd (omega arith)
 
-  pub line-refused : (c : Check) (n k : ℕ) → c ≡ Fails n k → j .check ≡ c → Taken t h line (bookOf xs) (bookOf xs) c
-  line-refused c n k f e = record { is = sym e ∙ judgement-check t h line (bookOf xs) j is; enters = λ p. cc }
+module _ (t : Table) (h : Header) (line : Bytes) (xs slots : List Row) (order : List ℕ) (n : ℕ) (on : OnShelf t xs slots order n) where
+  pub line-full : n ≡ 512 → (d : Book) (c : Check) → c ≡ tooManyRows → Taken t h line (shelfBook t xs slots order n) d c
+  line-full e d c f =
+      record { is = f ∙ sym (judged-full t h line (shelfBook t xs slots order n) (shelf-full t xs slots order n on e)); enters = refused-shelf _ _ c f }
 
-  module _ (sound : Sound xs) (passing : j .check ≡ Passes) (ys : List Row) (left : ys ≡ laid (entered t (j .row) (bookOf xs))) where
-    here : laid (entered t (j .row) (bookOf xs)) ≡ laid (entered t (rowRead t h line) (bookOf xs))
-    here = ap (λ (row : Row). laid (entered t row (bookOf xs))) (judgement-row t h line (bookOf xs) j is (line-passes passing))
+  -- where the shelf has room
+  module _ (less : n ≡ 512 → ⊥) where
+    pub line-room : n < 512
+    line-room = omega (arith, shelf-most t xs slots order n on, less)
 
-    pub line-sound : Sound ys
-    line-sound =
-        rw (left ∙ here)
-        (sound-laid (entered t (rowRead t h line) (bookOf xs))
-        (orderly-entered (bookOf xs) (orderly-book xs sound) t (rowRead t h line) (passes-version t h line (bookOf xs) (line-passes passing)) (passes-room t h line (bookOf xs) (line-passes passing))))
+    module _ (j : Judged) (is : j ≡ read t h line) where
+      pub line-faulty : (d : Book) (m k : ℕ) → j .check ≡ Fails m k → Taken t h line (shelfBook t xs slots order n) d (Fails m k)
+      line-faulty d m k e =
+          record {
+            is = sym (judged-bad t h line (shelfBook t xs slots order n) (shelf-room t xs slots order n on line-room) j is m k e);
+            enters = refused-shelf m k (Fails m k) refl;
+          }
 
-    pub line-taken : Taken t h line (bookOf xs) (bookOf ys) Passes
-    line-taken =
-        record {
-          is = sym (line-passes passing);
-          enters = λ e. ap bookOf (left ∙ here)
-              ∙ book-laid (entered t (rowRead t h line) (bookOf xs))
-              (orderly-entered (bookOf xs) (orderly-book xs sound) t (rowRead t h line) (passes-version t h line (bookOf xs) (line-passes passing)) (passes-room t h line (bookOf xs) (line-passes passing)));
-        }
+      module _ (good : j .check ≡ Passes) where
+        pub line-version : 1 ≤ column 1 (j .row)
+        line-version = good-version t h line (shelfBook t xs slots order n) (shelf-room t xs slots order n on line-room) j is good
+
+        pub line-entered : (slots′ : List Row) (order′ : List ℕ) (c : Check) → Entered t (j .row) xs slots slots′ order order′ n c
+            → Taken t h line (shelfBook t xs slots order n) (shelfBook t xs slots′ order′ (suc n)) c
+        line-entered slots′ order′ c e =
+            record {
+              is = e .is ∙ sym (judged-good t h line (shelfBook t xs slots order n) (shelf-room t xs slots order n on line-room) j is good);
+              enters = λ p. e .enters p
+                  ∙ ap (λ (row : Row). entered t row (shelfBook t xs slots order n)) (good-row t h line (shelfBook t xs slots order n) (shelf-room t xs slots order n on line-room) j is good);
+            }
 
 -- the rows of a text --------------------------------------------------------------------------------------------------------------
 
-placed-passes : (table n : ℕ) (c : Check) → placed table n c ≡ Accepted → c ≡ Passes
+pub placed-passes : (table n : ℕ) (c : Check) → placed table n c ≡ Accepted → c ≡ Passes
 placed-passes table n Passes e = refl
 placed-passes table n (Fails m k) e = cc
 
@@ -86,6 +98,18 @@ module _ (t : Table) (h : Header) (n : ℕ) (s : Bytes) (i : ℕ) (b : Book) whe
     rows-refused p a =
         let q : placed (number t) n (judged t h (take (r .end - i) (drop i s)) b) ≡ Refused p = ap (placed (number t) n) (sym (x .is)) ∙ sym o ∙ a in
         step ∙ rw q
+
+-- the rows on the shelf, laid out where they are accepted
+pub laid-accepted : (t : Table) (xs slots : List Row) (order : List ℕ) (n : ℕ) → OnShelf t xs slots order n → (ys : List Row) → ys ≡ laid (shelfBook t xs slots order n)
+    → Sound ys × (bookOf ys ≡ shelfBook t xs slots order n)
+laid-accepted t xs slots order n on ys e = (rw e (sound-shelf t xs slots order n on), ap bookOf e ∙ book-shelf t xs slots order n on)
+
+module _ (v : Verdict) (b : Book) (r : Result) (is : unless v (leaves b) ≡ r) where
+  pub result-accepted : v ≡ Accepted → (ys : List Row) → Sound ys × (bookOf ys ≡ b) → resultOf Accepted ys ≡ r
+  result-accepted a ys e = ap leaves (e .1) ∙ subst (λ (x : Verdict). unless x (leaves b) ≡ r) a is
+
+  pub result-refused : (p : Place) → v ≡ Refused p → (ys : List Row) → resultOf (Refused p) ys ≡ r
+  result-refused p a ys = subst (λ (x : Verdict). unless x (leaves b) ≡ r) a is
 
 -- a header ------------------------------------------------------------------------------------------------------------------------
 

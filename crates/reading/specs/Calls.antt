@@ -1,4 +1,5 @@
 -- What the calls answer, and what everything lent to them holds behind the call.
+use mathlib.Core.Path.{_≡_}
 use mathlib.Core.List.{List}
 use mathlib.Core.Bool.{Bool, true, false, not}
 use lib.Dec.{eqb}
@@ -9,6 +10,7 @@ use Rattle.refusals.specs.declared.Verdict.{Verdict}
 use Rattle.refusals.specs.declared.Verdict.the-variants.{Accepted, Refused}
 use Rattle.book.specs.Book.{Book, empty}
 use Rattle.book.specs.Room.{laid, bookOf}
+use Rattle.book.specs.Keeping.{pointsNamed}
 use Rattle.reading.specs.Reading.{Delivery, Result, refused, leaves, unless, reading}
 
 -- a verdict, and what the lent book holds
@@ -33,6 +35,11 @@ readCall d slice =
 abbrev pub resultOf : Verdict → List Row → Result
 resultOf Accepted slice = leaves (bookOf slice)
 resultOf (Refused p) slice = refused p
+
+-- a book that is left has no stop point without its stop
+abbrev pub NamedIn : Result → Type 0
+NamedIn (refused p) = Unit {0}
+NamedIn (leaves b) = pointsNamed b ≡ true
 
 abbrev pub delivery : Bytes → Bytes → Bytes → Bytes → Bytes → Delivery
 delivery a b c d e = record { types = a; depots = b; stops = c; points = d; blocks = e }

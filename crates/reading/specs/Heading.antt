@@ -68,9 +68,6 @@ abbrev pub rowed : Check → Row → Judged
 rowed Passes row = record { check = Passes; row = row }
 rowed (Fails n k) row = record { check = Fails n k; row = zeros }
 
-abbrev pub judgement : Table → Header → Bytes → Book → Judged
-judgement t h line b = rowed (judged t h line b) (rowRead t h line)
-
 -- 8 of a line's cells
 abbrev pub cellsCheck : Table → Header → Bytes → Check
 cellsCheck t h line = badCell 1 (columnsOf t) (contents t h (cellsOf (cut line)))

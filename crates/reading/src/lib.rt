@@ -2,7 +2,7 @@
 ghost use mathlib.Core.Path.{_≡_};
 ghost use mathlib.Core.List.{List};
 ghost use mathlib.Core.Bool.{true, false, _&&_, not};
-ghost use Prim.Native.Nat.{ℕ, _+_, _-_, _≤_, _<_};
+ghost use Prim.Native.Nat.{ℕ, suc, _+_, _-_, _≤_, _<_};
 ghost use lib.Dec.{eqb, ltb};
 ghost use lib.ListN.{length, getD, set, drop};
 ghost use Rattle.words.specs.Words.{if_then_else_};
@@ -12,17 +12,20 @@ ghost use Rattle.text.specs.Cells.{cut, cellsOf};
 ghost use Rattle.tables.specs.Columns.{columnsOf};
 ghost use Rattle.book.specs.Book.{empty};
 ghost use Rattle.book.specs.Room.{Sound, bookOf};
+ghost use Rattle.book.specs.Keeping.{pointsNamed};
+ghost use Rattle.book.specs.Shelving.{shelfBook, OnShelf};
 ghost use Rattle.reading.specs.Header.{header, missing};
-ghost use Rattle.reading.specs.Reading.{rowRead, rowsRead, headerOf, topFaults, tableRead, reading, _▹_};
-ghost use Rattle.reading.specs.Heading.{places, headed, heading, namesCheck, cellNumbered, MarksOf, KeptOf, rowed, read, cellsCheck, judgement, Taken};
+ghost use Rattle.reading.specs.Reading.{rowRead, rowsRead, headerOf, topFaults, tableRead, reading, leaves, unless, _▹_};
+ghost use Rattle.reading.specs.Heading.{places, headed, heading, namesCheck, cellNumbered, MarksOf, KeptOf, rowed, read, cellsCheck, Taken};
 ghost use Rattle.reading.specs.CellQuestion.{answered, said, tableCell, cellAsked, stretchOf};
 ghost use Rattle.reading.specs.Asking.{cellJudged, rowAnswer};
-ghost use Rattle.reading.specs.Calls.{outcome, resultOf, readCall, delivery};
+ghost use Rattle.reading.specs.Calls.{outcome, resultOf, readCall, NamedIn, delivery};
 use book::BOOK_ROWS;
 use refusals::Cell;
 use refusals::Check;
 use refusals::Place;
 use refusals::Verdict;
+use rows::ROWS;
 use rows::Row;
 use tables::Named;
 use tables::Sort;
@@ -41,6 +44,12 @@ pub struct Heading {
 pub struct Judged {
     pub check: Check,
     pub row: Row,
+}
+
+// The lines of a table taken onto its shelf: what they are refused for, and how many rows stand there.
+pub struct Filled {
+    pub verdict: Verdict,
+    pub count: usize,
 }
 
 // The answer to a question for a cell.
@@ -266,79 +275,56 @@ pub fn read_row(line: &[u8], t: Table, cells: usize, at: &[usize; 12]) -> Judged
     }
 }
 
-// What a line is found to be: its row where the check passes.
-fn found(check: Check, row: Row) -> Judged
-    ensures { λ r. ⌜ r ≡ rowed check row ⌝ }
+// 5, 6, 7, 8, 11, 9, 10: a line on the book as the earlier ones left it; where it passes, its row enters the shelf.
+fn take_line(
+    line: &[u8],
+    t: Table,
+    cells: usize,
+    at: &[usize; 12],
+    book: &[Row],
+    slots: &mut [Row],
+    order: &mut [u16],
+    n: usize,
+) -> Check
+    requires { ⌜ (cells ≤ 32) × OnShelf t (now book) (now slots) (now order) n × ((h : List ℕ) × KeptOf h cells (now at)) ⌝ }
+    ensures { λ r. ⌜ (r ≡ Check.Passes → OnShelf t (now (book .entry)) (now (slots .exit)) (now (order .exit)) (suc n)) × ((h : List ℕ) → KeptOf h cells (now (at .entry)) → Taken t h (now (line .entry)) (shelfBook t (now (book .entry)) (now (slots .entry)) (now (order .entry)) n) (shelfBook t (now (book .entry)) (now (slots .exit)) (now (order .exit)) (suc n)) r) ⌝ }
 {
-    match check {
-        Check::Passes => Judged {
-            check: Check::Passes,
-            row,
-        },
-        Check::Fails { number, column } => Judged {
-            check: Check::Fails { number, column },
-            row: [0; 11],
-        },
-    }
-}
-
-// 5, 6, 7, 8, 11, 9, 10: a line on the book as it stands.
-pub fn judge(line: &[u8], t: Table, cells: usize, at: &[usize; 12], book: &[Row]) -> Judged
-    requires { ⌜ (cells ≤ 32) × Sound (now book) ⌝ }
-    ensures { λ r. ⌜ ((h : List ℕ) → KeptOf h cells (now (at .entry)) → r ≡ judgement t h (now (line .entry)) (bookOf (now (book .entry)))) ⌝ }
-{
-    if book::is_full(book, t) {
-        return found(Check::too_many_rows(), [0; 11]);
+    if n == ROWS {
+        return Check::too_many_rows();
     }
     let read = read_row(line, t, cells, at);
     let check = read.check;
     let row = read.row;
     match check {
-        Check::Fails {
-            number: _,
-            column: _,
-        } => read,
-        Check::Passes => found(book::rule(book, t, row), row),
-    }
-}
-
-// A line taken into the book: where it passes, its row enters its table.
-fn take_line(line: &[u8], t: Table, cells: usize, at: &[usize; 12], book: &mut [Row]) -> Check
-    requires { ⌜ (cells ≤ 32) × Sound (now book) × ((h : List ℕ) × KeptOf h cells (now at)) ⌝ }
-    ensures { λ r. ⌜ Sound (now (book .exit)) × ((h : List ℕ) → KeptOf h cells (now (at .entry)) → Taken t h (now (line .entry)) (bookOf (now (book .entry))) (bookOf (now (book .exit))) r) ⌝ }
-{
-    let judged = judge(line, t, cells, at, &book[..]);
-    let check = judged.check;
-    let row = judged.row;
-    match check {
         Check::Fails { number, column } => Check::Fails { number, column },
-        Check::Passes => {
-            book::enter(book, t, row);
-            Check::Passes
-        }
+        Check::Passes => book::enter(book, t, row, slots, order, n),
     }
 }
 
-// The rows from a place of the text on, line by line; the first refusal ends it.
-fn take_rows(
+// The rows from a place of the text on, line by line onto the shelf; the first refusal ends it.
+fn take_lines(
     bytes: &[u8],
     from: usize,
     t: Table,
     cells: usize,
     at: &[usize; 12],
-    book: &mut [Row],
-) -> Verdict
-    requires { ⌜ (from ≤ length (now bytes)) × (length (now bytes) ≤ 65536) × (cells ≤ 32) × Sound (now book) × ((h : List ℕ) × KeptOf h cells (now at)) ⌝ }
-    ensures { λ r. ⌜ Sound (now (book .exit)) × ((h : List ℕ) → KeptOf h cells (now (at .entry)) → resultOf r (now (book .exit)) ≡ rowsRead t h 2 (lines (drop from (now (bytes .entry)))) (bookOf (now (book .entry)))) ⌝ }
+    book: &[Row],
+    slots: &mut [Row],
+    order: &mut [u16],
+    n: usize,
+) -> Filled
+    requires { ⌜ (from ≤ length (now bytes)) × (length (now bytes) ≤ 65536) × (cells ≤ 32) × OnShelf t (now book) (now slots) (now order) n × ((h : List ℕ) × KeptOf h cells (now at)) ⌝ }
+    ensures { λ r. ⌜ (r .verdict ≡ Verdict.Accepted → OnShelf t (now (book .entry)) (now (slots .exit)) (now (order .exit)) (r .count)) × ((h : List ℕ) → KeptOf h cells (now (at .entry)) → unless (r .verdict) (leaves (shelfBook t (now (book .entry)) (now (slots .exit)) (now (order .exit)) (r .count))) ≡ rowsRead t h 2 (lines (drop from (now (bytes .entry)))) (shelfBook t (now (book .entry)) (now (slots .entry)) (now (order .entry)) n)) ⌝ }
 {
     let mut verdict = Verdict::Accepted;
+    let mut count = n;
     let mut i = from;
     let mut line: u64 = 2;
     'rows: while i < bytes.len() {
         let l = text::next_line(bytes, i);
         let end = l.end;
         let next = l.next;
-        let check = take_line(&bytes[i..end], t, cells, at, book);
+        let check = take_line(&bytes[i..end], t, cells, at, book, slots, order, count);
         let v = check.on(t.number(), line);
         match v {
             Verdict::Accepted => {}
@@ -347,16 +333,55 @@ fn take_rows(
                 break 'rows;
             }
         }
+        count += 1;
         i = next;
         line += 1;
     }
-    verdict
+    Filled { verdict, count }
+}
+
+// The rows of a text into their table. They stand on a shelf while they are read, since a row that comes before others would move these
+// in the book. A refused table leaves the book as it was.
+fn take_rows(
+    bytes: &[u8],
+    from: usize,
+    t: Table,
+    cells: usize,
+    at: &[usize; 12],
+    book: &mut [Row],
+) -> Verdict
+    requires { ⌜ (from ≤ length (now bytes)) × (length (now bytes) ≤ 65536) × (cells ≤ 32) × Sound (now book) × (pointsNamed (bookOf (now book)) ≡ true) × ((h : List ℕ) × KeptOf h cells (now at)) ⌝ }
+    ensures { λ r. ⌜ Sound (now (book .exit)) × ((h : List ℕ) → KeptOf h cells (now (at .entry)) → resultOf r (now (book .exit)) ≡ rowsRead t h 2 (lines (drop from (now (bytes .entry)))) (bookOf (now (book .entry)))) ⌝ }
+{
+    let mut slots = [[0u64; 11]; ROWS];
+    let mut order = [0u16; ROWS];
+    let n = book::shelve(&book[..], t, &mut slots, &mut order);
+    let filled = take_lines(
+        bytes,
+        from,
+        t,
+        cells,
+        at,
+        &book[..],
+        &mut slots,
+        &mut order,
+        n,
+    );
+    let verdict = filled.verdict;
+    let count = filled.count;
+    match verdict {
+        Verdict::Accepted => {
+            book::lay_table(book, t, &slots, &order, count);
+            Verdict::Accepted
+        }
+        Verdict::Refused(p) => Verdict::Refused(p),
+    }
 }
 
 // 1, the header, the rows.
 fn take_table(bytes: &[u8], t: Table, book: &mut [Row]) -> Verdict
-    requires { ⌜ Sound (now book) ⌝ }
-    ensures { λ r. ⌜ Sound (now (book .exit)) × (resultOf r (now (book .exit)) ≡ tableRead t (now (bytes .entry)) (bookOf (now (book .entry)))) ⌝ }
+    requires { ⌜ Sound (now book) × (pointsNamed (bookOf (now book)) ≡ true) ⌝ }
+    ensures { λ r. ⌜ Sound (now (book .exit)) × (resultOf r (now (book .exit)) ≡ tableRead t (now (bytes .entry)) (bookOf (now (book .entry)))) × NamedIn (resultOf r (now (book .exit))) ⌝ }
 {
     if 65536 < bytes.len() {
         return Check::text_too_long().on(t.number(), Place::NO_LINE);
@@ -379,8 +404,8 @@ fn take_table(bytes: &[u8], t: Table, book: &mut [Row]) -> Verdict
 
 // The next table, where the earlier ones were accepted.
 fn then_table(earlier: Verdict, bytes: &[u8], t: Table, book: &mut [Row]) -> Verdict
-    requires { ⌜ Sound (now book) ⌝ }
-    ensures { λ r. ⌜ Sound (now (book .exit)) × (resultOf r (now (book .exit)) ≡ resultOf earlier (now (book .entry)) ▹ tableRead t (now (bytes .entry))) ⌝ }
+    requires { ⌜ Sound (now book) × NamedIn (resultOf earlier (now book)) ⌝ }
+    ensures { λ r. ⌜ Sound (now (book .exit)) × (resultOf r (now (book .exit)) ≡ resultOf earlier (now (book .entry)) ▹ tableRead t (now (bytes .entry))) × NamedIn (resultOf r (now (book .exit))) ⌝ }
 {
     match earlier {
         Verdict::Refused(p) => Verdict::Refused(p),

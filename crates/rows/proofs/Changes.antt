@@ -1,21 +1,20 @@
--- What stands, and which row is found, after a row is inserted, replaced or removed; and that a slice still holds a table then. Assumes nothing.
+-- What stands, and which row is found, after a row is inserted, replaced or removed. Assumes nothing.
 use mathlib.Core.Path.{_≡_, refl, sym, ap, _∙_}
 use mathlib.Core.List.{List, [], _∷_}
 use mathlib.Core.Bool.{Bool, true, false, _||_}
-use Prim.Native.Nat.{ℕ, suc, _≤_, _<_}
+use Prim.Native.Nat.{ℕ, suc, _≤_}
 use native.Mathlib.Omega.{arith}
 use lib.ListN.{length, getD}
 use Rattle.words.specs.Words.{Row, if_then_else_}
 use Rattle.rows.specs.declared.Order.{Order}
 use Rattle.rows.specs.declared.Order.the-variants.{Less, Same, More}
-use Rattle.rows.specs.declared.Spot.{Spot}
 use Rattle.rows.specs.declared.Spot.the-variants.{At, Gap}
 use Rattle.rows.specs.Rows.{byOrder, column, keyOrder, sameKey, stands, found, inserted, replaced, removed, rising}
-use Rattle.rows.specs.Room.{zeros, filled, used, Holds, spot, rowOf}
+use Rattle.rows.specs.Room.{zeros, used, spot, rowOf}
 use Rattle.rows.proofs.Keys.{order-refl, same-number, sameKey-order, sameKey-left, sameKey-right}
-use Rattle.rows.proofs.Rising.{Above, Rising, rising-true, rising-inserted, rising-replaced, rising-removed}
-use Rattle.rows.proofs.Room.{Versioned, used-versioned, used-within, used-row, used-filled, length-filled, holds-filled, rowOf-row}
-use Rattle.rows.proofs.Places.{at-within, at-stands, at-found, at-inserted, gap-missing}
+use Rattle.rows.proofs.Rising.{Above, Rising, rising-true}
+use Rattle.rows.proofs.Room.{Versioned, used-versioned, used-row, rowOf-row}
+use Rattle.rows.proofs.Places.{at-within, at-stands, at-found, gap-missing}
 
 -- which of two rows of the same key is asked for makes no difference
 module _ (k : ℕ) (key row : Row) (e : sameKey k key row ≡ true) where
@@ -83,24 +82,8 @@ found-versioned k row (x ∷ xs) v e = go (sameKey k row x) refl e (found-versio
     go true f g ih = v .0
     go false f g ih = ih g
 
-pub found-stands : (k : ℕ) (row : Row) (xs : List Row) → Versioned xs → found k row xs ≡ [] → stands k row xs ≡ false
-found-stands k row xs v e = go (stands k row xs) refl
-  where
-    go : (b : Bool) → stands k row xs ≡ b → b ≡ false
-    go true f = let h : 1 ≤ 0 = rw e at (found-versioned k row xs v f) in absurd (omega arith)
-    go false f = refl
-
 pub rowOf-found : (k : ℕ) (row : Row) (xs : List Row) → Versioned xs → stands k row xs ≡ true → rowOf (found k row xs) ≡ found k row xs
 rowOf-found k row xs v e = rowOf-row (found k row xs) (found-versioned k row xs v e)
-
-pub inserted-standing : (k : ℕ) (row : Row) (xs : List Row) → rising k xs ≡ true → stands k row xs ≡ true → inserted k row xs ≡ xs
-inserted-standing k row xs r e = go (spot k row xs) refl
-  where
-    go : (s : Spot) → spot k row xs ≡ s → inserted k row xs ≡ xs
-    go (At i) f = at-inserted k row xs i f
-    go (Gap i) f =
-        let g : stands k row xs ≡ false = gap-missing k row xs i f r in
-        let z : _≡_ {A = ℕ} 0 1 = cc in absurd (omega arith)
 
 -- the row of a key, by its place
 pub rowOf-at : (k : ℕ) (row : Row) (xs : List Row) (i : ℕ) → spot k row (used xs) ≡ At i → rowOf (found k row (used xs)) ≡ getD xs i []
@@ -160,9 +143,6 @@ module _ (k : ℕ) (row : Row) where
 
   pub stands-removed : (xs : List Row) → rising k xs ≡ true → stands k row (removed k row xs) ≡ false
   stands-removed xs r = gone xs (rising-true k xs r)
-
-  pub found-removed : (xs : List Row) → rising k xs ≡ true → found k row (removed k row xs) ≡ []
-  found-removed xs r = found-missing k row _ (stands-removed xs r)
 
 -- which keys stand is not changed by a replaced row
 pub stands-replaced : (k : ℕ) (key row : Row) (xs : List Row) → stands k key (replaced k row xs) ≡ stands k key xs
@@ -310,40 +290,3 @@ module _ (k : ℕ) (row : Row) where
       go : (b : Bool) → sameKey k row x ≡ b → Versioned (removed k row xs) → Versioned (removed k row (x ∷ xs))
       go true f ih = rw f (v .1)
       go false f ih = rw f (v .0, ih)
-
--- a slice that held a table holds one afterwards, and its used rows are the changed ones
-module _ (k : ℕ) (row : Row) (xs : List Row) where
-  pub used-inserted : (n : ℕ) → 1 ≤ column 1 row → used (filled n (inserted k row (used xs))) ≡ inserted k row (used xs)
-  used-inserted n v = used-filled n _ (versioned-inserted k row (used xs) v (used-versioned xs))
-
-  pub used-replaced : (n : ℕ) → 1 ≤ k → used (filled n (replaced k row (used xs))) ≡ replaced k row (used xs)
-  used-replaced n h = used-filled n _ (versioned-replaced k row (used xs) h (used-versioned xs))
-
-  pub used-removed : (n : ℕ) → used (filled n (removed k row (used xs))) ≡ removed k row (used xs)
-  used-removed n = used-filled n _ (versioned-removed k row (used xs) (used-versioned xs))
-
-  pub holds-inserted : Holds k xs → 1 ≤ column 1 row → length (used xs) < length xs → Holds k (filled (length xs) (inserted k row (used xs)))
-  holds-inserted h v room =
-      holds-filled k (length xs) _ (rising-inserted k row (used xs) (h .rises)) (versioned-inserted k row (used xs) v (used-versioned xs))
-      (omega (arith, length-inserted-most k row (used xs)))
-
-  pub holds-replaced : Holds k xs → 1 ≤ k → Holds k (filled (length xs) (replaced k row (used xs)))
-  holds-replaced h v =
-      holds-filled k (length xs) _ (rising-replaced k row (used xs) (h .rises)) (versioned-replaced k row (used xs) v (used-versioned xs))
-      (omega (arith, length-replaced k row (used xs), used-within xs))
-
-  pub holds-removed : Holds k xs → Holds k (filled (length xs) (removed k row (used xs)))
-  holds-removed h =
-      holds-filled k (length xs) _ (rising-removed k row (used xs) (h .rises)) (versioned-removed k row (used xs) (used-versioned xs))
-      (omega (arith, length-removed-most k row (used xs), used-within xs))
-
--- and the slice is as long as before
-module _ (k : ℕ) (row : Row) (xs : List Row) where
-  pub as-long-inserted : length (used xs) < length xs → length (filled (length xs) (inserted k row (used xs))) ≡ length xs
-  as-long-inserted room = length-filled (length xs) (inserted k row (used xs)) (omega (arith, length-inserted-most k row (used xs)))
-
-  pub as-long-replaced : length (filled (length xs) (replaced k row (used xs))) ≡ length xs
-  as-long-replaced = length-filled (length xs) (replaced k row (used xs)) (omega (arith, length-replaced k row (used xs), used-within xs))
-
-  pub as-long-removed : length (filled (length xs) (removed k row (used xs))) ≡ length xs
-  as-long-removed = length-filled (length xs) (removed k row (used xs)) (omega (arith, length-removed-most k row (used xs), used-within xs))

@@ -173,14 +173,6 @@ sameKey-order k x y e = go (keyOrder k x y) refl e
     go Same f g = f
     go More f g = cc
 
-pub sameKey-sym : (k : ℕ) (x y : Row) → sameKey k x y ≡ sameKey k y x
-sameKey-sym k x y = go (keyOrder k x y) refl
-  where
-    go : (o : Order) → keyOrder k x y ≡ o → sameKey k x y ≡ sameKey k y x
-    go Less f = rw (f, less-more k x y f)
-    go Same f = rw (f, same-same k x y f)
-    go More f = rw (f, more-less k x y f)
-
 pub sameKey-left : (k : ℕ) (x y z : Row) → sameKey k x y ≡ true → sameKey k x z ≡ sameKey k y z
 sameKey-left k x y z e = rw (same-left k x y z (sameKey-order k x y e))
 

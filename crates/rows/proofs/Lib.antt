@@ -4,3 +4,5 @@ pub mod Room
 pub mod Places
 pub mod Changes
 pub mod Shifts
+pub mod Shelving
+pub mod Slots

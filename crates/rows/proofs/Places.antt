@@ -64,7 +64,7 @@ module _ (k : ℕ) (row : Row) (xs : List Row) (low high : ℕ) (rises : rising 
   bracket-room m h = record { reached = b .reached; below = b .below; above = λ j l l′. absurd (omega arith) }
 
   module _ (m : ℕ) (within : m < length xs) where
-    bracket-up : keyOrder k row (getD xs m []) ≡ More → Bracket k row xs (m + 1) high
+    pub bracket-up : keyOrder k row (getD xs m []) ≡ More → Bracket k row xs (m + 1) high
     bracket-up e = record {
       reached = omega arith;
       below = λ j l. go j (tri j m) l;
@@ -76,7 +76,7 @@ module _ (k : ℕ) (row : Row) (xs : List Row) (low high : ℕ) (rises : rising 
         go j (eq h) l = rw h e
         go j (gt h) l = absurd (omega arith)
 
-    bracket-down : keyOrder k row (getD xs m []) ≡ Less → Bracket k row xs low m
+    pub bracket-down : keyOrder k row (getD xs m []) ≡ Less → Bracket k row xs low m
     bracket-down e = record {
       reached = b .reached;
       below = b .below;
@@ -88,7 +88,7 @@ module _ (k : ℕ) (row : Row) (xs : List Row) (low high : ℕ) (rises : rising 
         go j (eq g) l h = rw (← g) e
         go j (gt g) l h = absurd (omega arith)
 
-    bracket-at : keyOrder k row (getD xs m []) ≡ Same → spot k row xs ≡ At m
+    pub bracket-at : keyOrder k row (getD xs m []) ≡ Same → spot k row xs ≡ At m
     bracket-at e =
         spot-at k 0 row xs m within
         (λ j l. less-more k _ _ (sym (same-right k (getD xs j []) _ _ (same-same k _ _ e)) ∙ rising-in j m l within))
@@ -137,12 +137,11 @@ pub record StandsAt (k i : ℕ) (row : Row) (xs : List Row) (place : ℕ) : Type
   pub within : at < length xs
   pub stays : stands k row xs ≡ true
   pub there : found k row xs ≡ getD xs at []
-  pub kept : inserted k row xs ≡ xs
   pub changed : replaced k row xs ≡ set xs at row
   pub gone : removed k row xs ≡ take at xs ++ drop (suc at) xs
 
 stands-at : (k i : ℕ) (row : Row) (xs : List Row) (place : ℕ) → spotFrom k i row xs ≡ At place → StandsAt k i row xs place
-unfolding spotFrom stands found inserted replaced removed
+unfolding spotFrom stands found replaced removed
 stands-at k i row [] place e = let z : _≡_ {A = ℕ} 0 1 = cc in absurd (omega arith)
 stands-at k i row (x ∷ xs) place e = go (keyOrder k row x) refl (stands-at k (suc i) row xs place)
   where
@@ -151,7 +150,7 @@ stands-at k i row (x ∷ xs) place e = go (keyOrder k row x) refl (stands-at k (
     go Same f ih =
         let e′ : At i ≡ At place = rw f at e in
         let g : i ≡ place = cc in
-        record { at = 0; is = omega arith; within = omega arith; stays = rw f; there = rw f; kept = rw f; changed = rw f; gone = rw f }
+        record { at = 0; is = omega arith; within = omega arith; stays = rw f; there = rw f; changed = rw f; gone = rw f }
     go More f ih =
         let p = ih (rw f at e) in
         record {
@@ -160,7 +159,6 @@ stands-at k i row (x ∷ xs) place e = go (keyOrder k row x) refl (stands-at k (
           within = omega (arith, p .within);
           stays = rw f (p .stays);
           there = rw f (p .there);
-          kept = rw f (ap (λ (l : List Row). x ∷ l) (p .kept));
           changed = rw f (ap (λ (l : List Row). x ∷ l) (p .changed));
           gone = rw f (ap (λ (l : List Row). x ∷ l) (p .gone));
         }
@@ -178,9 +176,6 @@ module _ (k : ℕ) (row : Row) (xs : List Row) (i : ℕ) (here : spot k row xs �
 
   pub at-found : found k row xs ≡ getD xs i []
   at-found = rw at-same at (stands-at k 0 row xs i here .there)
-
-  pub at-inserted : inserted k row xs ≡ xs
-  at-inserted = stands-at k 0 row xs i here .kept
 
   pub at-replaced : replaced k row xs ≡ set xs i row
   at-replaced = rw at-same at (stands-at k 0 row xs i here .changed)

@@ -1,14 +1,14 @@
 -- Laws of the used rows of a slice, of the room behind them, and of the test that a slice holds a table. Assumes nothing.
 use mathlib.Core.Path.{_≡_, refl, sym, ap, _∙_}
 use mathlib.Core.List.{List, [], _∷_, _++_}
-use mathlib.Core.Bool.{Bool, true, false, _&&_, not}
+use mathlib.Core.Bool.{Bool, true, false, _&&_}
 use Prim.Native.Nat.{ℕ, zero, suc, _+_, _-_, _≤_, _<_}
 use native.Mathlib.Omega.{arith}
 use native.Mathlib.Nat.{not-suc-le-zero}
 use lib.ListN.{length, getD, take, drop, replicate, length-append, length-replicate, getD-replicate, drop-of-length-le}
 use lib.Seq.{ext-getD, getD-append-add}
-use lib.Dec.{eqb, leb}
-use borrow.Author.Tests.{ne-eqb, eq-eqb, eqb-true, eqb-false, le-leb, lt-leb}
+use lib.Dec.{eqb}
+use borrow.Author.Tests.{ne-eqb, eq-eqb, eqb-false}
 use Rattle.words.specs.Words.{Row, same}
 use Rattle.words.proofs.Lists.{drop-step, same-refl, same-true}
 use Rattle.rows.specs.Rows.{column, rising}
@@ -126,28 +126,12 @@ used-stops xs i z = go (tri i (length (used xs)))
     go (eq l) = omega arith
     go (gt l) = omega arith
 
--- there is no room behind the used rows where the last row is used
-pub full-last : (xs : List Row) → xs ≡ filled (length xs) (used xs) → (i : ℕ) → suc i ≡ length xs → leb (length xs) (length (used xs)) ≡ not (eqb (getD (getD xs i []) 0 0) 0)
-full-last xs e i l = go (eqb (getD (getD xs i []) 0 0) 0) refl
-  where
-    go : (b : Bool) → eqb (getD (getD xs i []) 0 0) 0 ≡ b → leb (length xs) (length (used xs)) ≡ not b
-    go true z = let h : length (used xs) ≤ i = used-stops xs i (eqb-true _ _ z) in lt-leb (length xs) (length (used xs)) (omega arith)
-    go false z = let h : i < length (used xs) = used-goes-on xs e i (omega arith) (eqb-false _ _ z) in le-leb (length xs) (length (used xs)) (omega arith)
-
 -- a slice that holds a table
 pub holds-filled : (k n : ℕ) (xs : List Row) → rising k xs ≡ true → Versioned xs → length xs ≤ n → Holds k (filled n xs)
 holds-filled k n xs r v h =
     let u : used (filled n xs) ≡ xs = used-filled n xs v in
     let l : length (filled n xs) ≡ n = length-filled n xs h in
     record { rises = rw u r; rest = rw (u, l) }
-
-pub used-none : (n : ℕ) → used (filled n []) ≡ []
-unfolding Versioned
-used-none n = used-filled n [] tt
-
-pub holds-none : (k n : ℕ) → Holds k (filled n [])
-unfolding rising Versioned
-holds-none k n = holds-filled k n [] refl tt (omega arith)
 
 -- the test of it
 pub sameRows-refl : (xs : List Row) → sameRows xs xs ≡ true

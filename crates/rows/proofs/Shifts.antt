@@ -1,20 +1,12 @@
--- Lists whose elements move one on or one back, and what that leaves of a filled slice. Assumes nothing.
+-- Lists whose elements move one on or one back. Assumes nothing.
 use mathlib.Core.Path.{_≡_, sym, ap, _∙_}
-use mathlib.Core.List.{List, [], _∷_, _++_, append-assoc}
-use mathlib.Core.Bool.{false}
+use mathlib.Core.List.{List, _∷_, _++_, append-assoc}
 use Prim.Native.Nat.{ℕ, zero, suc, _+_, _-_, _≤_, _<_}
 use native.Mathlib.Omega.{arith}
 use native.Mathlib.Numerals.{add-one}
 use native.Mathlib.Nat.{not-suc-le-zero, add-zero, add-suc}
-use lib.ListN.{length, getD, take, drop, set, take-append-drop, length-take, length-drop, length-append, length-set, List·getD-append}
-use lib.Seq.{getD-append-add, take-suc, drop-cons, set-at, set-append-left, length-take-le, getD-take, getD-drop, take-append-le, drop-append-le, take-at, drop-append-add, drop-append-seam}
-use Rattle.words.specs.Words.{Row}
-use Rattle.rows.specs.declared.Spot.the-variants.{At, Gap}
-use Rattle.rows.specs.Rows.{stands, inserted, replaced, removed}
-use Rattle.rows.specs.Room.{zeros, filled, used, Holds, spot}
-use Rattle.rows.proofs.Room.{used-within, used-stops}
-use Rattle.rows.proofs.Places.{at-within, at-inserted, at-replaced, at-removed, gap-within, gap-inserted, gap-missing}
-use Rattle.rows.proofs.Changes.{replaced-missing, removed-missing}
+use lib.ListN.{length, getD, take, drop, set, take-append-drop, length-take, length-drop, length-append, List·getD-append}
+use lib.Seq.{getD-append-add, take-suc, drop-cons, set-at, length-take-le, getD-take, getD-drop}
 
 -- a list that is opened from i up to n: its elements i .. n one further on, and element i still in its place
 abbrev pub opened : {A : Type 0} → List A → ℕ → ℕ → List A
@@ -91,65 +83,3 @@ putIn n i v xs = take i xs ++ (v ∷ (take (n - i) (drop i xs) ++ drop (suc n) x
 
 abbrev pub takenOut : {A : Type 0} → ℕ → ℕ → A → List A → List A
 takenOut n i v xs = take i xs ++ (take (n - suc i) (drop (suc i) xs) ++ (v ∷ drop n xs))
-
-module _ {A : Type 0} (us z : List A) (v : A) (i n : ℕ) (as-many : length us ≡ n) where
-  pub putIn-front : i ≤ n → putIn n i v (us ++ z) ≡ (take i us ++ (v ∷ drop i us)) ++ drop 1 z
-  putIn-front h =
-      let h′ : i ≤ length us = omega arith in
-      let l : length (drop i us) ≡ n - i = rw length-drop (omega arith) in
-      let e : suc n ≡ length us + 1 = omega arith in
-      rw (take-append-le, drop-append-le, take-at, e, drop-append-add, append-assoc)
-
-  pub takenOut-front : i < n → takenOut n i v (us ++ z) ≡ (take i us ++ drop (suc i) us) ++ (v ∷ z)
-  takenOut-front h =
-      let h′ : i ≤ length us = omega arith in
-      let g : suc i ≤ length us = omega arith in
-      let l : length (drop (suc i) us) ≡ n - suc i = rw length-drop (omega arith) in
-      rw (take-append-le i us z h′, drop-append-le (suc i) us z g, take-at, ← as-many, drop-append-seam, append-assoc)
-
--- a slice that holds a table, by the place of a key: what the code leaves of it
-module _ (k : ℕ) (row : Row) (xs : List Row) (table : Holds k xs) where
-  abbrev us : List Row
-  us = used xs
-
-  module _ (i : ℕ) (here : spot k row us ≡ At i) where
-    pub kept-inserted : xs ≡ filled (length xs) (inserted k row us)
-    kept-inserted = table .rest ∙ ap (filled (length xs)) (sym (at-inserted k row us i here))
-
-    pub filled-replaced : set xs i row ≡ filled (length xs) (replaced k row us)
-    filled-replaced =
-        let w : i < length us = at-within k row us i here in
-        ap (λ (l : List Row). set l i row) (table .rest) ∙ set-append-left us _ i row w ∙ rw (at-replaced k row us i here, length-set us i row)
-
-    pub filled-removed : (n : ℕ) → n ≡ length us → takenOut n i zeros xs ≡ filled (length xs) (removed k row us)
-    filled-removed n as-many =
-        let w : i < length us = at-within k row us i here in
-        let within : length us ≤ length xs = used-within xs in
-        let l : length (take i us ++ drop (suc i) us) ≡ n - 1 = simp (length-append, length-take, length-drop) (omega arith) in
-        let m : length xs - (n - 1) ≡ suc (length xs - length us) = omega arith in
-        ap (takenOut n i zeros) (table .rest) ∙ takenOut-front us _ zeros i n (sym as-many) (omega arith) ∙ rw (at-removed k row us i here, l, m)
-
-  module _ (i : ℕ) (here : spot k row us ≡ Gap i) where
-    pub filled-inserted : (n : ℕ) → n ≡ length us → n < length xs → putIn n i row xs ≡ filled (length xs) (inserted k row us)
-    filled-inserted n as-many room =
-        let w : i ≤ length us = gap-within k row us i here in
-        let l : length (take i us ++ (row ∷ drop i us)) ≡ suc n = simp (length-append, length-take, length-drop) (omega arith) in
-        let m : length xs - length us ≡ suc (length xs - suc n) = omega arith in
-        ap (putIn n i row) (table .rest) ∙ putIn-front us _ row i n (sym as-many) (omega arith) ∙ rw (gap-inserted k row us i here, l, m)
-
-    -- a gap at an unused row is one behind the used rows
-    pub filled-appended : getD (getD xs i []) 0 0 ≡ 0 → length us < length xs → set xs i row ≡ filled (length xs) (inserted k row us)
-    filled-appended unused room =
-        let e : i ≡ length us = omega (arith, used-stops xs i unused, gap-within k row us i here) in
-        let r : i < length xs = omega arith in
-        let l : i ≤ i = omega arith in
-        ap (λ (l : List Row). set l i row) (opened-start [] xs i r) ∙ opened-set [] xs i r i row l ∙ filled-inserted i e r
-
-    missing : stands k row us ≡ false
-    missing = gap-missing k row us i here (table .rises)
-
-    pub kept-replaced : xs ≡ filled (length xs) (replaced k row us)
-    kept-replaced = table .rest ∙ ap (filled (length xs)) (sym (replaced-missing k row us missing))
-
-    pub kept-removed : xs ≡ filled (length xs) (removed k row us)
-    kept-removed = table .rest ∙ ap (filled (length xs)) (sym (removed-missing k row us missing))

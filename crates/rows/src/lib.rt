@@ -4,11 +4,12 @@ ghost use mathlib.Core.List.{[], _∷_, _++_};
 ghost use mathlib.Core.Bool.{true, false};
 ghost use Prim.Native.Nat.{suc, _-_, _≤_, _<_};
 ghost use lib.Dec.{eqb};
-ghost use lib.ListN.{length, getD, take, drop, replicate};
+ghost use lib.ListN.{length, getD, take, drop, replicate, set};
 ghost use Rattle.words.specs.Words.{if_then_else_, same};
 ghost use Rattle.rows.specs.declared.Order.the-variants.{Less};
-ghost use Rattle.rows.specs.Rows.{column, byOrder, keyOrder, stands, found, inserted, replaced, removed, rising};
+ghost use Rattle.rows.specs.Rows.{column, byOrder, keyOrder, stands, found, rising};
 ghost use Rattle.rows.specs.Room.{zeros, filled, used, Holds, sameRows, holds, spot, rowOf};
+ghost use Rattle.rows.specs.Shelf.{shelved, upFrom, Shelf};
 
 // A row's numbers; its key is the first k of them.
 pub type Row = [u64; 11];
@@ -116,51 +117,6 @@ pub fn row_of(list: &[Row], k: usize, row: Row) -> Row
     }
 }
 
-// One more row, where there is room and its key does not stand yet. In a gap at an unused row nothing has to move.
-pub fn insert(list: &mut [Row], k: usize, row: Row)
-    requires { ⌜ Holds k (now list) × (length (used (now list)) < length (now list)) ⌝ }
-    ensures { λ _. ⌜ now (list .exit) ≡ filled (length (now (list .entry))) (inserted k row (used (now (list .entry)))) ⌝ }
-{
-    match seek(&list[..], k, row) {
-        Spot::At(_) => {}
-        Spot::Gap(i) => {
-            if list[i][0] == 0 {
-                list[i] = row;
-            } else {
-                let n = count(&list[..]);
-                put_in(list, n, i, row);
-            }
-        }
-    }
-}
-
-// Another row for the one of the same key.
-pub fn replace(list: &mut [Row], k: usize, row: Row)
-    requires { ⌜ Holds k (now list) ⌝ }
-    ensures { λ _. ⌜ now (list .exit) ≡ filled (length (now (list .entry))) (replaced k row (used (now (list .entry)))) ⌝ }
-{
-    match seek(&list[..], k, row) {
-        Spot::At(i) => {
-            list[i] = row;
-        }
-        Spot::Gap(_) => {}
-    }
-}
-
-// The row of that key goes, and its room is zero.
-pub fn remove(list: &mut [Row], k: usize, row: Row)
-    requires { ⌜ Holds k (now list) ⌝ }
-    ensures { λ _. ⌜ now (list .exit) ≡ filled (length (now (list .entry))) (removed k row (used (now (list .entry)))) ⌝ }
-{
-    let n = count(&list[..]);
-    match seek(&list[..], k, row) {
-        Spot::At(i) => {
-            take_out(list, n, i);
-        }
-        Spot::Gap(_) => {}
-    }
-}
-
 // Whether a slice holds a table, where nobody vouches for it.
 pub fn holding(list: &[Row], k: usize) -> bool
     ensures { λ r. ⌜ r ≡ holds k (now (list .entry)) ⌝ }
@@ -205,34 +161,6 @@ fn order_at(list: &[Row], at: usize, k: usize, row: &Row) -> Order
         return Order::Less;
     }
     compare(row, &list[at], k)
-}
-
-// A row at place `at` among the first n, whose rows from there on move one further.
-fn put_in(list: &mut [Row], n: usize, at: usize, row: Row)
-    requires { ⌜ (at ≤ n) × (n < length (now list)) ⌝ }
-    ensures { λ _. ⌜ now (list .exit) ≡ take at (now (list .entry)) ++ (row ∷ (take (n - at) (drop at (now (list .entry))) ++ drop (suc n) (now (list .entry)))) ⌝ }
-{
-    let mut i = n;
-    'rows: while at < i {
-        let before = list[i - 1];
-        list[i] = before;
-        i -= 1;
-    }
-    list[at] = row;
-}
-
-// The first n rows without the one at place `at`: the later ones move one back, and the last one's room is zero.
-fn take_out(list: &mut [Row], n: usize, at: usize)
-    requires { ⌜ (at < n) × (n ≤ length (now list)) ⌝ }
-    ensures { λ _. ⌜ now (list .exit) ≡ take at (now (list .entry)) ++ (take (n - suc at) (drop (suc at) (now (list .entry))) ++ (zeros ∷ drop n (now (list .entry)))) ⌝ }
-{
-    let mut i = at + 1;
-    'rows: while i < n {
-        let next = list[i];
-        list[i - 1] = next;
-        i += 1;
-    }
-    list[n - 1] = [0; 11];
 }
 
 // How many rows are used, of any rows: one by one.
@@ -303,4 +231,100 @@ fn blank_from(list: &[Row], n: usize) -> bool
         i += 1;
     }
     true
+}
+
+// The order of a shelf on which nothing has moved.
+pub fn number_slots(order: &mut [u16])
+    requires { ⌜ length (now order) ≤ 65536 ⌝ }
+    ensures { λ _. ⌜ now (order .exit) ≡ upFrom 0 (length (now (order .entry))) ⌝ }
+{
+    let mut i = 0;
+    'slots: while i < order.len() {
+        order[i] = i as u16;
+        i += 1;
+    }
+}
+
+// Where a key stands on a shelf, or would stand. (By halving; rows mostly come by rising or falling key, so the last and the first one are looked at
+// before.)
+pub fn seek_slot(slots: &[Row], order: &[u16], n: usize, k: usize, row: &Row) -> Spot
+    requires { ⌜ Shelf (now slots) (now order) n × (rising k (shelved (now slots) (now order) n) ≡ true) ⌝ }
+    ensures { λ r. ⌜ r ≡ spot k (now (row .entry)) (shelved (now (slots .entry)) (now (order .entry)) n) ⌝ }
+{
+    let mut low = 0;
+    let mut high = n;
+    let mut probe = if 0 < n { n - 1 } else { 0 };
+    let mut ends = true;
+    'slots: while low < high {
+        let slot = order[probe] as usize;
+        match compare(row, &slots[slot], k) {
+            Order::Less => {
+                high = probe;
+            }
+            Order::Same => {
+                return Spot::At(probe);
+            }
+            Order::More => {
+                low = probe + 1;
+            }
+        }
+        probe = if ends { low } else { low + ((high - low) >> 1) };
+        ends = false;
+    }
+    Spot::Gap(low)
+}
+
+// A row into the first free slot, which comes to place `at` of the order: the later ones move one further.
+pub fn put_slot(slots: &mut [Row], order: &mut [u16], n: usize, at: usize, row: Row)
+    requires { ⌜ Shelf (now slots) (now order) n × (n < length (now slots)) × (at ≤ n) ⌝ }
+    ensures { λ _. ⌜ (now (slots .exit) ≡ set (now (slots .entry)) (getD (now (order .entry)) n 0) row) × (now (order .exit) ≡ take at (now (order .entry)) ++ (getD (now (order .entry)) n 0 ∷ (take (n - at) (drop at (now (order .entry))) ++ drop (suc n) (now (order .entry))))) ⌝ }
+{
+    let slot = order[n];
+    slots[slot as usize] = row;
+    let mut i = n;
+    'slots: while at < i {
+        let before = order[i - 1];
+        order[i] = before;
+        i -= 1;
+    }
+    order[at] = slot;
+}
+
+// Another row into the slot at a place of the order.
+pub fn set_slot(slots: &mut [Row], order: &[u16], n: usize, at: usize, row: Row)
+    requires { ⌜ Shelf (now slots) (now order) n × (at < n) ⌝ }
+    ensures { λ _. ⌜ now (slots .exit) ≡ set (now (slots .entry)) (getD (now (order .entry)) at 0) row ⌝ }
+{
+    let slot = order[at] as usize;
+    slots[slot] = row;
+}
+
+// The slot at a place of the order is free: the later ones move one back, and it comes behind the used ones.
+pub fn free_slot(order: &mut [u16], n: usize, at: usize)
+    requires { ⌜ (at < n) × (n ≤ length (now order)) ⌝ }
+    ensures { λ _. ⌜ now (order .exit) ≡ take at (now (order .entry)) ++ (take (n - suc at) (drop (suc at) (now (order .entry))) ++ (getD (now (order .entry)) at 0 ∷ drop n (now (order .entry)))) ⌝ }
+{
+    let slot = order[at];
+    let mut i = at + 1;
+    'slots: while i < n {
+        let next = order[i];
+        order[i - 1] = next;
+        i += 1;
+    }
+    order[n - 1] = slot;
+}
+
+// The rows of a shelf by rising key into a list of its size, and zeros behind them.
+pub fn lay_out(slots: &[Row], order: &[u16], n: usize, list: &mut [Row])
+    requires { ⌜ Shelf (now slots) (now order) n × (length (now list) ≡ length (now slots)) ⌝ }
+    ensures { λ _. ⌜ now (list .exit) ≡ filled (length (now (list .entry))) (shelved (now (slots .entry)) (now (order .entry)) n) ⌝ }
+{
+    let mut i = 0;
+    'slots: while i < n {
+        let slot = order[i] as usize;
+        let next = slots[slot];
+        list[i] = next;
+        i += 1;
+    }
+    clear(&mut list[n..]);
 }

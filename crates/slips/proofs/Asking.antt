@@ -2,13 +2,13 @@
 use mathlib.Core.Path.{_≡_, refl, sym, ap, _∙_}
 use mathlib.Core.List.{List, [], _∷_, map}
 use mathlib.Core.Bool.{Bool, true, false, _&&_}
-use Prim.Native.Nat.{ℕ, suc, _-_, _≤_, _<_}
+use Prim.Native.Nat.{ℕ, suc, _-_, _≤_}
 use native.Mathlib.Omega.{arith}
 use lib.Dec.{eqb, lit<}
 use lib.ListN.{length, getD}
 use borrow.Author.Tests.{eqb-true}
 use Rattle.words.specs.Words.{Bytes, Row, if_then_else_, bytes, same}
-use Rattle.refusals.specs.Verdicts.{_⊳_, _when_, tooManyRows, endsEarly, unknownLine}
+use Rattle.refusals.specs.Verdicts.{_⊳_, _when_, tooManyRows, endsEarly}
 use Rattle.refusals.specs.declared.Check.{Check}
 use Rattle.refusals.specs.declared.Check.the-variants.{Passes, Fails}
 use Rattle.text.specs.Numbers.{value}
@@ -22,14 +22,12 @@ use Rattle.tables.specs.declared.Table.{Table}
 use Rattle.tables.specs.declared.Table.the-variants.{VehicleType, Depot, Stop, StopPoint, Block}
 use Rattle.tables.specs.declared.Reference.{Reference}
 use Rattle.rows.specs.Rows.{wide, column}
-use Rattle.rows.specs.Room.{zeros}
 use Rattle.book.specs.Book.{Book, rows, knows, full}
 use Rattle.book.specs.Rules.{timeFault, named, unknownOf, unknown, ruled}
 use Rattle.book.proofs.Referring.{getD-padded, stands-wide}
 use Rattle.reading.specs.Heading.{rowed}
 use Rattle.reading.specs.declared.Judged.{Judged}
-use Rattle.slips.specs.Slips.{numbers, letter, counted, wish, badField, missingBlock, lineJudged, rowIn, fieldsRead, askedBy, asked}
-use Rattle.slips.specs.declared.Asked.{Asked}
+use Rattle.slips.specs.Slips.{numbers, letter, counted, wish, badField, missingBlock, lineJudged, fieldsRead}
 use Rattle.slips.specs.declared.Wish.{Wish}
 use Rattle.slips.specs.declared.Wish.the-variants.{Add, Replace, Delete, Unknown}
 
@@ -161,36 +159,13 @@ module _ (fs : List Bytes) (b : Book) (j : Judged) (e : j ≡ fieldsRead fs) whe
   pub delete-read : j .check ⊳ missingBlock (j .row) b ≡ lineJudged Delete fs ns b
   delete-read = read-then (λ r. missingBlock r b) fs j e (rw (knows-wide ns b Block))
 
-  -- a fault of a field is one of the line
-  faulty : (w : Wish) (n k : ℕ) (x y : Row) → badField fs ≡ Fails n k → rowed (lineJudged w fs ns b) x ≡ rowed (lineJudged w fs ns b) y
-  faulty Add n k x y q = rw q (go (full Block b))
+  -- fields that pass
+  pub read-passes : j .check ≡ Passes → badField fs ≡ Passes
+  read-passes p = go (badField fs) (sym (ap (λ (i : Judged). i .check) e) ∙ p)
     where
-      go : (t : Bool) → rowed ((tooManyRows when t) ⊳ Fails n k) x ≡ rowed ((tooManyRows when t) ⊳ Fails n k) y
-      go true = refl
-      go false = refl
-  faulty Replace n k x y q = rw q
-  faulty Delete n k x y q = rw q
-  faulty Unknown n k x y q = refl
+      go : (q : Check) → rowed q (wide ns) .check ≡ Passes → q ≡ Passes
+      go Passes h = refl
+      go (Fails n k) h = h
 
-  pub row-read : (w : Wish) → rowed (lineJudged w fs ns b) (j .row) ≡ rowed (lineJudged w fs ns b) (wide ns)
-  row-read w = go (badField fs) refl
-    where
-      go : (q : Check) → badField fs ≡ q → rowed (lineJudged w fs ns b) (j .row) ≡ rowed (lineJudged w fs ns b) (wide ns)
-      go Passes p = ap (λ (i : Judged). rowed (lineJudged w fs ns b) (i .row)) (e ∙ ap (λ (c : Check). rowed c (wide ns)) p)
-      go (Fails n k) p = faulty w n k (j .row) (wide ns) p
-
--- what is answered of a line
-module _ (line : Bytes) (b : Book) (a : Asked) (q : Check) where
-  abbrev lineOf : Wish → Check
-  lineOf w = lineJudged w (numbers (fields line)) (rowIn line) b
-
-  pub asked-known : (w : Wish) (j : Judged) → wish (fields line) ≡ w → j ≡ fieldsRead (numbers (fields line)) → q ≡ lineOf w → a ≡ askedBy w (rowed q (j .row)) → a ≡ asked line b
-  asked-known w j e f g h =
-      h ∙ ap (λ (x : Check). askedBy w (rowed x (j .row))) g
-      ∙ ap (askedBy w) (row-read (numbers (fields line)) b j f w)
-      ∙ ap (λ (v : Wish). askedBy v (rowed (lineOf v) (wide (rowIn line)))) (sym e)
-
-  pub asked-unknown : wish (fields line) ≡ Unknown → q ≡ unknownLine → a ≡ askedBy Unknown (rowed q zeros) → a ≡ asked line b
-  asked-unknown e g h =
-      h ∙ ap (λ (x : Check). askedBy Unknown (rowed x zeros)) g
-      ∙ ap (λ (v : Wish). askedBy v (rowed (lineOf v) (wide (rowIn line)))) (sym e)
+  pub row-read : j .check ≡ Passes → j .row ≡ wide ns
+  row-read p = ap (λ (i : Judged). i .row) (e ∙ ap (λ (c : Check). rowed c (wide ns)) (read-passes p))

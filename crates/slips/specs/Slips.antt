@@ -18,7 +18,6 @@ use Rattle.book.specs.Rules.{timeFault, unknown, ruled}
 use Rattle.reading.specs.Reading.{Result, refused, leaves, unless, badCell}
 use Rattle.reading.specs.Heading.{rowed}
 use Rattle.reading.specs.declared.Judged.{Judged}
-use Rattle.slips.specs.declared.Asked.{Asked}
 use Rattle.slips.specs.declared.Wish.{Wish}
 use Rattle.slips.specs.declared.Wish.the-variants.{Add, Replace, Delete, Unknown}
 
@@ -85,14 +84,7 @@ slipCheck line b = lineJudged (wish (fields line)) (numbers (fields line)) (rowI
 abbrev pub slipLeaves : Bytes → Book → Book
 slipLeaves line b = granted (wish (fields line)) (rowIn line) b
 
--- what the code answers of a line: its wish, its check, and the row that it asks for, as long as a row of the book; zeros where the check fails
-abbrev pub askedBy : Wish → Judged → Asked
-askedBy w j = record { wish = w; check = j .check; row = j .row }
-
-abbrev pub asked : Bytes → Book → Asked
-asked line b = askedBy (wish (fields line)) (rowed (slipCheck line b) (wide (rowIn line)))
-
--- and of the fields `fs` behind the kind: 8, and their row
+-- what the code answers of the fields `fs` behind the kind: 8, and their row
 abbrev pub fieldsRead : List Bytes → Judged
 fieldsRead fs = rowed (badField fs) (wide (map value fs))
 

@@ -1,23 +1,22 @@
 // Correction slips.
 ghost use mathlib.Core.Path.{_≡_};
-ghost use mathlib.Core.List.{List, [], _∷_, map};
-ghost use mathlib.Core.Bool.{false};
-ghost use Prim.Native.Nat.{ℕ, _+_, _≤_, _<_};
+ghost use mathlib.Core.Bool.{true};
+ghost use mathlib.Core.List.{[], _∷_};
+ghost use Prim.Native.Nat.{ℕ, _≤_};
 ghost use lib.ListN.{length};
 ghost use Rattle.words.specs.Words.{same};
-ghost use Rattle.refusals.specs.Verdicts.{_when_, tooManyRows, endsEarly};
-ghost use Rattle.text.specs.Numbers.{value};
+ghost use Rattle.refusals.specs.Verdicts.{_⊳_, _when_, endsEarly};
 ghost use Rattle.text.specs.Fields.{fields};
 ghost use Rattle.text.specs.Lines.{slipLines};
 ghost use Rattle.text.specs.Marks.{fieldMarks};
-ghost use Rattle.book.specs.Book.{full};
-ghost use Rattle.book.specs.Rules.{timeFault};
-ghost use Rattle.book.specs.Room.{laid, bookOf, Sound};
-ghost use Rattle.reading.specs.Heading.{rowed};
+ghost use Rattle.book.specs.Rules.{timeFault, unknown};
+ghost use Rattle.book.specs.Room.{bookOf, Sound};
+ghost use Rattle.book.specs.Keeping.{pointsNamed};
+ghost use Rattle.book.specs.Shelving.{shelfBook, OnShelf};
 ghost use Rattle.reading.specs.Calls.{delivery};
 ghost use Rattle.slips.specs.Calls.{outcome, cleared, slipOutcome, slipCall, emptied, dayCall};
-ghost use Rattle.slips.specs.Taking.{Taken, LinesTaken};
-ghost use Rattle.slips.specs.Slips.{numbers, letter, counted, wish, missingBlock, lineJudged, granted, slipCheck, askedBy, asked, fieldsRead, linesPosted};
+ghost use Rattle.slips.specs.Taking.{Taken, LinesTaken, behind};
+ghost use Rattle.slips.specs.Slips.{numbers, letter, counted, wish, fieldsRead, linesPosted};
 use book::BOOK_ROWS;
 use reading::Judged;
 use refusals::Check;
@@ -25,6 +24,7 @@ use refusals::Place;
 use refusals::Verdict;
 use rows::ROWS;
 use rows::Row;
+use rows::Spot;
 use tables::Table;
 use tables::Value;
 use text::Fields;
@@ -37,11 +37,16 @@ pub enum Wish {
     Unknown,
 }
 
-// A slip line: what it asks for, what its checks find, and its row.
-pub struct Asked {
-    pub wish: Wish,
+// A slip line, taken or refused: what its checks find, and how many blocks stand then.
+pub struct Told {
     pub check: Check,
-    pub row: Row,
+    pub count: usize,
+}
+
+// The lines of a slip: their verdict, and how many blocks stand then.
+pub struct Posted {
+    pub verdict: Verdict,
+    pub count: usize,
 }
 
 // How many numbers a line has that adds or replaces a block, and one that deletes it.
@@ -160,17 +165,6 @@ fn read_fields(line: &[u8], marks: Fields, n: usize) -> Judged
     }
 }
 
-// 5
-fn too_many(book: &[Row]) -> Check
-    requires { ⌜ Sound (now book) ⌝ }
-    ensures { λ r. ⌜ r ≡ tooManyRows when full Table.Block (bookOf (now (book .entry))) ⌝ }
-{
-    if book::is_full(book, Table::Block) {
-        return Check::too_many_rows();
-    }
-    Check::Passes
-}
-
 // 11
 fn early(row: Row) -> Check
     ensures { λ r. ⌜ r ≡ endsEarly when timeFault Table.Block row ⌝ }
@@ -181,169 +175,207 @@ fn early(row: Row) -> Check
     Check::Passes
 }
 
-// 13
-fn missing_block(row: Row, book: &[Row]) -> Check
-    requires { ⌜ Sound (now book) ⌝ }
-    ensures { λ r. ⌜ r ≡ missingBlock row (bookOf (now (book .entry))) ⌝ }
-{
-    if book::knowing(book, Table::Block, row) {
-        return Check::Passes;
-    }
-    Check::no_block()
-}
-
 // 5, 8, and the rules of a row that a reading has too.
-fn judge_add(read: Judged, book: &[Row]) -> Check
-    requires { ⌜ Sound (now book) ⌝ }
-    ensures { λ r. ⌜ ((fs : List (List ℕ)) → read ≡ fieldsRead fs → r ≡ lineJudged Wish.Add fs (map value fs) (bookOf (now (book .entry)))) ⌝ }
+fn add_block(
+    line: &[u8],
+    marks: Fields,
+    book: &[Row],
+    slots: &mut [Row],
+    order: &mut [u16],
+    n: usize,
+) -> Told
+    requires { ⌜ (marks ≡ fieldMarks (fields (now line))) × (wish (fields (now line)) ≡ Wish.Add) × OnShelf Table.Block (now book) (now slots) (now order) n ⌝ }
+    ensures { λ r. ⌜ Taken (now (line .entry)) (now (book .entry)) (now (slots .entry)) (now (slots .exit)) (now (order .entry)) (now (order .exit)) n r ⌝ }
 {
+    if n == ROWS {
+        return Told {
+            check: Check::too_many_rows(),
+            count: n,
+        };
+    }
+    let read = read_fields(line, marks, BLOCK_NUMBERS);
     let row = read.row;
     let fields = read.check;
-    let rule = book::rule(book, Table::Block, row);
-    too_many(book).or_else(fields.or_else(rule))
+    match fields {
+        Check::Passes => {
+            let rules = book::enter(book, Table::Block, row, slots, order, n);
+            match rules {
+                Check::Passes => Told {
+                    check: Check::Passes,
+                    count: n + 1,
+                },
+                Check::Fails { number, column } => Told {
+                    check: Check::Fails { number, column },
+                    count: n,
+                },
+            }
+        }
+        Check::Fails { number, column } => Told {
+            check: Check::Fails { number, column },
+            count: n,
+        },
+    }
 }
 
-// 8, 11, 13, 10
-fn judge_replace(read: Judged, book: &[Row]) -> Check
-    requires { ⌜ Sound (now book) ⌝ }
-    ensures { λ r. ⌜ ((fs : List (List ℕ)) → read ≡ fieldsRead fs → r ≡ lineJudged Wish.Replace fs (map value fs) (bookOf (now (book .entry)))) ⌝ }
+// 8, 11, 13, 10, where it is known whether the block is missing.
+fn judge_replace(read: Judged, missing: Check, book: &[Row]) -> Check
+    requires { ⌜ Sound (now book) × (pointsNamed (bookOf (now book)) ≡ true) ⌝ }
+    ensures { λ r. ⌜ r ≡ read .check ⊳ (endsEarly when timeFault Table.Block (read .row) ⊳ (missing ⊳ unknown Table.Block (read .row) (bookOf (now (book .entry))))) ⌝ }
 {
     let row = read.row;
     let fields = read.check;
     let references = book::unknown_reference(book, Table::Block, row);
-    let behind = missing_block(row, book).or_else(references);
-    fields.or_else(early(row).or_else(behind))
+    fields.or_else(early(row).or_else(missing.or_else(references)))
 }
 
-// 8, 13
-fn judge_delete(read: Judged, book: &[Row]) -> Check
-    requires { ⌜ Sound (now book) ⌝ }
-    ensures { λ r. ⌜ ((fs : List (List ℕ)) → read ≡ fieldsRead fs → r ≡ lineJudged Wish.Delete fs (map value fs) (bookOf (now (book .entry)))) ⌝ }
+// A line that replaces a block: its row comes into the slot of the block's key.
+fn replace_block(
+    line: &[u8],
+    marks: Fields,
+    book: &[Row],
+    slots: &mut [Row],
+    order: &[u16],
+    n: usize,
+) -> Told
+    requires { ⌜ (marks ≡ fieldMarks (fields (now line))) × (wish (fields (now line)) ≡ Wish.Replace) × OnShelf Table.Block (now book) (now slots) (now order) n ⌝ }
+    ensures { λ r. ⌜ Taken (now (line .entry)) (now (book .entry)) (now (slots .entry)) (now (slots .exit)) (now (order .entry)) (now (order .entry)) n r ⌝ }
 {
+    let read = read_fields(line, marks, BLOCK_NUMBERS);
     let row = read.row;
-    let fields = read.check;
-    fields.or_else(missing_block(row, book))
-}
-
-// A line that passes has its row.
-fn answer(wish: Wish, check: Check, row: Row) -> Asked
-    ensures { λ r. ⌜ r ≡ askedBy wish (rowed check row) ⌝ }
-{
-    match check {
-        Check::Passes => Asked {
-            wish,
-            check: Check::Passes,
-            row,
-        },
-        Check::Fails { number, column } => Asked {
-            wish,
-            check: Check::Fails { number, column },
-            row: [0; 11],
+    match book::spot_of(Table::Block, &slots[..], order, n, &row) {
+        Spot::At(at) => {
+            let check = judge_replace(read, Check::Passes, book);
+            match check {
+                Check::Passes => {
+                    rows::set_slot(slots, order, n, at, row);
+                    Told {
+                        check: Check::Passes,
+                        count: n,
+                    }
+                }
+                Check::Fails { number, column } => Told {
+                    check: Check::Fails { number, column },
+                    count: n,
+                },
+            }
+        }
+        Spot::Gap(_) => Told {
+            check: judge_replace(read, Check::no_block(), book),
+            count: n,
         },
     }
 }
 
-// 12, then the checks of its kind: a line on the book as it stands.
-pub fn judge_slip_line(line: &[u8], book: &[Row]) -> Asked
-    requires { ⌜ Sound (now book) ⌝ }
-    ensures { λ r. ⌜ r ≡ asked (now (line .entry)) (bookOf (now (book .entry))) ⌝ }
+// 8, 13: a line that deletes a block frees its slot. (Nothing of the book is looked at; the contract speaks of it.)
+fn delete_block(
+    line: &[u8],
+    marks: Fields,
+    book: &[Row],
+    slots: &[Row],
+    order: &mut [u16],
+    n: usize,
+) -> Told
+    requires { ⌜ (marks ≡ fieldMarks (fields (now line))) × (wish (fields (now line)) ≡ Wish.Delete) × OnShelf Table.Block (now book) (now slots) (now order) n ⌝ }
+    ensures { λ r. ⌜ Taken (now (line .entry)) (now (book .entry)) (now (slots .entry)) (now (slots .entry)) (now (order .entry)) (now (order .exit)) n r ⌝ }
+{
+    let read = read_fields(line, marks, KEY_NUMBERS);
+    let row = read.row;
+    let fields = read.check;
+    match book::spot_of(Table::Block, slots, &order[..], n, &row) {
+        Spot::At(at) => match fields {
+            Check::Passes => {
+                rows::free_slot(order, n, at);
+                Told {
+                    check: Check::Passes,
+                    count: n - 1,
+                }
+            }
+            Check::Fails { number, column } => Told {
+                check: Check::Fails { number, column },
+                count: n,
+            },
+        },
+        Spot::Gap(_) => Told {
+            check: fields.or_else(Check::no_block()),
+            count: n,
+        },
+    }
+}
+
+// 12, then the checks of its kind: a line on the blocks as they stand on the shelf, which it changes where it passes.
+fn take_slip_line(line: &[u8], book: &[Row], slots: &mut [Row], order: &mut [u16], n: usize) -> Told
+    requires { ⌜ OnShelf Table.Block (now book) (now slots) (now order) n ⌝ }
+    ensures { λ r. ⌜ Taken (now (line .entry)) (now (book .entry)) (now (slots .entry)) (now (slots .exit)) (now (order .entry)) (now (order .exit)) n r ⌝ }
 {
     let marks = text::fields_of(line);
     match wish_of(line, marks) {
-        Wish::Add => {
-            let read = read_fields(line, marks, BLOCK_NUMBERS);
-            let row = read.row;
-            answer(Wish::Add, judge_add(read, book), row)
-        }
-        Wish::Replace => {
-            let read = read_fields(line, marks, BLOCK_NUMBERS);
-            let row = read.row;
-            answer(Wish::Replace, judge_replace(read, book), row)
-        }
-        Wish::Delete => {
-            let read = read_fields(line, marks, KEY_NUMBERS);
-            let row = read.row;
-            answer(Wish::Delete, judge_delete(read, book), row)
-        }
-        Wish::Unknown => answer(Wish::Unknown, Check::unknown_line(), [0; 11]),
-    }
-}
-
-// What a line asks for is done to the blocks.
-fn grant(wish: Wish, row: Row, book: &mut [Row])
-    requires { ⌜ Sound (now book) × (wish ≡ Wish.Add → full Table.Block (bookOf (now book)) ≡ false) ⌝ }
-    ensures { λ _. ⌜ now (book .exit) ≡ laid (granted wish row (bookOf (now (book .entry)))) ⌝ }
-{
-    match wish {
-        Wish::Add => {
-            book::enter(book, Table::Block, row);
-        }
-        Wish::Replace => {
-            book::replace_block(book, row);
-        }
-        Wish::Delete => {
-            book::remove_block(book, row);
-        }
-        Wish::Unknown => {}
-    }
-}
-
-// A line that passes is granted.
-fn take_slip_line(line: &[u8], book: &mut [Row]) -> Check
-    requires { ⌜ Sound (now book) ⌝ }
-    ensures { λ r. ⌜ (r ≡ slipCheck (now (line .entry)) (bookOf (now (book .entry)))) × (r ≡ Check.Passes → Taken (now (line .entry)) (now (book .entry)) (now (book .exit))) × ((r ≡ Check.Passes → ⊥) → now (book .exit) ≡ now (book .entry)) ⌝ }
-{
-    let asked = judge_slip_line(line, &book[..]);
-    let wish = asked.wish;
-    let check = asked.check;
-    let row = asked.row;
-    match check {
-        Check::Passes => {
-            grant(wish, row, book);
-            Check::Passes
-        }
-        Check::Fails { number, column } => Check::Fails { number, column },
+        Wish::Add => add_block(line, marks, book, slots, order, n),
+        Wish::Replace => replace_block(line, marks, book, slots, &order[..], n),
+        Wish::Delete => delete_block(line, marks, book, &slots[..], order, n),
+        Wish::Unknown => Told {
+            check: Check::unknown_line(),
+            count: n,
+        },
     }
 }
 
 // The lines of a slip, each on what the earlier ones left; the first refusal ends it.
-fn take_lines(slip: &[u8], book: &mut [Row]) -> Verdict
-    requires { ⌜ Sound (now book) × (length (now slip) ≤ 65536) ⌝ }
-    ensures { λ r. ⌜ LinesTaken (now (slip .entry)) (now (book .entry)) (now (book .exit)) r ⌝ }
+fn take_lines(slip: &[u8], book: &[Row], slots: &mut [Row], order: &mut [u16], n: usize) -> Posted
+    requires { ⌜ OnShelf Table.Block (now book) (now slots) (now order) n × (length (now slip) ≤ 65536) ⌝ }
+    ensures { λ r. ⌜ LinesTaken (now (slip .entry)) (now (book .entry)) (now (slots .entry)) (now (slots .exit)) (now (order .entry)) (now (order .exit)) n r ⌝ }
 {
+    let mut count = n;
     let mut at: usize = 0;
     let mut number: u64 = 1;
     'lines: while at < slip.len() {
         let here = text::next_slip_line(slip, at);
         let end = here.end;
-        let check = take_slip_line(&slip[at..end], book);
+        let told = take_slip_line(&slip[at..end], book, slots, order, count);
+        let check = told.check;
         match check.on(Place::SLIP, number) {
             Verdict::Accepted => {}
             Verdict::Refused(place) => {
-                return Verdict::Refused(place);
+                return Posted {
+                    verdict: Verdict::Refused(place),
+                    count,
+                };
             }
         }
+        count = told.count;
         at = here.next;
         number += 1;
     }
-    Verdict::Accepted
+    Posted {
+        verdict: Verdict::Accepted,
+        count,
+    }
 }
 
-// All lines or none: where one is refused, the blocks kept in the working area come back.
+// The blocks of the shelf into the book, where the slip is accepted.
+fn lay_accepted(verdict: Verdict, book: &mut [Row], slots: &[Row], order: &[u16], n: usize)
+    requires { ⌜ OnShelf Table.Block (now book) (now slots) (now order) n ⌝ }
+    ensures { λ _. ⌜ now (book .exit) ≡ behind verdict (shelfBook Table.Block (now (book .entry)) (now (slots .entry)) (now (order .entry)) n) (now (book .entry)) ⌝ }
+{
+    match verdict {
+        Verdict::Accepted => {
+            book::lay_table(book, Table::Block, slots, order, n);
+        }
+        Verdict::Refused(_) => {}
+    }
+}
+
+// All lines or none: they are taken on a shelf, so that the book is touched only where all of them pass.
 fn take_whole(slip: &[u8], book: &mut [Row], work: &mut [Row]) -> Verdict
-    requires { ⌜ Sound (now book) × (length (now slip) ≤ 65536) × (length (now work) ≡ 512) ⌝ }
+    requires { ⌜ Sound (now book) × (pointsNamed (bookOf (now book)) ≡ true) × (length (now slip) ≤ 65536) × (length (now work) ≡ 512) ⌝ }
     ensures { λ r. ⌜ outcome r (now (book .exit)) (cleared (now (work .entry))) ≡ slipOutcome (linesPosted 1 (slipLines (now (slip .entry))) (bookOf (now (book .entry)))) (now (book .entry)) (now (work .entry)) ⌝ }
 {
-    let from = Table::Block.part() * ROWS;
-    let to = from + ROWS;
-    rows::copy(&book[from..to], work);
-    match take_lines(slip, book) {
-        Verdict::Accepted => Verdict::Accepted,
-        Verdict::Refused(place) => {
-            rows::copy(&work[..], &mut book[from..to]);
-            Verdict::Refused(place)
-        }
-    }
+    let mut order = [0u16; ROWS];
+    let n = book::shelve(&book[..], Table::Block, work, &mut order);
+    let posted = take_lines(slip, &book[..], work, &mut order, n);
+    let verdict = posted.verdict;
+    let count = posted.count;
+    lay_accepted(verdict, book, &work[..], &order, count);
+    verdict
 }
 
 // 16 of the book, 1, and the lines: with a working area of its size, whatever that holds behind them.

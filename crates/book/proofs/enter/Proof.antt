@@ -1,59 +1,73 @@
--- `book::enter` meets its contract: a row enters the part lent, and the other parts stay. Assumes nothing.
-use Rattle.rows.specs.Rows.{inserted}
-use Rattle.book.proofs.Laying as laying
+-- `book::enter` meets its contract: 11, 9, 10, in this order, and a row that keeps them stands on the shelf. Assumes nothing.
+use mathlib.Core.Path.{sym, _∙_}
+use Rattle.book.proofs.Shelving.{early-entered, stands-entered}
 use borrow.Author.Needs.{needs}
 use Rattle.book.proofs.enter.Statement.{statement}
 use Rattle.book.proofs.enter.Tie as tie
 
-keys-requires : tie.Need-keys-requires
-keys-requires c κs = search needs
+time-fault-requires : tie.Need-time-fault-requires
+time-fault-requires c κs = search needs
 
-first-row-requires : tie.Need-first-row-requires
-first-row-requires c κs = search needs
+ends-early-requires : tie.Need-ends-early-requires
+ends-early-requires c κs = search needs
 
-add-to : tie.Need-add-to
-add-to c = search needs
+returns : tie.Need-returns
+returns c =
+    let st = c .before .before .before .before in
+    early-entered (st .args .t) (st .args .book .now) (st .args .slots .now) (st .args .order .now) (st .args .n) (st .pre .0) (st .args .t3) (sym (c .before .before .time-fault .ensures) ∙ c .before .if1 .taken) (c .ends-early .result) (c .ends-early .ensures)
 
-mul-insert : tie.Need-mul-insert
-mul-insert c = search needs
+spot-of-requires : tie.Need-spot-of-requires
+spot-of-requires c κs = search needs
 
-sub-insert : tie.Need-sub-insert
-sub-insert c = search needs
+enum-told : tie.Need-enum-told
+enum-told c = search needs
 
-part-insert-start : tie.Need-part-insert-start
-part-insert-start c = search needs
+key-stands-requires : tie.Need-key-stands-requires
+key-stands-requires c κs = search needs
 
-part-insert-end : tie.Need-part-insert-end
-part-insert-end c = search needs
+enum-known-at : tie.Need-enum-known-at
+enum-known-at c = search needs
 
-insert-requires : tie.Need-insert-requires
-insert-requires c κs =
-    let st = c .before .before .before in
-    let at = c .before .first-row in
-    let k = c .before .before .keys in
-    (laying.lent-holds (st .args .t) (st .args .book .now) (st .pre .0) (at .result) (at .ensures .0) (k .result) (k .ensures), laying.lent-room (st .args .t) (st .args .book .now) (st .pre .0) (at .result) (at .ensures .0) (st .pre .1))
+put-row-requires : tie.Need-put-row-requires
+put-row-requires c κs =
+    let st = c .before .before .before .before .before .before .before .before .before .before .before .before in
+    (st .pre .0, st .pre .1, st .pre .2, sym (c .before .before .before .before .before .before .before .before .before .before .time-fault .ensures) ∙ c .before .before .before .before .before .before .before .before .before .if1 .left, sym (c .before .before .before .before .before .spot-of .ensures) ∙ c .before .before .before .at .given .1)
 
 same-length : tie.Need-same-length
 same-length c = search needs
 
-returns : tie.Need-returns
-returns c =
-    let st = c .before .before .before .before .before in
-    let at = c .before .before .before .first-row in
-    let k = c .before .before .before .before .keys in
-    laying.lent-changed (st .args .t) (st .args .book .now) (st .pre .0) (at .result) (at .ensures .0) inserted (k .result) (k .ensures) (st .args .row) _ (c .before .insert .ensures)
+same-length-2 : tie.Need-same-length-2
+same-length-2 c = search needs
+
+returns-2 : tie.Need-returns-2
+returns-2 c =
+    let st = c .before .before .before .before .before .before .before .before .before .before in
+    stands-entered (st .args .t) (st .args .book .now) (st .args .slots .now) (st .args .order .now) (st .args .n) (st .pre .0) (st .args .t3) (sym (c .before .before .before .before .before .before .before .before .time-fault .ensures) ∙ c .before .before .before .before .before .before .before .if1 .left) _ (sym (c .before .before .before .spot-of .ensures) ∙ c .before .enum-told .given .1) (c .key-stands .result) (c .key-stands .ensures)
+
+same-length-3 : tie.Need-same-length-3
+same-length-3 c = search needs
+
+same-length-4 : tie.Need-same-length-4
+same-length-4 c = search needs
+
+returns-3 : tie.Need-returns-3
+returns-3 c = search needs
 
 pub enter-spec : {M : Type 1} → statement M
 enter-spec =
     tie.close
     (tie.spec
-    keys-requires
-    first-row-requires
-    add-to
-    mul-insert
-    sub-insert
-    part-insert-start
-    part-insert-end
-    insert-requires
+    time-fault-requires
+    ends-early-requires
+    returns
+    spot-of-requires
+    enum-told
+    key-stands-requires
+    enum-known-at
+    put-row-requires
     same-length
-    returns)
+    same-length-2
+    returns-2
+    same-length-3
+    same-length-4
+    returns-3)

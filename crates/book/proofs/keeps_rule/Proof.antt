@@ -1,6 +1,8 @@
 -- `book::keeps_rule` meets its contract: the tables, and then their rows. Assumes nothing.
 use Rattle.tables.specs.declared.Table.the-variants.{VehicleType, Depot, Stop, StopPoint}
 use borrow.Author.Tests.{not-true, not-false}
+use Rattle.book.specs.Room.{bookOf}
+use Rattle.book.proofs.Points.{points-named}
 use Rattle.book.proofs.Keeping as keeping
 use mathlib.Core.Path.{sym, _∙_}
 use borrow.Author.Needs.{needs}
@@ -16,7 +18,7 @@ returns c = sym (c .before .all-tables .ensures .1 (not-true _ (c .if1 .taken)))
 lawful-rows-requires : tie.Need-lawful-rows-requires
 lawful-rows-requires c κs =
     let held = c in
-    held .before .all-tables .ensures .0 (not-false _ (held .if1 .left))
+    (held .before .all-tables .ensures .0 (not-false _ (held .if1 .left)), tt)
 
 returns-2 : tie.Need-returns-2
 returns-2 c = sym (keeping.breaks-rows (c .before .before .before .before .args .book .now) VehicleType (sym (c .before .lawful-rows .ensures) ∙ not-true _ (c .if2 .taken)))
@@ -24,7 +26,7 @@ returns-2 c = sym (keeping.breaks-rows (c .before .before .before .before .args 
 lawful-rows-requires-2 : tie.Need-lawful-rows-requires-2
 lawful-rows-requires-2 c κs =
     let held = c .before .before in
-    held .before .all-tables .ensures .0 (not-false _ (held .if1 .left))
+    (held .before .all-tables .ensures .0 (not-false _ (held .if1 .left)), tt)
 
 returns-3 : tie.Need-returns-3
 returns-3 c = sym (keeping.breaks-rows (c .before .before .before .before .before .before .args .book .now) Depot (sym (c .before .lawful-rows2 .ensures) ∙ not-true _ (c .if3 .taken)))
@@ -32,7 +34,7 @@ returns-3 c = sym (keeping.breaks-rows (c .before .before .before .before .befor
 lawful-rows-requires-3 : tie.Need-lawful-rows-requires-3
 lawful-rows-requires-3 c κs =
     let held = c .before .before .before .before in
-    held .before .all-tables .ensures .0 (not-false _ (held .if1 .left))
+    (held .before .all-tables .ensures .0 (not-false _ (held .if1 .left)), tt)
 
 returns-4 : tie.Need-returns-4
 returns-4 c = sym (keeping.breaks-rows (c .before .before .before .before .before .before .before .before .args .book .now) Stop (sym (c .before .lawful-rows3 .ensures) ∙ not-true _ (c .if4 .taken)))
@@ -40,15 +42,17 @@ returns-4 c = sym (keeping.breaks-rows (c .before .before .before .before .befor
 lawful-rows-requires-4 : tie.Need-lawful-rows-requires-4
 lawful-rows-requires-4 c κs =
     let held = c .before .before .before .before .before .before in
-    held .before .all-tables .ensures .0 (not-false _ (held .if1 .left))
+    (held .before .all-tables .ensures .0 (not-false _ (held .if1 .left)), tt)
 
 returns-5 : tie.Need-returns-5
 returns-5 c = sym (keeping.breaks-rows (c .before .before .before .before .before .before .before .before .before .before .args .book .now) StopPoint (sym (c .before .lawful-rows4 .ensures) ∙ not-true _ (c .if5 .taken)))
 
 lawful-rows-requires-5 : tie.Need-lawful-rows-requires-5
 lawful-rows-requires-5 c κs =
-    let held = c .before .before .before .before .before .before .before .before in
-    held .before .all-tables .ensures .0 (not-false _ (held .if1 .left))
+    let held = c .before .before .before .before .before .before .before .before in (
+      held .before .all-tables .ensures .0 (not-false _ (held .if1 .left)),
+      points-named (bookOf (held .before .before .args .book .now)) _ (sym (c .before .lawful-rows4 .ensures) ∙ not-false _ (c .if5 .left)),
+    )
 
 returns-6 : tie.Need-returns-6
 returns-6 c =

@@ -27,7 +27,7 @@ rows-holds : tie.Need-rows-holds Inv-rows μ-rows
 rows-holds c = (search needs, c .count-rows .ensures .0, refl)
 
 row-at-requires : tie.Need-row-at-requires Inv-rows μ-rows
-row-at-requires c κs = (c .before .before .before .pre, omega (arith, c .before .rows .inv .1))
+row-at-requires c κs = (c .before .before .before .pre .0, omega (arith, c .before .rows .inv .1))
 
 is-lawful-requires : tie.Need-is-lawful-requires Inv-rows μ-rows
 is-lawful-requires c κs = search needs

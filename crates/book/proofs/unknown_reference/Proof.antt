@@ -1,95 +1,20 @@
--- `book::unknown_reference` meets its contract: the references before place i find their rows. Assumes nothing.
-use Rattle.book.proofs.Referring.{referring, asked-there, unknown-next, unknown-here, unknown-end}
-use Rattle.book.specs.Room.{bookOf}
-use Rattle.book.specs.Rules.{unknownOf, unknown}
-use Rattle.refusals.specs.Verdicts.{noRow}
-use Rattle.tables.specs.declared.Reference.{Reference}
-use Rattle.tables.specs.Columns.{references}
-use borrow.Author.Tests.{not-true, not-false}
-use lib.ListN.{length, drop}
-use Prim.Native.Nat.{_-_, _≤_, _<_}
-use native.Mathlib.Omega.{arith}
-use mathlib.Core.Path.{_≡_, refl, sym, ap, _∙_}
+-- `book::unknown_reference` meets its contract: soon known, or one by one. Assumes nothing.
+use mathlib.Core.Path.{sym}
 use borrow.Author.Needs.{needs}
 use Rattle.book.proofs.unknown_reference.Statement.{statement}
 use Rattle.book.proofs.unknown_reference.Tie as tie
 
-abbrev Inv-references : tie.InvT-references
-Inv-references book t row n i₀ i = (i ≤ n) × (n ≡ length (references t)) × (unknown t row (bookOf book) ≡ unknownOf (drop i (references t)) row (bookOf book))
+soon-known-requires : tie.Need-soon-known-requires
+soon-known-requires c κs = search needs
 
-abbrev μ-references : tie.MeasureT-references
-μ-references book t row n i₀ i = n - i
+returns : tie.Need-returns
+returns c = sym (c .before .soon-known .ensures (c .if1 .taken))
 
-references-requires : tie.Need-references-requires Inv-references μ-references
-references-requires c κs = search needs
+first-unknown-requires : tie.Need-first-unknown-requires
+first-unknown-requires c κs = search needs
 
-references-holds : tie.Need-references-holds Inv-references μ-references
-references-holds c = (search needs, c .references2 .ensures, refl)
-
-reference-requires : tie.Need-reference-requires Inv-references μ-references
-reference-requires c κs = omega (arith, c .before .references .inv .1)
-
-named-requires : tie.Need-named-requires Inv-references μ-references
-named-requires c κs =
-    let at = c .before .before in
-    let f = referring (at .before .before .args .t) (at .references .i) (omega (arith, at .references .inv .1)) in
-    let e = ap (λ (x : Reference). x .column) (c .reference .ensures) in
-    (omega (arith, f .0, e), omega (arith, f .1, e))
-
-knowing-requires : tie.Need-knowing-requires Inv-references μ-references
-knowing-requires c κs = search needs
-
-no-row-requires : tie.Need-no-row-requires Inv-references μ-references
-no-row-requires c κs = search needs
-
-returns : tie.Need-returns Inv-references μ-references
-returns c =
-    let kn = c .before .before in
-    let x = kn .before .before .reference in
-    let at = kn .before .before .before .before in
-    let st = at .before .before in
-    let b = bookOf (st .args .book .now) in
-    let there = asked-there (st .args .t) (st .args .row) b (at .references .i) (x .result) (kn .before .named .result) (kn .knowing .result) (x .ensures) (kn .before .named .ensures) (kn .knowing .ensures) ∙ not-true _ (c .before .if1 .taken) in
-    let more : at .references .i < length (references (st .args .t)) = omega (arith, at .references .inv .1, kn .before .before .before .references-test .taken) in
-    c .no-row .ensures ∙ sym (at .references .inv .2 ∙ unknown-here (st .args .t) (st .args .row) b (at .references .i) more there ∙ ap (λ (y : Reference). noRow (y .column)) (sym (x .ensures)))
-
-add-i : tie.Need-add-i Inv-references μ-references
-add-i c = search needs
-
-references-less : tie.Need-references-less Inv-references μ-references
-references-less c = search needs
-
-references-again : tie.Need-references-again Inv-references μ-references
-references-again c =
-    let kn = c .before in
-    let x = kn .before .before .reference in
-    let at = kn .before .before .before .before in
-    let st = at .before .before in
-    let b = bookOf (st .args .book .now) in
-    let there = asked-there (st .args .t) (st .args .row) b (at .references .i) (x .result) (kn .before .named .result) (kn .knowing .result) (x .ensures) (kn .before .named .ensures) (kn .knowing .ensures) ∙ not-false _ (c .if1 .left) in
-    let more : at .references .i < length (references (st .args .t)) = omega (arith, at .references .inv .1, kn .before .before .before .references-test .taken) in
-    (omega arith, at .references .inv .1, at .references .inv .2 ∙ unknown-next (st .args .t) (st .args .row) b (at .references .i) more there)
-
-returns-2 : tie.Need-returns-2 Inv-references μ-references
-returns-2 c =
-    let at = c .before in
-    let st = at .before .before in
-    sym (at .references .inv .2 ∙ unknown-end (st .args .t) (st .args .row) (bookOf (st .args .book .now)) (at .references .i) (omega (arith, at .references .inv .1)))
+returns-2 : tie.Need-returns-2
+returns-2 c = search needs
 
 pub unknown-reference-spec : {M : Type 1} → statement M
-unknown-reference-spec =
-    tie.close
-    (tie.spec
-    Inv-references
-    μ-references
-    references-requires
-    references-holds
-    reference-requires
-    named-requires
-    knowing-requires
-    no-row-requires
-    returns
-    add-i
-    references-less
-    references-again
-    returns-2)
+unknown-reference-spec = tie.close (tie.spec soon-known-requires returns first-unknown-requires returns-2)

@@ -1,133 +1,88 @@
-use mathlib.Core.Path.{_≡_, refl, ap, sym, _∙_}
-use Prim.Native.Nat.{ℕ, _+_, _-_, _≤_, _<_}
-use mathlib.Core.List.{List}
-use native.Mathlib.Omega.{arith}
-use lib.ListN.{length, drop}
-use Rattle.refusals.specs.declared.Verdict.the-variants.{Accepted, Refused}
-use Rattle.refusals.specs.Verdicts.{placed}
-use Rattle.refusals.specs.declared.Check.{Check}
+-- `reading::take_rows` meets its contract: what the lines leave on the shelf is laid out where they are accepted. Assumes nothing.
+use mathlib.Core.Path.{ap, _∙_}
+use lib.ListN.{drop}
 use Rattle.text.specs.Lines.{lines}
-use Rattle.text.proofs.Lining.{LineFrom, line-from}
-use Rattle.tables.specs.Columns.{number}
-use Rattle.book.specs.Room.{Sound, bookOf}
+use Rattle.book.specs.Room.{bookOf}
+use Rattle.book.proofs.Points.{referable}
 use Rattle.reading.specs.Reading.{rowsRead}
-use Rattle.reading.specs.Heading.{KeptOf}
-use Rattle.reading.specs.Calls.{resultOf}
-use Rattle.reading.proofs.Taking.{rows-end, rows-passed, rows-refused}
+use Rattle.reading.proofs.Taking.{laid-accepted, result-accepted, result-refused}
 use borrow.Author.Needs.{needs}
 use Rattle.reading.proofs.take_rows.Statement.{statement}
 use Rattle.reading.proofs.take_rows.Tie as tie
 
-abbrev Inv-rows : tie.InvT-rows
-Inv-rows bytes from t cells at book₀ verdict₀ i₀ line₀ book verdict i line =
-    (i ≤ length bytes) × (line ≤ i + 2) × (verdict ≡ Accepted) × Sound book
-    × ((h : List ℕ) → KeptOf h cells at → rowsRead t h 2 (lines (drop from bytes)) (bookOf book₀) ≡ rowsRead t h line (lines (drop i bytes)) (bookOf book))
+slice-aggregate-shelve : tie.Need-slice-aggregate-shelve
+slice-aggregate-shelve c = search needs
 
-abbrev μ-rows : tie.MeasureT-rows
-μ-rows bytes from t cells at book₀ verdict₀ i₀ line₀ book verdict i line = length bytes - i
+slice-aggregate-shelve-2 : tie.Need-slice-aggregate-shelve-2
+slice-aggregate-shelve-2 c = search needs
 
-rows-holds : tie.Need-rows-holds Inv-rows μ-rows
-rows-holds c = (c .before .pre .0, search needs, refl, c .before .pre .3, λ h kept. refl)
+shelve-requires : tie.Need-shelve-requires
+shelve-requires c κs =
+    let st = c .before .before .before .before in
+    let r = referable (st .args .t) (bookOf (st .args .book .now)) (st .pre .4) in
+    search needs
 
-next-line-requires : tie.Need-next-line-requires Inv-rows μ-rows
-next-line-requires c κs = search needs
+slice-aggregate-take-lines : tie.Need-slice-aggregate-take-lines
+slice-aggregate-take-lines c = search needs
 
-sub-take-line : tie.Need-sub-take-line Inv-rows μ-rows
-sub-take-line c =
-    line-from (c .before .before .before .before .args .bytes .now) (c .before .before .rows .i) (c .next-line .result) (c .before .rows-test .taken) (c .next-line .ensures) .low
+slice-aggregate-take-lines-2 : tie.Need-slice-aggregate-take-lines-2
+slice-aggregate-take-lines-2 c = search needs
 
-part-take-line-start : tie.Need-part-take-line-start Inv-rows μ-rows
-part-take-line-start c =
-    line-from (c .before .before .before .before .args .bytes .now) (c .before .before .rows .i) (c .next-line .result) (c .before .rows-test .taken) (c .next-line .ensures) .low
+take-lines-requires : tie.Need-take-lines-requires
+take-lines-requires c κs = search needs
 
-part-take-line-end : tie.Need-part-take-line-end Inv-rows μ-rows
-part-take-line-end c =
-    line-from (c .before .before .before .before .args .bytes .now) (c .before .before .rows .i) (c .next-line .result) (c .before .rows-test .taken) (c .next-line .ensures) .high
-
-take-line-requires : tie.Need-take-line-requires Inv-rows μ-rows
-take-line-requires c κs = (c .before .before .before .before .before .before .pre .2, c .before .before .before .before .rows .inv .3, c .before .before .before .before .before .before .pre .4)
-
-number-requires : tie.Need-number-requires Inv-rows μ-rows
-number-requires c κs = search needs
-
-on-requires : tie.Need-on-requires Inv-rows μ-rows
-on-requires c κs = search needs
-
-enum-told : tie.Need-enum-told Inv-rows μ-rows
+enum-told : tie.Need-enum-told
 enum-told c = search needs
 
-enum-known-v : tie.Need-enum-known-v Inv-rows μ-rows
-enum-known-v c = search needs
+slice-aggregate-lay-table : tie.Need-slice-aggregate-lay-table
+slice-aggregate-lay-table c = search needs
 
-add-line : tie.Need-add-line Inv-rows μ-rows
-add-line c = omega (arith, c .before .before .before .before .before .before .before .before .before .before .rows .inv .1, c .before .before .before .before .before .before .before .before .before .before .before .before .pre .1, c .before .before .before .before .before .before .before .before .before .rows-test .taken)
+slice-aggregate-lay-table-2 : tie.Need-slice-aggregate-lay-table-2
+slice-aggregate-lay-table-2 c = search needs
 
-rows-less : tie.Need-rows-less Inv-rows μ-rows
-rows-less c =
-    let l = line-from (c .before .before .before .before .before .before .before .before .before .before .before .before .args .bytes .now) (c .before .before .before .before .before .before .before .before .before .before .rows .i) (c .before .before .before .before .before .before .before .before .next-line .result) (c .before .before .before .before .before .before .before .before .before .rows-test .taken) (c .before .before .before .before .before .before .before .before .next-line .ensures) in
-    omega (arith, l .on, l .past, c .before .before .before .before .before .before .before .before .before .rows-test .taken)
+lay-table-requires : tie.Need-lay-table-requires
+lay-table-requires c κs = c .before .before .before .before .before .before .before .take-lines .ensures .0 (c .before .before .before .enum-told .given .1)
 
-rows-again : tie.Need-rows-again Inv-rows μ-rows
-rows-again c =
-    let st = c .before .before .before .before .before .before .before .before .before .before .before .before in
-    let at = c .before .before .before .before .before .before .before .before .before .before .rows in
-    let next = c .before .before .before .before .before .before .before .before .next-line in
-    let taken = c .before .before .before .before .before .take-line in
-    let l = line-from (st .args .bytes .now) (at .i) (next .result) (c .before .before .before .before .before .before .before .before .before .rows-test .taken) (next .ensures) in (
-      l .past,
-      omega (arith, l .on, at .inv .1),
-      at .inv .2,
-      taken .ensures .0,
-      λ h kept. at .inv .4 h kept
-          ∙ rows-passed (st .args .t) h (at .line) (st .args .bytes .now) (at .i) (bookOf (at .book)) (next .result) (next .ensures) (c .before .before .before .before .before .before .before .before .before .rows-test .taken) (taken .result) _ (taken .ensures .1 h kept)
-          (c .before .before .on .result) (c .before .before .on .ensures ∙ ap (λ (n : ℕ). placed n (at .line) (taken .result)) (c .before .before .before .number .ensures)) (c .enum-told .given .1),
-    )
+enum-known-verdict : tie.Need-enum-known-verdict
+enum-known-verdict c = search needs
 
-same-length : tie.Need-same-length Inv-rows μ-rows
+same-length : tie.Need-same-length
 same-length c = search needs
 
-returns : tie.Need-returns Inv-rows μ-rows
+returns : tie.Need-returns
 returns c =
-    let st = c .before .before .before in
-    let at = c .before .rows in (
-      at .inv .3,
-      λ h kept. rw (at .inv .2) (sym (at .inv .4 h kept ∙ rows-end (st .args .t) h (at .line) (st .args .bytes .now) (at .i) (bookOf (at .book)) (c .rows-test .left))),
-    )
+    let st = c .before .before .before .before .before .before .before .before .before .before .before .before .before .before .before .before .before .before .before .before in
+    let shelved = c .before .before .before .before .before .before .before .before .before .before .before .before .before .before .before .shelve in
+    let taken = c .before .before .before .before .before .before .before .before .before .take-lines in
+    let accepted = c .before .before .before .before .before .enum-told .given .1 in
+    let left = laid-accepted (st .args .t) (st .args .book .now) _ _ (taken .result .count) (taken .ensures .0 accepted) _ (c .before .lay-table .ensures) in
+    (left .0, λ h kept. result-accepted (taken .result .verdict) _ _ (taken .ensures .1 h kept ∙ ap (rowsRead (st .args .t) h 2 (lines (drop (st .args .from) (st .args .bytes .now)))) (shelved .ensures .1)) accepted _ left)
 
-same-length-2 : tie.Need-same-length-2 Inv-rows μ-rows
+same-length-2 : tie.Need-same-length-2
 same-length-2 c = search needs
 
-returns-2 : tie.Need-returns-2 Inv-rows μ-rows
+returns-2 : tie.Need-returns-2
 returns-2 c =
-    let st = c .before .before .before .before .before .before .before .before .before .before .before .before .before in
-    let at = c .before .before .before .before .before .before .before .before .before .before .before .rows in
-    let next = c .before .before .before .before .before .before .before .before .before .next-line in
-    let taken = c .before .before .before .before .before .before .take-line in (
-      taken .ensures .0,
-      λ h kept. sym (at .inv .4 h kept
-          ∙ rows-refused (st .args .t) h (at .line) (st .args .bytes .now) (at .i) (bookOf (at .book)) (next .result) (next .ensures) (c .before .before .before .before .before .before .before .before .before .before .rows-test .taken) (taken .result) _ (taken .ensures .1 h kept)
-          (c .before .before .before .on .result) (c .before .before .before .on .ensures ∙ ap (λ (n : ℕ). placed n (at .line) (taken .result)) (c .before .before .before .before .number .ensures)) _ (c .before .v .given .1)),
-    )
+    let st = c .before .before .before .before .before .before .before .before .before .before .before .before .before .before .before .before in
+    let shelved = c .before .before .before .before .before .before .before .before .before .before .before .shelve in
+    let taken = c .before .before .before .before .before .take-lines in
+    (st .pre .3, λ h kept. result-refused (taken .result .verdict) _ _ (taken .ensures .1 h kept ∙ ap (rowsRead (st .args .t) h 2 (lines (drop (st .args .from) (st .args .bytes .now)))) (shelved .ensures .1)) _ (c .before .verdict .given .1) (st .args .book .now))
 
 pub take-rows-spec : {M : Type 1} → statement M
 take-rows-spec =
     tie.close
     (tie.spec
-    Inv-rows
-    μ-rows
-    rows-holds
-    next-line-requires
-    sub-take-line
-    part-take-line-start
-    part-take-line-end
-    take-line-requires
-    number-requires
-    on-requires
+    slice-aggregate-shelve
+    slice-aggregate-shelve-2
+    shelve-requires
+    slice-aggregate-take-lines
+    slice-aggregate-take-lines-2
+    take-lines-requires
     enum-told
-    enum-known-v
-    add-line
-    rows-less
-    rows-again
+    slice-aggregate-lay-table
+    slice-aggregate-lay-table-2
+    lay-table-requires
+    enum-known-verdict
     same-length
     returns
     same-length-2

@@ -10,6 +10,7 @@ use Rattle.text.specs.declared.Line.{Line}
 use Rattle.text.proofs.Lining.{length-room, room-le}
 use Rattle.book.specs.Room.{bookOf}
 use Rattle.reading.specs.Header.{header}
+use Rattle.reading.proofs.Pointing.{table-left}
 use Rattle.reading.proofs.Taking.{heading-kept, heading-few, table-long, table-headed, table-rows}
 use borrow.Author.Needs.{needs}
 use Rattle.reading.proofs.take_table.Statement.{statement}
@@ -26,11 +27,11 @@ on-requires c κs = search needs
 
 returns : tie.Need-returns
 returns c =
-    let st = c .before .before .before .before .before in (
-      st .pre,
-      table-long (st .args .t) (st .args .bytes .now) (bookOf (st .args .book .now)) (st .args .book .now) (c .before .before .before .if1 .taken) (c .on .result)
-          (c .on .ensures ∙ ap (λ (n : ℕ). placed n 0 (c .before .before .text-too-long .result)) (c .before .number .ensures) ∙ rw (c .before .before .text-too-long .ensures)),
-    )
+    let st = c .before .before .before .before .before in
+    let is =
+    table-long (st .args .t) (st .args .bytes .now) (bookOf (st .args .book .now)) (st .args .book .now) (c .before .before .before .if1 .taken) (c .on .result)
+    (c .on .ensures ∙ ap (λ (n : ℕ). placed n 0 (c .before .before .text-too-long .result)) (c .before .number .ensures) ∙ rw (c .before .before .text-too-long .ensures)) in
+    (st .pre .0, is, table-left (st .args .t) (st .args .bytes .now) (bookOf (st .args .book .now)) _ is (st .pre .1))
 
 next-line-requires : tie.Need-next-line-requires
 next-line-requires c κs = search needs
@@ -71,7 +72,8 @@ take-rows-requires c κs =
       omega (arith, ap (λ (x : Line). x .next) (next .ensures), room-le s),
       c .before .before .before .before .before .before .before .before .if1 .left,
       heading-few (st .args .t) (take (next .result .end - 0) (drop 0 s)) (g .result) (g .ensures) p,
-      st .pre,
+      st .pre .0,
+      st .pre .1,
       (
         header (st .args .t) (cellsOf (cut (take (next .result .end - 0) (drop 0 s)))),
         heading-kept (st .args .t) (take (next .result .end - 0) (drop 0 s)) (g .result) (g .ensures) p,
@@ -82,12 +84,12 @@ returns-2 : tie.Need-returns-2
 returns-2 c =
     let st = c .before .before .before .before .before .before .before .before .before .before in
     let next = c .before .before .before .before .before .before .before .next-line in
-    let g = c .before .before .before .before .before .read-header in (
-      st .pre,
-      table-headed (st .args .t) (st .args .bytes .now) (bookOf (st .args .book .now)) (st .args .book .now) (c .before .before .before .before .before .before .before .before .if1 .left) (next .result) (next .ensures) (g .result) (g .ensures)
-          (g .result .check) _ _ (c .before .before .enum-told .given .1) refl (c .on2 .result)
-          (c .on2 .ensures ∙ ap (λ (n : ℕ). placed n 1 (g .result .check)) (c .before .number2 .ensures)),
-    )
+    let g = c .before .before .before .before .before .read-header in
+    let is =
+    table-headed (st .args .t) (st .args .bytes .now) (bookOf (st .args .book .now)) (st .args .book .now) (c .before .before .before .before .before .before .before .before .if1 .left) (next .result) (next .ensures) (g .result) (g .ensures)
+    (g .result .check) _ _ (c .before .before .enum-told .given .1) refl (c .on2 .result)
+    (c .on2 .ensures ∙ ap (λ (n : ℕ). placed n 1 (g .result .check)) (c .before .number2 .ensures)) in
+    (st .pre .0, is, table-left (st .args .t) (st .args .bytes .now) (bookOf (st .args .book .now)) _ is (st .pre .1))
 
 same-length : tie.Need-same-length
 same-length c = search needs
@@ -99,11 +101,11 @@ returns-3 c =
     let next = c .before .before .before .before .before .before .before .before .before .next-line in
     let g = c .before .before .before .before .before .before .before .read-header in
     let p = c .before .before .before .before .enum-told2 .given .1 in
-    let line = take (next .result .end - 0) (drop 0 s) in (
-      c .before .take-rows .ensures .0,
-      c .before .take-rows .ensures .1 (header (st .args .t) (cellsOf (cut line))) (heading-kept (st .args .t) line (g .result) (g .ensures) p)
-          ∙ table-rows (st .args .t) s (bookOf (st .args .book .now)) (st .args .book .now) (c .before .before .before .before .before .before .before .before .before .before .if1 .left) (next .result) (next .ensures) (g .result) (g .ensures) p,
-    )
+    let line = take (next .result .end - 0) (drop 0 s) in
+    let is =
+    c .before .take-rows .ensures .1 (header (st .args .t) (cellsOf (cut line))) (heading-kept (st .args .t) line (g .result) (g .ensures) p)
+    ∙ table-rows (st .args .t) s (bookOf (st .args .book .now)) (st .args .book .now) (c .before .before .before .before .before .before .before .before .before .before .if1 .left) (next .result) (next .ensures) (g .result) (g .ensures) p in
+    (c .before .take-rows .ensures .0, is, table-left (st .args .t) s (bookOf (st .args .book .now)) _ is (st .pre .1))
 
 pub take-table-spec : {M : Type 1} → statement M
 take-table-spec =

@@ -1,6 +1,8 @@
-use mathlib.Core.Path.{_≡_, refl, ap, sym, _∙_}
+use mathlib.Core.Path.{_≡_, refl, ap, _∙_}
 use Rattle.reading.specs.Reading.{Result, reading, tableRead, _▹_}
-use Rattle.reading.specs.Calls.{resultOf, delivery}
+use Rattle.reading.specs.Calls.{delivery}
+use Rattle.book.specs.Room.{bookOf}
+use Rattle.book.proofs.Points.{empty-named}
 use Rattle.tables.specs.declared.Table.the-variants.{VehicleType, Depot, Stop, StopPoint, Block}
 use Rattle.book.specs.Book.{Book, empty}
 use Rattle.words.specs.Words.{Bytes}
@@ -9,19 +11,21 @@ use Rattle.reading.proofs.take_tables.Statement.{statement}
 use Rattle.reading.proofs.take_tables.Tie as tie
 
 take-table-requires : tie.Need-take-table-requires
-take-table-requires c κs = search needs
+take-table-requires c κs =
+    let st = c .before .before .before .before .before .before in
+    (st .pre .0, empty-named (bookOf (st .args .book .now)) (st .pre .1))
 
 then-table-requires : tie.Need-then-table-requires
-then-table-requires c κs = search needs
+then-table-requires c κs = (c .before .before .take-table .ensures .0, c .before .before .take-table .ensures .2)
 
 then-table-requires-2 : tie.Need-then-table-requires-2
-then-table-requires-2 c κs = search needs
+then-table-requires-2 c κs = (c .before .before .then-table .ensures .0, c .before .before .then-table .ensures .2)
 
 then-table-requires-3 : tie.Need-then-table-requires-3
-then-table-requires-3 c κs = search needs
+then-table-requires-3 c κs = (c .before .before .then-table2 .ensures .0, c .before .before .then-table2 .ensures .2)
 
 then-table-requires-4 : tie.Need-then-table-requires-4
-then-table-requires-4 c κs = search needs
+then-table-requires-4 c κs = (c .before .before .then-table3 .ensures .0, c .before .before .then-table3 .ensures .2)
 
 same-length : tie.Need-same-length
 same-length c = search needs

@@ -3,7 +3,10 @@ use mathlib.Core.Path.{sym, ap, _∙_}
 use borrow.Author.Tests.{not-true, not-false}
 use borrow.Author.Needs.{needs}
 use Rattle.refusals.specs.Verdicts.{placed}
-use Rattle.book.proofs.Keeping.{keeps-sound}
+use Rattle.tables.specs.declared.Table.the-variants.{StopPoint}
+use Rattle.book.specs.Room.{bookOf}
+use Rattle.book.proofs.Keeping.{keeps-sound, keeps-rows}
+use Rattle.book.proofs.Points.{points-named}
 use Rattle.slips.proofs.Posting.{call-unruled, call-long, call-lines}
 use Rattle.slips.proofs.post.Statement.{statement}
 use Rattle.slips.proofs.post.Tie as tie
@@ -48,7 +51,9 @@ returns-2 c =
 take-whole-requires : tie.Need-take-whole-requires
 take-whole-requires c κs =
     let st = c .before .before .before .before .before .before .before in
-    (keeps-sound (st .args .book .now) (sym (c .before .before .before .before .keeps-rule .ensures) ∙ not-false _ (c .before .before .before .if1 .left)), c .before .before .if2 .left, st .pre)
+    let xs = st .args .book .now in
+    let keeps = sym (c .before .before .before .before .keeps-rule .ensures) ∙ not-false _ (c .before .before .before .if1 .left) in
+    (keeps-sound xs keeps, points-named (bookOf xs) (bookOf xs .points) (keeps-rows xs keeps StopPoint), c .before .before .if2 .left, st .pre)
 
 same-length-3 : tie.Need-same-length-3
 same-length-3 c = search needs

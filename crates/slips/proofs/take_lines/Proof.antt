@@ -1,4 +1,4 @@
--- `slips::take_lines` meets its contract: the lines before place `at` were taken, and those behind it are judged on the book as they left it. Assumes nothing.
+-- `slips::take_lines` meets its contract: the lines before place `at` were taken, and those behind it are judged on the blocks as they left them. Assumes nothing.
 use mathlib.Core.Path.{_≡_, refl, sym, _∙_}
 use Prim.Native.Nat.{_+_, _-_, _≤_}
 use native.Mathlib.Omega.{arith}
@@ -6,25 +6,25 @@ use lib.ListN.{length, drop}
 use borrow.Author.Needs.{needs}
 use Rattle.text.specs.Lines.{slipLines}
 use Rattle.text.proofs.Lining.{LineFrom, slip-line-from}
-use Rattle.book.specs.Room.{bookOf, Sound}
-use Rattle.slips.specs.Taking.{frontStays}
+use Rattle.tables.specs.declared.Table.the-variants.{Block}
+use Rattle.book.specs.Shelving.{shelfBook, OnShelf}
 use Rattle.slips.specs.Slips.{linesPosted}
 use Rattle.slips.proofs.Posting.{line-passes, line-fails, line-next, line-refused, lines-end}
 use Rattle.slips.proofs.take_lines.Statement.{statement}
 use Rattle.slips.proofs.take_lines.Tie as tie
 
 abbrev Inv-lines : tie.InvT-lines
-Inv-lines slip book₀ at₀ number₀ book at number = (at ≤ length slip) × (1 ≤ number) × (number ≤ at + 1) × Sound book × frontStays book₀ book × (linesPosted 1 (slipLines slip) (bookOf book₀) ≡ linesPosted number (slipLines (drop at slip)) (bookOf book))
+Inv-lines slip book slots₀ order₀ n count₀ at₀ number₀ slots order count at number = (at ≤ length slip) × (1 ≤ number) × (number ≤ at + 1) × OnShelf Block book slots order count × (linesPosted 1 (slipLines slip) (shelfBook Block book slots₀ order₀ n) ≡ linesPosted number (slipLines (drop at slip)) (shelfBook Block book slots order count))
 
 abbrev μ-lines : tie.MeasureT-lines
-μ-lines slip book₀ at₀ number₀ book at number = length slip - at
+μ-lines slip book slots₀ order₀ n count₀ at₀ number₀ slots order count at number = length slip - at
 
 -- the line that begins at `at`
-from-next : (c : tie.After-next-slip-line Inv-lines μ-lines) → LineFrom slipLines (c .before .before .before .before .args .slip .now) (c .before .before .lines .at) (c .next-slip-line .result)
-from-next c = slip-line-from (c .before .before .before .before .args .slip .now) (c .before .before .lines .at) (c .next-slip-line .result) (c .before .lines-test .taken) (c .next-slip-line .ensures)
+from-next : (c : tie.After-next-slip-line Inv-lines μ-lines) → LineFrom slipLines (c .before .before .before .before .before .args .slip .now) (c .before .before .lines .at) (c .next-slip-line .result)
+from-next c = slip-line-from (c .before .before .before .before .before .args .slip .now) (c .before .before .lines .at) (c .next-slip-line .result) (c .before .lines-test .taken) (c .next-slip-line .ensures)
 
 lines-holds : tie.Need-lines-holds Inv-lines μ-lines
-lines-holds c = (omega arith, omega arith, omega arith, c .before .pre .0, refl, refl)
+lines-holds c = (omega arith, omega arith, omega arith, c .before .before .pre .0, refl)
 
 next-slip-line-requires : tie.Need-next-slip-line-requires Inv-lines μ-lines
 next-slip-line-requires c κs = search needs
@@ -45,7 +45,7 @@ part-take-slip-line-end c =
     omega (arith, f .low, f .high)
 
 take-slip-line-requires : tie.Need-take-slip-line-requires Inv-lines μ-lines
-take-slip-line-requires c κs = c .before .before .before .before .lines .inv .3
+take-slip-line-requires c κs = c .before .before .before .before .before .lines .inv .3
 
 on-requires : tie.Need-on-requires Inv-lines μ-lines
 on-requires c κs = search needs
@@ -59,23 +59,24 @@ enum-known-place c = search needs
 same-length : tie.Need-same-length Inv-lines μ-lines
 same-length c = search needs
 
+same-length-2 : tie.Need-same-length-2 Inv-lines μ-lines
+same-length-2 c = search needs
+
 returns : tie.Need-returns Inv-lines μ-lines
 returns c =
     let k = c .before .before .before in
-    let at = k .before .before .before .before .before .before .before in
-    let st = at .before .before in
-    let s = st .args .slip .now in
-    let here = k .before .before .before .before .before .next-slip-line .result in
-    let f = from-next (k .before .before .before .before .before) in
-    let t = k .before .before .take-slip-line in
-    let bk = bookOf (at .lines .book) in
+    let at = c .before .before .before .before .before .before .before .before .before .before .before .before .before in
+    let s = c .before .before .before .before .before .before .before .before .before .before .before .before .before .before .before .before .args .slip .now in
+    let here = c .before .before .before .before .before .before .before .before .before .before .before .next-slip-line .result in
+    let f = from-next (c .before .before .before .before .before .before .before .before .before .before .before) in
+    let t = c .before .before .before .before .before .before .before .take-slip-line in
+    let bk = shelfBook Block (c .before .before .before .before .before .before .before .before .before .before .before .before .before .before .before .before .args .book .now) (at .lines .slots) (at .lines .order) (at .lines .count) in
     let p = c .before .place .given .0 .0 in
     let e = c .before .place .given .1 in
-    let same = t .ensures .2 (line-fails s (at .lines .at) here f (at .lines .number) bk (t .result) (k .on .result) (t .ensures .0) (k .on .ensures) p e) in
+    let same = t .ensures .stays (line-fails s (at .lines .at) here f (at .lines .number) bk (t .result .check) (k .on .result) (t .ensures .is) (k .on .ensures) p e) in
     record {
-      sound = rw same (at .lines .inv .3);
-      result = sym (at .lines .inv .5 ∙ line-refused s (at .lines .at) here f (at .lines .number) bk (t .result) (k .on .result) (t .ensures .0) (k .on .ensures) p e);
-      front = rw same (at .lines .inv .4);
+      on = rw (same .0, same .1) (at .lines .inv .3);
+      result = sym (at .lines .inv .4 ∙ line-refused s (at .lines .at) here f (at .lines .number) bk (t .result .check) (k .on .result) (t .ensures .is) (k .on .ensures) p e);
     }
 
 add-number : tie.Need-add-number Inv-lines μ-lines
@@ -83,41 +84,40 @@ add-number c = search needs
 
 lines-less : tie.Need-lines-less Inv-lines μ-lines
 lines-less c =
-    let f = from-next (c .before .before .before .before .before .before .before) in
+    let f = from-next (c .before .before .before .before .before .before .before .before .before .before) in
     omega (arith, f .on, f .past)
 
 lines-again : tie.Need-lines-again Inv-lines μ-lines
 lines-again c =
     let k = c .before .before in
-    let at = k .before .before .before .before .before .before .before in
-    let st = at .before .before in
-    let s = st .args .slip .now in
-    let here = k .before .before .before .before .before .next-slip-line .result in
-    let f = from-next (k .before .before .before .before .before) in
-    let t = k .before .before .take-slip-line in
-    let bk = bookOf (at .lines .book) in
+    let at = c .before .before .before .before .before .before .before .before .before .before .before .before in
+    let s = c .before .before .before .before .before .before .before .before .before .before .before .before .before .before .before .args .slip .now in
+    let here = c .before .before .before .before .before .before .before .before .before .before .next-slip-line .result in
+    let f = from-next (c .before .before .before .before .before .before .before .before .before .before) in
+    let t = c .before .before .before .before .before .before .take-slip-line in
+    let bk = shelfBook Block (c .before .before .before .before .before .before .before .before .before .before .before .before .before .before .before .args .book .now) (at .lines .slots) (at .lines .order) (at .lines .count) in
     let e = c .enum-told .given .1 in
-    let n = at .lines .number in
-    let taken = t .ensures .1 (line-passes s (at .lines .at) here f n bk (t .result) (k .on .result) (t .ensures .0) (k .on .ensures) e) in (
+    let p = line-passes s (at .lines .at) here f (at .lines .number) bk (t .result .check) (k .on .result) (t .ensures .is) (k .on .ensures) e in (
       f .past,
       omega arith,
       omega (arith, f .on, at .lines .inv .2),
-      taken .sound,
-      taken .front ∙ at .lines .inv .4,
-      at .lines .inv .5 ∙ line-next s (at .lines .at) here f n bk (t .result) (k .on .result) (t .ensures .0) (k .on .ensures) e (bookOf (t .last .1 .0)) (taken .leaves),
+      t .ensures .on p,
+      at .lines .inv .4 ∙ line-next s (at .lines .at) here f (at .lines .number) bk (t .result .check) (k .on .result) (t .ensures .is) (k .on .ensures) e _ (t .ensures .grants p),
     )
 
-same-length-2 : tie.Need-same-length-2 Inv-lines μ-lines
-same-length-2 c = search needs
+same-length-3 : tie.Need-same-length-3 Inv-lines μ-lines
+same-length-3 c = search needs
+
+same-length-4 : tie.Need-same-length-4 Inv-lines μ-lines
+same-length-4 c = search needs
 
 returns-2 : tie.Need-returns-2 Inv-lines μ-lines
 returns-2 c =
     let at = c .before in
-    let st = at .before .before in
+    let bk = shelfBook Block (c .before .before .before .before .args .book .now) (at .lines .slots) (at .lines .order) (at .lines .count) in
     record {
-      sound = at .lines .inv .3;
-      result = sym (at .lines .inv .5 ∙ lines-end (st .args .slip .now) (at .lines .at) (at .lines .number) (bookOf (at .lines .book)) (c .lines-test .left));
-      front = at .lines .inv .4;
+      on = at .lines .inv .3;
+      result = sym (at .lines .inv .4 ∙ lines-end (c .before .before .before .before .args .slip .now) (at .lines .at) (at .lines .number) bk (c .lines-test .left));
     }
 
 pub take-lines-spec : {M : Type 1} → statement M
@@ -136,9 +136,11 @@ take-lines-spec =
     enum-told
     enum-known-place
     same-length
+    same-length-2
     returns
     add-number
     lines-less
     lines-again
-    same-length-2
+    same-length-3
+    same-length-4
     returns-2)

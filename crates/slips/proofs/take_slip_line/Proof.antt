@@ -1,63 +1,96 @@
--- `slips::take_slip_line` meets its contract: a line that passes is granted, and the slice stays sound. Assumes nothing.
-use mathlib.Core.Path.{_≡_, refl, sym, ap, _∙_}
-use Prim.Native.Nat.{ℕ}
-use native.Mathlib.Omega.{arith}
+-- `slips::take_slip_line` meets its contract: the wish of a line, then what its kind asks for. Assumes nothing.
+use mathlib.Core.Path.{sym, _∙_}
 use borrow.Author.Needs.{needs}
-use Rattle.refusals.specs.declared.Check.the-variants.{Passes}
-use Rattle.book.specs.Room.{laid, bookOf}
-use Rattle.slips.specs.Slips.{slipCheck}
-use Rattle.slips.proofs.Granting.{asked-check, asked-granted, asked-room, taken}
+use Rattle.slips.proofs.Granting.{line-unknown}
 use Rattle.slips.proofs.take_slip_line.Statement.{statement}
 use Rattle.slips.proofs.take_slip_line.Tie as tie
 
-judge-slip-line-requires : tie.Need-judge-slip-line-requires
-judge-slip-line-requires c κs = search needs
+fields-of-requires : tie.Need-fields-of-requires
+fields-of-requires c κs = search needs
+
+wish-of-requires : tie.Need-wish-of-requires
+wish-of-requires c κs = search needs
 
 enum-told : tie.Need-enum-told
 enum-told c = search needs
 
-grant-requires : tie.Need-grant-requires
-grant-requires c κs =
-    let st = c .before .before .before .before .before .before .before in
-    let j = c .before .before .before .before .judge-slip-line in
-    (st .pre, asked-room (st .args .line .now) (bookOf (st .args .book .now)) (j .result) (j .ensures) (c .before .enum-told .given .1))
+add-block-requires : tie.Need-add-block-requires
+add-block-requires c κs =
+    (c .before .before .before .before .before .fields-of .ensures, sym (c .before .before .before .before .wish-of .ensures) ∙ c .before .before .enum-told .given .1, c .before .before .before .before .before .before .before .before .pre)
 
-enum-known-check : tie.Need-enum-known-check
-enum-known-check c = search needs
+enum-told-2 : tie.Need-enum-told-2
+enum-told-2 c = search needs
+
+replace-block-requires : tie.Need-replace-block-requires
+replace-block-requires c κs =
+    (c .before .before .before .before .before .fields-of .ensures, sym (c .before .before .before .before .wish-of .ensures) ∙ c .before .before .enum-told2 .given .1, c .before .before .before .before .before .before .before .before .pre)
+
+enum-told-3 : tie.Need-enum-told-3
+enum-told-3 c = search needs
+
+delete-block-requires : tie.Need-delete-block-requires
+delete-block-requires c κs =
+    (c .before .before .before .before .before .fields-of .ensures, sym (c .before .before .before .before .wish-of .ensures) ∙ c .before .before .enum-told3 .given .1, c .before .before .before .before .before .before .before .before .pre)
+
+enum-told-4 : tie.Need-enum-told-4
+enum-told-4 c = search needs
+
+unknown-line-requires : tie.Need-unknown-line-requires
+unknown-line-requires c κs = search needs
 
 same-length : tie.Need-same-length
 same-length c = search needs
 
-returns : tie.Need-returns
-returns c =
-    let st = c .before .before .before .before .before .before .before .before .before in
-    let j = c .before .before .before .before .before .before .judge-slip-line in
-    let line = st .args .line .now in
-    let bk = bookOf (st .args .book .now) in
-    let p = c .before .before .before .enum-told .given .1 in
-    let q : slipCheck line bk ≡ Passes = sym (asked-check line bk (j .result) (j .ensures)) ∙ p in
-    (sym q, (λ e. taken line (st .args .book .now) _ (st .pre) q (c .before .grant .ensures ∙ ap laid (asked-granted line bk (j .result) (j .ensures) p))), (λ n. absurd (n refl)))
-
 same-length-2 : tie.Need-same-length-2
 same-length-2 c = search needs
 
+returns : tie.Need-returns
+returns c = search needs
+
+same-length-3 : tie.Need-same-length-3
+same-length-3 c = search needs
+
+same-length-4 : tie.Need-same-length-4
+same-length-4 c = search needs
+
 returns-2 : tie.Need-returns-2
-returns-2 c =
+returns-2 c = search needs
+
+same-length-5 : tie.Need-same-length-5
+same-length-5 c = search needs
+
+same-length-6 : tie.Need-same-length-6
+same-length-6 c = search needs
+
+returns-3 : tie.Need-returns-3
+returns-3 c = search needs
+
+returns-4 : tie.Need-returns-4
+returns-4 c =
     let st = c .before .before .before .before .before .before .before in
-    let j = c .before .before .before .before .judge-slip-line in
-    let line = st .args .line .now in
-    let bk = bookOf (st .args .book .now) in
-    (sym (c .before .check .given .1) ∙ asked-check line bk (j .result) (j .ensures), (λ e. let z : _≡_ {A = ℕ} 0 1 = cc in absurd (omega arith)), (λ n. refl))
+    line-unknown (st .args .line .now) (st .args .book .now) (st .args .slots .now) (st .args .order .now) (st .args .n) (st .pre) (sym (c .before .before .before .wish-of .ensures) ∙ c .before .enum-told4 .given .1) _ (c .unknown-line .ensures)
 
 pub take-slip-line-spec : {M : Type 1} → statement M
 take-slip-line-spec =
     tie.close
     (tie.spec
-    judge-slip-line-requires
+    fields-of-requires
+    wish-of-requires
     enum-told
-    grant-requires
-    enum-known-check
+    add-block-requires
+    enum-told-2
+    replace-block-requires
+    enum-told-3
+    delete-block-requires
+    enum-told-4
+    unknown-line-requires
     same-length
-    returns
     same-length-2
-    returns-2)
+    returns
+    same-length-3
+    same-length-4
+    returns-2
+    same-length-5
+    same-length-6
+    returns-3
+    returns-4)
