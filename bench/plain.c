@@ -5,7 +5,7 @@
 
 #include <string.h>
 
-enum { ROWS = 512, BOOK_ROWS = 2560, TEXT_BYTES = 65536, HEADER_CELLS = 32 };
+enum { ROWS = 512, BOOK_ROWS = 2560, TEXT_BYTES = 65536, HEADER_CELLS = 32, DAY = 86400 };
 
 /* The tables' numbers, and the slip's in places. */
 enum { TYPES = 1, DEPOTS = 2, STOPS = 3, BLOCKS = 4, SLIP = 5, POINTS = 6 };
@@ -387,6 +387,18 @@ static inline int key_equal(const uint64_t *one, const uint64_t *other)
     return one[0] == other[0] && one[1] == other[1] && one[2] == other[2] && one[3] == other[3];
 }
 
+/* END below BEGIN is 11 where one of them is 86,400 or more. Then BEGIN, the greater, is. */
+static inline int early(const uint64_t *block)
+{
+    return block[10] < block[7] && block[7] >= DAY;
+}
+
+/* For a block that is not early: END below BEGIN is on the next day. */
+static inline uint64_t seconds_of(const uint64_t *block)
+{
+    return block[10] + (block[10] < block[7] ? DAY : 0) - block[7];
+}
+
 /* Blocks in slots that do not move, and their positions by rising key. */
 struct order {
     uint16_t slot[ROWS];
@@ -497,7 +509,7 @@ static uint64_t read_blocks(const uint8_t *text, size_t length, const struct boo
         number = take_row(BLOCKS, &r, line, &header, numbers, place);
         if (number)
             return number;
-        if (numbers[10] < numbers[7])
+        if (early(numbers))
             return refuse(place, 11, BLOCKS, line, 11);
         at = place_of_block(order, (const row *)rows, numbers);
         if (stands(order, (const row *)rows, numbers, at))
@@ -634,7 +646,7 @@ static int check_blocks(const row *rows, const struct book_keys *keys, size_t *c
 
         for (c = 0; c < 11; c++)
             over |= rows[n][c] > blocks_cols[c].most;
-        if (over || rows[n][10] < rows[n][7] || (n > 0 && !key_below(rows[n - 1], rows[n])) || lost(keys, rows[n]))
+        if (over || early(rows[n]) || (n > 0 && !key_below(rows[n - 1], rows[n])) || lost(keys, rows[n]))
             return 0;
     }
     *count = n;
@@ -721,7 +733,7 @@ uint64_t plain_type(const uint64_t (*book)[11], size_t rows, uint64_t version, u
     for (i = BLOCKS_AT; i < BLOCKS_AT + count; i++) {
         uint64_t of_type = book[i][0] == version && book[i][4] == number;
 
-        seconds += of_type * (book[i][10] - book[i][7]);
+        seconds += of_type * seconds_of(book[i]);
         blocks += of_type;
     }
     answer[0] = seconds;
@@ -830,7 +842,7 @@ static uint64_t slip_line(struct reader *r, uint64_t line, const struct book_key
         return refuse(place, 5, SLIP, line, 0);
     if (bad)
         return refuse(place, 8, SLIP, line, bad);
-    if (kind != 'D' && numbers[10] < numbers[7])
+    if (kind != 'D' && early(numbers))
         return refuse(place, 11, SLIP, line, 11);
     at = place_of_block(&stock->order, (const row *)stock->rows, numbers);
     known = stands(&stock->order, (const row *)stock->rows, numbers, at);

@@ -15,8 +15,12 @@
  * numbers in the order of the vehicle_block columns: VERSION, DAY_TYPE_NR, DEPOT_NR, BLOCK_NR (the key), VEH_TYP_NR,
  * DEP_STOP_NR, DEP_STOPPING_POINT_NR, BEGIN_OF_BLOCK, ARR_STOP_NR, ARR_STOPPING_POINT_NR, END_OF_BLOCK.
  * A book that workshop_read filled may be kept, copied and handed in again later. One that no accepted delivery can leave
- * (a wrong order, a number out of range, a missing reference, an END below its BEGIN, something in the unused room) is
- * refused with 16 by every function that looks at a book.
+ * (a wrong order, a number out of range, a missing reference, times that are 11, something in the unused room) is refused
+ * with 16 by every function that looks at a book.
+ *
+ * A BLOCK'S TIMES: where both are below 86,400 and END_OF_BLOCK is lower, the block runs into the next day and has
+ * END_OF_BLOCK + 86,400 - BEGIN_OF_BLOCK seconds; otherwise it has END_OF_BLOCK - BEGIN_OF_BLOCK. The book keeps both numbers
+ * as they were delivered, and so does the written table.
  *
  * LENGTHS of books and working areas are counted in rows. A book must be lent with exactly WORKSHOP_BOOK_ROWS rows and a
  * working area with exactly WORKSHOP_WORK_ROWS; any other true length is safe to hand in, and is 16.
@@ -30,13 +34,13 @@
  *
  *     0 accepted                                        9 key stands in an earlier row (slip: in the book)
  *     1 text over 65,536 bytes                         10 reference finds no row
- *     2 required column missing                        11 END_OF_BLOCK below BEGIN_OF_BLOCK
- *     3 known column twice                             12 slip line of unknown kind or field count
- *     4 more than 32 header cells                      13 slip names a block that is not in the book
- *     5 more than 512 rows                             14 output shorter than the text to write
- *     6 quote or byte fault                            15 asked table, column, line, type or block does not exist
- *     7 cell count differs from the header             16 book breaks the book rule, or a lent length is wrong
- *     8 cell empty where required, not digits,
+ *     2 required column missing                        11 END_OF_BLOCK below BEGIN_OF_BLOCK where one of them is
+ *     3 known column twice                                86,400 or more
+ *     4 more than 32 header cells                      12 slip line of unknown kind or field count
+ *     5 more than 512 rows                             13 slip names a block that is not in the book
+ *     6 quote or byte fault                            14 output shorter than the text to write
+ *     7 cell count differs from the header             15 asked table, column, line, type or block does not exist
+ *     8 cell empty where required, not digits,         16 book breaks the book rule, or a lent length is wrong
  *       too long or out of range
  *
  * Only the first fault is told. Numbers may be added later; a caller treats one that it does not know as a refusal.
@@ -94,8 +98,8 @@ uint64_t workshop_slip(const uint8_t *slip, size_t slip_length, uint64_t (*book)
 uint64_t workshop_cell(const uint8_t *text, size_t length, uint64_t table, uint64_t line, uint64_t column,
     uint64_t answer[4], uint64_t place[4]);
 
-/* Sums up the blocks of one vehicle type: answer[0] their seconds (END_OF_BLOCK minus BEGIN_OF_BLOCK) and answer[1] their
- * count. Refused: two zeros; 16 for the book, 15 if no such type is in it. A type without blocks is accepted: 0 and 0. */
+/* Sums up the blocks of one vehicle type: answer[0] their seconds (see A BLOCK'S TIMES) and answer[1] their count.
+ * Refused: two zeros; 16 for the book, 15 if no such type is in it. A type without blocks is accepted: 0 and 0. */
 uint64_t workshop_type(const uint64_t (*book)[11], size_t rows, uint64_t version, uint64_t number, uint64_t answer[2],
     uint64_t place[4]);
 

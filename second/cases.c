@@ -13,7 +13,8 @@ enum {
     MOST_ROWS = 720,  /* of a table text: past 512, so that 5 can come and a line behind it can be asked for */
     MOST_CELLS = 48,  /* of a line: past 32 */
     MOST_BYTES = 140000,
-    TEXT_LIMIT = 65536
+    TEXT_LIMIT = 65536,
+    DAY = 86400
 };
 
 /* ---- Dice */
@@ -296,8 +297,26 @@ struct others {
     size_t count[LAST_TABLE + 1];
 };
 
+/* 2/13: END below BEGIN and both below 86,400. Often at the ends of the day. */
+static void overnight_times(uint64_t *block)
+{
+    block[B_BEGIN] = chance(20) ? DAY - 1 : between(1, DAY - 1);
+    block[B_END] = chance(20) ? 0 : chance(20) ? block[B_BEGIN] - 1 : roll() % block[B_BEGIN];
+}
+
+/* END below BEGIN: mostly 11, by one or by more; where BEGIN is below 86,400 it is none. Often on both sides of that edge. */
+static void early_times(uint64_t *begin, uint64_t *end)
+{
+    *begin = chance(40) ? between(DAY - 1, DAY + 2) : between(1, 999999);
+    *end = chance(60) ? *begin - 1 : roll() % *begin;
+}
+
 static void any_times(uint64_t *block)
 {
+    if (chance(20)) {
+        overnight_times(block);
+        return;
+    }
     block[B_BEGIN] = chance(90) ? roll() % 90000 : roll() % 1000000;
     block[B_END] = block[B_BEGIN] + (chance(15) ? 0 : roll() % 40000);
     if (chance(3))
@@ -939,13 +958,14 @@ static void fault_reference(size_t line)
         lose_reference(line);
 }
 
-/* 11: by one or by more. */
+/* 11 */
 static void fault_times(size_t line)
 {
-    uint64_t begin = between(1, 999999);
+    uint64_t begin, end;
 
+    early_times(&begin, &end);
     set_number(line, 8, begin);
-    set_number(line, 11, chance(60) ? begin - 1 : roll() % begin);
+    set_number(line, 11, end);
 }
 
 enum fault { F_HEADER_QUOTES, F_MANY_CELLS, F_TWICE, F_MISSING, F_QUOTES, F_COUNT, F_VALUE, F_KEY, F_REFERENCE, F_TIMES };
@@ -976,7 +996,8 @@ static void make_fault(enum fault fault, size_t line)
 /* A fault of a row; those between rows and tables are the more telling ones. */
 static enum fault any_row_fault(void)
 {
-    static const enum fault faults[] = {F_QUOTES, F_COUNT, F_VALUE, F_VALUE, F_KEY, F_KEY, F_REFERENCE, F_REFERENCE, F_TIMES};
+    static const enum fault faults[] = {F_QUOTES, F_COUNT, F_VALUE, F_VALUE, F_KEY, F_KEY, F_REFERENCE, F_REFERENCE, F_TIMES,
+        F_TIMES};
 
     return faults[below(sizeof faults / sizeof faults[0])];
 }
@@ -1467,8 +1488,7 @@ static void bad_reference(struct slip_line *line)
 
 static void bad_times(struct slip_line *line)
 {
-    line->numbers[B_BEGIN] = between(1, 999999);
-    line->numbers[B_END] = chance(60) ? line->numbers[B_BEGIN] - 1 : roll() % line->numbers[B_BEGIN];
+    early_times(&line->numbers[B_BEGIN], &line->numbers[B_END]);
 }
 
 /* A key that is there, or one that is mostly not. */
@@ -1791,8 +1811,8 @@ static void story_of_long_texts(const struct cases_host *host)
 /* Numbers at and past the ends of what columns take. */
 static uint64_t edge_number(size_t column)
 {
-    static const uint64_t edges[] = {0, 1, 2, 3, 99, 100, 99999, 100000, 999999, 1000000, 99999999, 100000000, 999999999,
-        1000000000, 4294967295u, 4294967296u, UINT64_MAX, (uint64_t)1 << 63};
+    static const uint64_t edges[] = {0, 1, 2, 3, 99, 100, 86399, 86400, 99999, 100000, 999999, 1000000, 99999999,
+        100000000, 999999999, 1000000000, 4294967295u, 4294967296u, UINT64_MAX, (uint64_t)1 << 63};
 
     if (chance(40))
         return tables[VEHICLE_BLOCK].columns[column].most + below(2);
@@ -1817,6 +1837,15 @@ static void remove_row(unsigned t)
         return;
     memmove(rows[at], rows[at + 1], (n - at - 1) * sizeof rows[0]);
     memset(rows[n - 1], 0, sizeof rows[0]);
+}
+
+/* END at BEGIN or one below it, which BEGIN 0 makes the greatest number there is; or 11. */
+static void break_times(uint64_t *block)
+{
+    if (chance(50))
+        block[B_END] = block[B_BEGIN] - below(2);
+    else
+        early_times(&block[B_BEGIN], &block[B_END]);
 }
 
 /* One break of the book rule, or now and then a change that keeps it. */
@@ -1849,7 +1878,7 @@ static void break_book(void)
     case 5: rows[one][column] = edge_number(column); break;
     case 6: remove_row(keyed); break;
     case 7: blocks[block][reference] = below(60); break;
-    case 8: blocks[block][B_END] = blocks[block][B_BEGIN] - below(2); break;
+    case 8: break_times(blocks[block]); break;
     case 9: blocks[block][column] = chance(50) ? below(10) : edge_number(column); break;
     case 10: rows[one][0] = chance(50) ? 0 : 100; break;
     case 11: swap_rows(rows, 0, n < TABLE_ROWS ? n : 0); break; /* the first row moves behind the last: a hole in front */

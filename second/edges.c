@@ -58,7 +58,7 @@ static const struct reading_edge reading_edges[] = {
     {"ACCESS_EQUIP 2", 1, T(V "VEH_TYPE_ACCESS_EQUIP\n1;4;2\n1;7;0\n"), 0, 0, 0},
     {"ACCESS_EQUIP 3", 1, T(V "VEH_TYPE_ACCESS_EQUIP\n1;4;3\n"), 8, 2, 11},
     {"END equal to BEGIN", 4, T(BLOCK_HEADER "1;5;3;101;4;20;1;500;31;2;500\n"), 0, 0, 0},
-    {"END one below", 4, T(BLOCK_HEADER "1;5;3;101;4;20;1;500;31;2;499\n"), 11, 2, 11},
+    {"END one below", 4, T(BLOCK_HEADER "1;5;3;101;4;20;1;86400;31;2;86399\n"), 11, 2, 11},
     {"STOP_NR 0", 3, T(S "1;0;Yard\n"), 8, 2, 2},
     {"DEP_STOP_NR 100000", 4, T(BLOCK_HEADER "1;5;3;101;4;100000;1;18000;31;2;46800\n"), 10, 2, 6},
     {"keys 1;07 and 1;7", 1, T(V "\n1;07;\n1;7;\n"), 9, 3, 0},
@@ -123,10 +123,12 @@ static const struct reading_edge reading_edges[] = {
     {"one cell too many, an empty one", 2, T(D "1;3;\n"), 7, 2, 0},
     {"A-15 bad optional cell", 1, T(V "VEH_TYPE_SEATS\n1;4;x\n"), 8, 2, 3},
     {"A-15 unknown columns take anything", 1, T(V "X;\n1;4;x;-1\n1;7;\"\";\"a;\"\"b\"\n"), 0, 0, 0},
-    {"11 before 9", 4, T(BLOCK_HEADER BLOCK_101 "1;5;3;101;4;20;1;500;31;2;499\n"), 11, 3, 11},
+    {"11 before 9", 4, T(BLOCK_HEADER BLOCK_101 "1;5;3;101;4;20;1;86400;31;2;499\n"), 11, 3, 11},
     {"A-16 9 before 10", 4, T(BLOCK_HEADER BLOCK_101 "1;5;3;101;4;99;1;500;31;2;500\n"), 9, 3, 0},
-    {"8 in END before 11", 4, T(BLOCK_HEADER "1;5;3;101;4;20;1;500;31;2;\n"), 8, 2, 11},
-    {"11 before 10", 4, T(BLOCK_HEADER "1;5;9;101;4;20;1;500;31;2;499\n"), 11, 2, 11},
+    {"8 in END before 11", 4, T(BLOCK_HEADER "1;5;3;101;4;20;1;86400;31;2;\n"), 8, 2, 11},
+    {"11 before 10", 4, T(BLOCK_HEADER "1;5;9;101;4;20;1;86400;31;2;499\n"), 11, 2, 11},
+    {"C2-01 9 where 11 was", 4, T(BLOCK_HEADER BLOCK_101 "1;5;3;101;4;20;1;500;31;2;499\n"), 9, 3, 0},
+    {"C2-01 10 where 11 was", 4, T(BLOCK_HEADER "1;5;9;101;4;20;1;500;31;2;499\n"), 10, 2, 3},
     {"A-17 unknown version", 4, T(BLOCK_HEADER "2;5;3;101;4;20;1;500;31;2;500\n"), 10, 2, 3},
     {"A-17 type compared by value", 1, T(V "\n01;00000004;\n1;7;\n"), 0, 0, 0},
     {"10 at column 5", 4, T(BLOCK_HEADER "1;5;3;101;5;99;1;500;99;2;500\n"), 10, 2, 5},
@@ -266,8 +268,9 @@ static const struct slip_edge slip_edges[] = {
     {"semicolons", T("D;1;5;3;101\n"), 12, 1, 0, BLOCK_ROWS},
     {"A-42 fields count from the one behind the kind", T("A\tx\tx\tx\tx\tx\tx\tx\tx\tx\tx\tx\n"), 8, 1, 1, BLOCK_ROWS},
     {"A-42 column 8", T("A\t1\t5\t3\t103\t7\t20\t0\tx\t20\t99\t1\n"), 8, 1, 8, BLOCK_ROWS},
-    {"A: 8 before 11", T("A\t1\t5\t3\t103\t7\t20\t0\t1\t20\t999\t0\n"), 8, 1, 10, BLOCK_ROWS},
-    {"A: 11 before 9", T("A\t1\t5\t3\t101\t7\t20\t0\t1\t20\t99\t0\n"), 11, 1, 11, BLOCK_ROWS},
+    {"A: 8 before 11", T("A\t1\t5\t3\t103\t7\t20\t0\t86400\t20\t999\t0\n"), 8, 1, 10, BLOCK_ROWS},
+    {"A: 11 before 9", T("A\t1\t5\t3\t101\t7\t20\t0\t86400\t20\t99\t0\n"), 11, 1, 11, BLOCK_ROWS},
+    {"C2-01 A: 9 where 11 was", T("A\t1\t5\t3\t101\t7\t20\t0\t1\t20\t99\t0\n"), 9, 1, 0, BLOCK_ROWS},
     {"A: 9 before 10", T("A\t1\t5\t3\t101\t8\t20\t0\t1\t20\t99\t1\n"), 9, 1, 0, BLOCK_ROWS},
     {"A: 10 at column 3 first", T("A\t1\t5\t4\t101\t8\t99\t0\t1\t99\t99\t1\n"), 10, 1, 3, BLOCK_ROWS},
     {"A: 10 at column 5", T("A\t1\t5\t3\t103\t8\t99\t0\t1\t99\t99\t1\n"), 10, 1, 5, BLOCK_ROWS},
@@ -278,7 +281,11 @@ static const struct slip_edge slip_edges[] = {
     {"C1-06 A: 10 at column 10", T("A\t1\t5\t3\t103\t7\t20\t1\t1\t20\t2\t1\n"), 10, 1, 10, BLOCK_ROWS},
     {"C1-06 A: 9 before 10 at column 7", T("A\t1\t5\t3\t101\t7\t20\t0\t1\t20\t1\t1\n"), 9, 1, 0, BLOCK_ROWS},
     {"A: DEP_STOP_NR of 7 digits", T("A\t1\t5\t3\t103\t7\t0000020\t0\t1\t20\t99\t1\n"), 8, 1, 6, BLOCK_ROWS},
-    {"R: 11 before 13", T("R\t1\t5\t3\t103\t7\t20\t0\t1\t20\t99\t0\n"), 11, 1, 11, BLOCK_ROWS},
+    {"R: 11 before 13", T("R\t1\t5\t3\t103\t7\t20\t0\t86400\t20\t99\t0\n"), 11, 1, 11, BLOCK_ROWS},
+    {"C2-01 R: 13 where 11 was", T("R\t1\t5\t3\t103\t7\t20\t0\t1\t20\t99\t0\n"), 13, 1, 0, BLOCK_ROWS},
+    {"C2-03 A and R into the next day",
+        T("A\t1\t5\t3\t103\t7\t20\t1\t86399\t31\t2\t0\nR\t1\t5\t3\t102\t7\t31\t2\t80000\t20\t1\t3600\n"), 0, 0, 0,
+        BLOCK_101 "1;5;3;102;7;31;2;80000;20;1;3600\n1;5;3;103;7;20;1;86399;31;2;0\n" BLOCK_6_101},
     {"R: 13 before 10", T("R\t1\t5\t3\t103\t8\t20\t0\t1\t20\t99\t1\n"), 13, 1, 0, BLOCK_ROWS},
     {"R: unknown version is 13", T("R\t2\t5\t3\t101\t4\t20\t0\t1\t20\t99\t1\n"), 13, 1, 0, BLOCK_ROWS},
     {"A-43 R: 10 at column 5", T("R\t1\t5\t3\t101\t8\t99\t0\t1\t99\t99\t1\n"), 10, 1, 5, BLOCK_ROWS},
@@ -378,7 +385,7 @@ static const struct cell_edge cell_edges[] = {
     {"8 of another cell of the line", T(D "x;3\n"), 2, 2, 2, 0, 0, 0, 1, 3, 0, 0},
     {"blank line", T(D "1;3\n\n"), 2, 3, 1, 7, 3, 0, NOTHING},
     {"last line without line feed", T(D "1;3"), 2, 2, 2, 0, 0, 0, 1, 3, 0, 0},
-    {"END below BEGIN, no reference", T(BLOCK_HEADER "1;5;9;101;9;9;1;500;9;2;499\n"), 4, 2, 11, 0, 0, 0, 1, 499, 0, 0},
+    {"END below BEGIN, no reference", T(BLOCK_HEADER "1;5;9;101;9;9;1;86400;9;2;499\n"), 4, 2, 11, 0, 0, 0, 1, 499, 0, 0},
     {"a text that is asked as another table's", T(S "1;20;a\n"), 2, 2, 1, 2, 1, 2, NOTHING},
 };
 
@@ -1002,6 +1009,88 @@ static void run_book_before_slip(struct run *run)
     tell(run, "slip: 16 before 1", answered(answer, place, 16, 0, 0, 0) && work_is_zero());
 }
 
+/* ---- 2/13: one block by its two times, in a reading, on a slip, in a lent book and in a sum */
+
+struct times {
+    const char *words;
+    uint64_t begin, end;
+    int kept; /* or 11 */
+    uint64_t seconds;
+};
+
+static const struct times times_edges[] = {
+    {"END equal to BEGIN", 500, 500, 1, 0},
+    {"C2-01 END one below BEGIN on one day", 500, 499, 1, 86399},
+    {"C2-01 from 1 to 0", 1, 0, 1, 86399},
+    {"C2-02 from 80,000 to 3,600", 80000, 3600, 1, 10000},
+    {"C2-02 from the last second to the first", 86399, 0, 1, 1},
+    {"C2-02 from 86,399 to 86,398", 86399, 86398, 1, 86399},
+    {"C2-02 from 86,399 to 86,399", 86399, 86399, 1, 0},
+    {"C2-02 from 86,399 to 86,400", 86399, 86400, 1, 1},
+    {"C2-02 from 86,400 to 86,400", 86400, 86400, 1, 0},
+    {"C2-02 from 80,000 to 90,000", 80000, 90000, 1, 10000},
+    {"C2-02 from 0 to 86,399", 0, 86399, 1, 86399},
+    {"C2-02 from 0 to 86,400", 0, 86400, 1, 86400},
+    {"C2-02 from 0 to 999,999", 0, 999999, 1, 999999},
+    {"C2-02 from 86,400 to 86,399", 86400, 86399, 0, 0},
+    {"C2-02 from 86,400 to 0", 86400, 0, 0, 0},
+    {"C2-02 from 86,401 to 86,400", 86401, 86400, 0, 0},
+    {"C2-02 from 90,000 to 80,000", 90000, 80000, 0, 0},
+    {"C2-02 from 999,999 to 999,998", 999999, 999998, 0, 0},
+    {"C2-02 from 999,999 to 0", 999999, 0, 0, 0},
+};
+
+/* Block 101 of the whole case with these times, and this between its numbers. */
+static void put_block(struct growing *text, const struct times *times, const char *between)
+{
+    const uint64_t numbers[NUMBERS] = {1, 5, 3, 101, 4, 20, 1, times->begin, 31, 2, times->end};
+    size_t i;
+
+    for (i = 0; i < NUMBERS; i++) {
+        put(text, i > 0 ? between : "");
+        put_number(text, numbers[i], 0);
+    }
+    put(text, "\n");
+}
+
+static void run_times(struct run *run, const struct times *times)
+{
+    struct growing blocks = {big[VEHICLE_BLOCK], 0};
+    struct growing slip = {big[SLIP], 0};
+    struct text texts[TABLES];
+    uint64_t place[4], answer;
+    uint64_t number = times->kept ? 0 : 11;
+    uint64_t column = number;
+    const char *row_written = (const char *)big[VEHICLE_BLOCK] + strlen(BLOCK_HEADER);
+    int good;
+
+    memcpy(texts, whole_case, sizeof texts);
+    put(&blocks, BLOCK_HEADER);
+    put_block(&blocks, times, ";");
+    texts[part_of(VEHICLE_BLOCK)] = done(&blocks);
+    answer = read_into_book(run->side, texts, place);
+    good = answered(answer, place, number, 4, number ? 2 : 0, column);
+    big[VEHICLE_BLOCK][blocks.length] = 0;
+    if (times->kept) /* C2-03: the numbers are written as they were delivered */
+        good = good && type_is(run->side, 1, 4, 0, times->seconds, 1) && writes(run->side, row_written);
+    else
+        good = good && book_is(zeros);
+    tell(run, times->words, good);
+
+    read_into_book(run->side, whole_case, place);
+    put(&slip, "R\t");
+    put_block(&slip, times, "\t");
+    answer = slip_on_book(run->side, done(&slip), place);
+    good = answered(answer, place, number, 5, number ? 1 : 0, column) && work_is_zero();
+    /* block 6/101 of the same type has 10,000, block 101 as it was 28,800 */
+    tell(run, times->words, good && type_is(run->side, 1, 4, 0, 10000 + (times->kept ? times->seconds : 28800), 2));
+
+    read_into_book(run->side, whole_case, place);
+    book[BLOCKS_AT][7] = times->begin;
+    book[BLOCKS_AT][10] = times->end;
+    tell(run, times->words, book_is_kept(run->side, times->kept));
+}
+
 #define COUNT(list) (sizeof(list) / sizeof(list)[0])
 
 void edges_run(const struct side *side, size_t *passed, size_t *failed)
@@ -1019,6 +1108,8 @@ void edges_run(const struct side *side, size_t *passed, size_t *failed)
         run_poke(&run, &pokes[i]);
     for (i = 0; i < COUNT(further_points); i++)
         run_further_point(&run, &further_points[i]);
+    for (i = 0; i < COUNT(times_edges); i++)
+        run_times(&run, &times_edges[i]);
     run_long_tables(&run);
     run_long_texts(&run);
     run_full_book(&run);

@@ -345,10 +345,26 @@ static unsigned kept_numbers(unsigned t)
 
 /* ---- What holds between a row's numbers, and between the row and the book */
 
-/* "11 | END below BEGIN" */
-static int end_below_begin(const uint64_t block[NUMBERS])
+enum { DAY = 86400 };
+
+/* 2/13: "where both times are below 86,400 and the end is lower, the block runs into the next day" */
+static int runs_into_next_day(const uint64_t block[NUMBERS])
 {
-    return block[B_END] < block[B_BEGIN];
+    return block[B_BEGIN] < DAY && block[B_END] < DAY && block[B_END] < block[B_BEGIN];
+}
+
+/* "11 | END below BEGIN". 2/13: "11 stays for an end below its begin where either is 86,400 or more." */
+static int ends_early(const uint64_t block[NUMBERS])
+{
+    return block[B_END] < block[B_BEGIN] && (block[B_BEGIN] >= DAY || block[B_END] >= DAY);
+}
+
+/* "Seconds of a block: END minus BEGIN." 2/13: one that runs into the next day "has end plus 86,400 minus begin seconds". */
+static uint64_t seconds_of(const uint64_t block[NUMBERS])
+{
+    if (runs_into_next_day(block))
+        return block[B_END] + DAY - block[B_BEGIN];
+    return block[B_END] - block[B_BEGIN];
 }
 
 static int refers(rows_in book, unsigned t, uint64_t version, uint64_t number)
@@ -465,7 +481,7 @@ static uint64_t read_row(unsigned t, const uint8_t *text, struct line line, uint
     if (column)
         return refuse(place, 8, t, line_number, column);
     /* "11 | END below BEGIN | line, 11" */
-    if (t == VEHICLE_BLOCK && end_below_begin(numbers))
+    if (t == VEHICLE_BLOCK && ends_early(numbers))
         return refuse(place, 11, t, line_number, 11);
     /* "9 | key stands in an earlier row": the rows so far are the earlier ones, and their keys are numbers. */
     if (find((rows_in)rows, numbers, table->key_width) < ROWS)
@@ -587,7 +603,7 @@ static int keeps_book_rule(rows_in book)
             return 0;
         n = used(rows);
         for (i = 0; i < n; i++)
-            if ((t == VEHICLE_BLOCK && end_below_begin(rows[i])) || lost_reference(book, t, rows[i]))
+            if ((t == VEHICLE_BLOCK && ends_early(rows[i])) || lost_reference(book, t, rows[i]))
                 return 0;
     }
     return 1;
@@ -692,8 +708,7 @@ uint64_t second_type(const uint64_t (*book)[11], size_t rows, uint64_t version, 
     for (i = 0; i < n; i++) {
         if (blocks[i][B_VERSION] != version || blocks[i][B_TYPE] != number)
             continue;
-        /* "Seconds of a block: END minus BEGIN." */
-        answer[0] += blocks[i][B_END] - blocks[i][B_BEGIN];
+        answer[0] += seconds_of(blocks[i]);
         answer[1] += 1;
     }
     return accept(place);
@@ -823,7 +838,7 @@ static uint64_t take_slip_line(const uint8_t *slip, struct line line, uint64_t l
     column = take_fields(slip, fields, count, numbers);
     if (column)
         return refuse(place, 8, SLIP, line_number, column);
-    if (kind != 'D' && end_below_begin(numbers))
+    if (kind != 'D' && ends_early(numbers))
         return refuse(place, 11, SLIP, line_number, 11);
     at = find((rows_in)blocks, numbers, 4);
     /* "9 | key stands in an earlier row (A: in the book)" */

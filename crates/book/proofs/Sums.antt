@@ -1,4 +1,4 @@
--- What the blocks of a type weigh together, block by block, and the bound of each block's times. Assumes nothing.
+-- What the blocks of a type weigh together, block by block, and the bound of each block's seconds. Assumes nothing.
 use mathlib.Core.Path.{_≡_}
 use mathlib.Core.List.{List, [], _∷_}
 use mathlib.Core.Bool.{Bool, true, false, _&&_, not}
@@ -9,7 +9,7 @@ use native.Mathlib.Nat.{mul-suc}
 use lib.Dec.{leb, eqb}
 use lib.ListN.{length, take, drop, getD, drop-of-length-le}
 use lib.Seq.{getD-take}
-use borrow.Author.Tests.{eq-eqb, ne-eqb, leb-true, ltb-false, not-true}
+use borrow.Author.Tests.{eq-eqb, ne-eqb, leb-true}
 use Rattle.words.specs.Words.{Row, if_then_else_, same}
 use Rattle.words.proofs.Lists.{drop-step, and-left, and-right}
 use Rattle.refusals.specs.Verdicts.{passes}
@@ -20,10 +20,11 @@ use Rattle.tables.proofs.Figures.{kept-columns}
 use Rattle.rows.specs.Rows.{wide}
 use Rattle.book.specs.Book.{Book}
 use Rattle.book.specs.Rules.{timeFault, unknown}
-use Rattle.book.specs.Questions.{ofType, total}
+use Rattle.book.specs.Questions.{seconds, ofType, total}
 use Rattle.book.specs.Room.{bookOf}
 use Rattle.book.specs.Keeping.{ranged, lawful, keepsRule}
 use Rattle.book.proofs.Keeping.{keeps-row}
+use Rattle.book.proofs.Timing.{seconds-most}
 
 -- a lawful row ----------------------------------------------------------------------------------------------------------------------
 
@@ -51,16 +52,13 @@ module _ (t : Table) (b : Book) (row : Row) (law : lawful t b row ≡ true) wher
       let e : inRanges ≡ true = and-right rest inRanges (and-left (rest && inRanges) (not (timeFault t row)) three) in
       rw (getD-take (keptWidth t) row i 0 h) at (ranged-high (columnsOf t) (take (keptWidth t) row) e i (omega (arith, kept-columns t)))
 
-  pub lawful-timely : timeFault t row ≡ false
-  lawful-timely = not-true (timeFault t row) (and-right (rest && inRanges) (not (timeFault t row)) three)
-
--- "END below BEGIN" is refused, and END has six digits
-pub block-times : (xs : List Row) → keepsRule xs ≡ true → (i : ℕ) (row : Row) → i < length (bookOf xs .blocks) → row ≡ getD (bookOf xs .blocks) i []
-    → (getD row 7 0 ≤ getD row 10 0) × (getD row 10 0 ≤ 999999)
+-- END has six digits, and a block that runs into the next day is shorter than a day
+pub block-seconds : (xs : List Row) → keepsRule xs ≡ true → (i : ℕ) (row : Row) → i < length (bookOf xs .blocks) → row ≡ getD (bookOf xs .blocks) i []
+    → seconds row ≤ 999999
 unfolding columnsOf
-block-times xs k i row h e =
+block-seconds xs k i row h e =
     let law : lawful Block (bookOf xs) row ≡ true = rw e (keeps-row xs k Block i h) in
-    (ltb-false (getD row 10 0) (getD row 7 0) (lawful-timely Block (bookOf xs) row law), lawful-high Block (bookOf xs) row law 10 (omega arith))
+    seconds-most row 999999 (omega arith) (lawful-high Block (bookOf xs) row law 10 (omega arith))
 
 -- sums ---------------------------------------------------------------------------------------------------------------------------------
 

@@ -5,10 +5,11 @@ use Prim.Native.Nat.{ℕ, zero, suc, _+_, _-_}
 use lib.Dec.{eqb}
 use Rattle.words.specs.Words.{Row, if_then_else_}
 use Rattle.rows.specs.Rows.{column}
+use Rattle.book.specs.Rules.{day, overnight}
 
--- "Seconds of a block: END minus BEGIN."
+-- "Seconds of a block: END minus BEGIN."; of one that runs into the next day "end plus 86,400 minus begin seconds"
 abbrev pub seconds : Row → ℕ
-seconds row = column 11 row - column 8 row
+seconds row = if overnight row then column 11 row + day - column 8 row else column 11 row - column 8 row
 
 -- a block of this type: its VEH_TYP_NR together with its VERSION
 abbrev pub ofType : ℕ → ℕ → Row → Bool

@@ -1,6 +1,6 @@
 -- The rules that a row meets in its book.
 use mathlib.Core.List.{List, [], _∷_}
-use mathlib.Core.Bool.{Bool, true, false, not}
+use mathlib.Core.Bool.{Bool, true, false, _&&_, not}
 use Prim.Native.Nat.{ℕ, _-_}
 use lib.Dec.{ltb}
 use Rattle.words.specs.Words.{Row}
@@ -14,13 +14,29 @@ use Rattle.tables.specs.declared.Reference.{Reference}
 use Rattle.rows.specs.Rows.{column}
 use Rattle.book.specs.Book.{Book, knows}
 
--- 11: "END below BEGIN"
+-- the seconds of a day
+abbrev pub day : ℕ
+day = 86400
+
+-- "both times are below 86,400"
+abbrev pub withinDay : Row → Bool
+withinDay row = ltb (column 8 row) day && ltb (column 11 row) day
+
+-- "the end is lower", "an end below its begin"
+abbrev pub endsLower : Row → Bool
+endsLower row = ltb (column 11 row) (column 8 row)
+
+-- "where both times are below 86,400 and the end is lower, the block runs into the next day"
+abbrev pub overnight : Row → Bool
+overnight row = withinDay row && endsLower row
+
+-- 11: "for an end below its begin where either is 86,400 or more", that is where not both are below
 abbrev pub timeFault : Table → Row → Bool
 timeFault VehicleType row = false
 timeFault Depot row = false
 timeFault Stop row = false
 timeFault StopPoint row = false
-timeFault Block row = ltb (column 11 row) (column 8 row)
+timeFault Block row = endsLower row && not (withinDay row)
 
 -- the key that column k names in a table: "each together with VERSION"; of a stop point its stop's number stands one column before
 abbrev pub named : Table → ℕ → Row → Row

@@ -11,8 +11,8 @@ ghost use Rattle.rows.specs.Rows.{wide, column, found, rising};
 ghost use Rattle.rows.specs.Room.{holds, rowOf, spot};
 ghost use Rattle.rows.specs.Shelf.{shelved, Shelf};
 ghost use Rattle.book.specs.Book.{empty, rows, knows};
-ghost use Rattle.book.specs.Rules.{timeFault, named, finds, unknown};
-ghost use Rattle.book.specs.Questions.{ofType, secondsOf, countOf, seven};
+ghost use Rattle.book.specs.Rules.{withinDay, overnight, timeFault, named, finds, unknown};
+ghost use Rattle.book.specs.Questions.{seconds, ofType, secondsOf, countOf, seven};
 ghost use Rattle.book.specs.Room.{laid, part, bookOf, Sound};
 ghost use Rattle.book.specs.Keeping.{ranged, lawful, all, pointsNamed, Referable, keepsRule};
 ghost use Rattle.book.specs.Shelving.{shelfBook, OnShelf, Entered};
@@ -96,6 +96,39 @@ pub fn row_at(book: &[Row], t: Table, i: usize) -> Row
     book[from + i]
 }
 
+// The seconds of a day.
+const DAY: u64 = 86400;
+
+// Whether both times of a block are below 86,400.
+fn within_day(row: Row) -> bool
+    ensures { λ r. ⌜ r ≡ withinDay row ⌝ }
+{
+    if row[7] >= DAY {
+        return false;
+    }
+    row[10] < DAY
+}
+
+// Whether a block runs into the next day.
+fn overnight(row: Row) -> bool
+    ensures { λ r. ⌜ r ≡ overnight row ⌝ }
+{
+    if !within_day(row) {
+        return false;
+    }
+    row[10] < row[7]
+}
+
+// 11 of a block.
+fn ends_early(row: Row) -> bool
+    ensures { λ r. ⌜ r ≡ timeFault Table.Block row ⌝ }
+{
+    if row[10] >= row[7] {
+        return false;
+    }
+    !within_day(row)
+}
+
 // 11. Only a block has times.
 pub fn time_fault(t: Table, row: Row) -> bool
     ensures { λ r. ⌜ r ≡ timeFault t row ⌝ }
@@ -105,7 +138,7 @@ pub fn time_fault(t: Table, row: Row) -> bool
         Table::Depot => false,
         Table::Stop => false,
         Table::StopPoint => false,
-        Table::Block => row[10] < row[7],
+        Table::Block => ends_early(row),
     }
 }
 
@@ -434,6 +467,19 @@ fn share(here: bool, weight: u64) -> u64
     if here { weight } else { 0 }
 }
 
+// The seconds of a block. As in the definition, nothing is asked of the row: an end below its begin that is 11 leaves 0.
+fn seconds_of(row: Row) -> u64
+    ensures { λ r. ⌜ r ≡ seconds row ⌝ }
+{
+    if overnight(row) {
+        return row[10] + DAY - row[7];
+    }
+    if row[10] < row[7] {
+        return 0;
+    }
+    row[10] - row[7]
+}
+
 // Seconds and count of a type's blocks, summed up anew for each question.
 pub fn blocks_summed(book: &[Row], version: u64, number: u64) -> Totals
     requires { ⌜ keepsRule (now book) ≡ true ⌝ }
@@ -446,7 +492,7 @@ pub fn blocks_summed(book: &[Row], version: u64, number: u64) -> Totals
     'blocks: while i < n {
         let row = row_at(book, Table::Block, i);
         let here = of_type(row, version, number);
-        seconds += share(here, row[10] - row[7]);
+        seconds += share(here, seconds_of(row));
         count += share(here, 1);
         i += 1;
     }

@@ -62,9 +62,13 @@ cases =
     -- "ACCESS_EQUIP 2 passes, 3 is 8."
     cell 1 11 (equip "2") (0 ∷ 0 ∷ 0 ∷ 0 ∷ 1 ∷ 2 ∷ 0 ∷ 0 ∷ []) ∷
     cell 1 11 (equip "3") (8 ∷ 1 ∷ 2 ∷ 11 ∷ 0 ∷ 0 ∷ 0 ∷ 0 ∷ []) ∷
-    -- "END equal to BEGIN gives 0 seconds; one below is 11."
+    -- "END equal to BEGIN gives 0 seconds; one below is 11": since request 2/13 where either time is 86,400 or more
     block "20" "500" "500" "T\t1\t4\t0\t1\nS\t1\t1\n" ∷
-    block "20" "500" "499" "X\t11\t4\t2\t11\n" ∷
+    block "20" "86400" "86399" "X\t11\t4\t2\t11\n" ∷
+    -- 2/13: "end plus 86,400 minus begin seconds", one below, at the ends of the day, and "Begin 80,000 and end 3,600 gives 10,000."
+    block "20" "500" "499" "T\t1\t4\t86399\t1\nS\t1\t1\n" ∷
+    block "20" "86399" "0" "T\t1\t4\t1\t1\nS\t1\t1\n" ∷
+    block "20" "80000" "3600" "T\t1\t4\t10000\t1\nS\t1\t1\n" ∷
     -- "STOP_NR 0 is 8, column 2."
     day (d2 "1") "VERSION;DEPOT_NR\n" "VERSION;STOP_NR;STOP_NAME\n1;0;Yard\n" "" "" "X\t8\t3\t2\t2\n" ∷
     -- "DEP_STOP_NR 100000 is well formed and then 10, column 6."

@@ -856,14 +856,39 @@ fn point_references() {
 // The rules of a block: 11, 9, 10.
 fn times_and_keys() {
     block_rows(b"end equal to begin", b"1;5;3;101;4;20;1;500;31;2;500\n");
-    block_rows(b"end one below begin", b"1;5;3;101;4;20;1;500;31;2;499\n");
+    block_rows(
+        b"end one below begin",
+        b"1;5;3;101;4;20;1;86400;31;2;86399\n",
+    );
     block_rows(
         b"11 before 9 and 10",
-        b"1;5;3;101;4;20;1;500;31;2;500\n1;5;3;101;9;20;1;500;31;2;499\n",
+        b"1;5;3;101;4;20;1;500;31;2;500\n1;5;3;101;9;20;1;86400;31;2;86399\n",
     );
     block_rows(
         b"9 before 10",
         b"1;5;3;101;4;20;1;500;31;2;500\n1;5;3;101;9;20;1;500;31;2;500\n",
+    );
+}
+
+// An end below its begin: on the next day where both are below 86,400, otherwise 11. The book keeps the numbers as they came.
+fn past_midnight() {
+    block_rows(
+        b"end one below begin, both below 86,400",
+        b"1;5;3;101;4;20;1;500;31;2;499\n",
+    );
+    block_rows(
+        b"from 80,000 to 3,600",
+        b"1;5;3;101;4;20;1;80000;31;2;3600\n",
+    );
+    block_rows(b"from 86,399 to 0", b"1;5;3;101;4;20;1;86399;31;2;0\n");
+    block_rows(b"from 86,400 to 0", b"1;5;3;101;4;20;1;86400;31;2;0\n");
+    block_rows(
+        b"from 86,401 to 86,400",
+        b"1;5;3;101;4;20;1;86401;31;2;86400\n",
+    );
+    block_rows(
+        b"from 86,399 to 86,400",
+        b"1;5;3;101;4;20;1;86399;31;2;86400\n",
     );
 }
 
@@ -939,7 +964,7 @@ fn order_of_references() {
         b"1;5;3;101;4;20;1;500;32;9;500\n",
     );
     block_rows(b"8 before a point", b"1;5;3;101;4;20;9;500;31;2;x\n");
-    block_rows(b"11 before a point", b"1;5;3;101;4;20;9;500;31;2;499\n");
+    block_rows(b"11 before a point", b"1;5;3;101;4;20;9;86400;31;2;86399\n");
     block_rows(
         b"9 before a point",
         b"1;5;3;101;4;20;1;500;31;2;500\n1;5;3;101;4;20;1;500;31;9;500\n",
@@ -947,9 +972,9 @@ fn order_of_references() {
 }
 
 fn order_of_block_rules() {
-    block_rows(b"8 before 11", b"1;5;3;101;4;20;100;500;31;2;499\n");
+    block_rows(b"8 before 11", b"1;5;3;101;4;20;100;86400;31;2;86399\n");
     block_rows(b"8 before 10", b"1;5;4;101;4;20;1;500;31;2;x\n");
-    block_rows(b"7 before 11", b"1;5;3;101;4;20;1;500;31;2;499;\n");
+    block_rows(b"7 before 11", b"1;5;3;101;4;20;1;86400;31;2;86399;\n");
     block_rows(
         b"an earlier line's 10 before a later line's 8",
         b"1;5;3;101;4;20;1;500;32;2;500\nx;5;3;101;4;20;1;500;31;2;500\n",
@@ -1360,6 +1385,7 @@ fn main() {
     point_keys();
     point_references();
     times_and_keys();
+    past_midnight();
     references();
     point_references_of_blocks();
     order_of_references();

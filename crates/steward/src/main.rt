@@ -102,7 +102,7 @@ fn meaning(refusal: u64, column: u64) {
         ),
         9 => say(b"the key of this row stands in an earlier row"),
         10 => unknown_row(column),
-        11 => say(b"the block ends before it begins"),
+        11 => say(b"the block ends before it begins, and one of its two times is 86,400 or more"),
         _ => say(b"the book was lent at another length"),
     }
 }

@@ -4,9 +4,10 @@ use Rattle.book.proofs.Sums as sums
 use Rattle.book.specs.Questions as questions
 use lib.ListN.{length}
 use Rattle.book.specs.Room.{bookOf}
-use Prim.Native.Nat.{_-_, _≤_, _<_}
+use Prim.Native.Nat.{ℕ, _-_, _≤_, _<_}
 use native.Mathlib.Omega.{arith}
-use mathlib.Core.Path.{_≡_}
+use mathlib.Core.Path.{_≡_, ap, _∙_}
+use Rattle.words.specs.Words.{if_then_else_}
 use borrow.Author.Needs.{needs}
 use Rattle.book.proofs.blocks_summed.Statement.{statement}
 use Rattle.book.proofs.blocks_summed.Tie as tie
@@ -38,44 +39,14 @@ row-at-requires c κs = (keeps-sound (c .before .before .before .args .book .now
 of-type-requires : tie.Need-of-type-requires Inv-blocks2 μ-blocks2
 of-type-requires c κs = search needs
 
-array-read-share : tie.Need-array-read-share Inv-blocks2 μ-blocks2
-array-read-share c = search needs
-
-array-read-share-2 : tie.Need-array-read-share-2 Inv-blocks2 μ-blocks2
-array-read-share-2 c = search needs
-
-sub-share : tie.Need-sub-share Inv-blocks2 μ-blocks2
-sub-share c =
-    let ty = c in
-    let at = ty .before .before .before in
-    let st = at .before .before in
-    let row = ty .before .row-at in
-    let xs = st .args .book .now in
-    let i = at .blocks2 .i in
-    let more : i < length (bookOf xs .blocks) = omega (arith, at .blocks2 .inv .1, ty .before .before .blocks2-test .taken) in
-    let times = sums.block-times xs (st .pre) i (row .result) more (row .ensures) in
-    omega (arith, times .0)
+seconds-of-requires : tie.Need-seconds-of-requires Inv-blocks2 μ-blocks2
+seconds-of-requires c κs = search needs
 
 share-requires : tie.Need-share-requires Inv-blocks2 μ-blocks2
 share-requires c κs = search needs
 
 add-seconds : tie.Need-add-seconds Inv-blocks2 μ-blocks2
 add-seconds c =
-    let ty = c .before in
-    let at = ty .before .before .before in
-    let st = at .before .before in
-    let row = ty .before .row-at in
-    let xs = st .args .book .now in
-    let i = at .blocks2 .i in
-    let more : i < length (bookOf xs .blocks) = omega (arith, at .blocks2 .inv .1, ty .before .before .blocks2-test .taken) in
-    let times = sums.block-times xs (st .pre) i (row .result) more (row .ensures) in
-    omega (arith, at .blocks2 .inv .0, at .blocks2 .inv .2, sums.summed-next questions.seconds (st .args .version) (st .args .number) (bookOf xs .blocks) 999999 i (at .blocks2 .seconds) (at .blocks2 .inv .3) more (row .result) (row .ensures) (ty .of-type .result) (ty .of-type .ensures) (c .share .result) (c .share .ensures) (omega (arith, times .1)) .bound)
-
-share-requires-2 : tie.Need-share-requires-2 Inv-blocks2 μ-blocks2
-share-requires-2 c κs = search needs
-
-add-count : tie.Need-add-count Inv-blocks2 μ-blocks2
-add-count c =
     let ty = c .before .before in
     let at = ty .before .before .before in
     let st = at .before .before in
@@ -83,7 +54,21 @@ add-count c =
     let xs = st .args .book .now in
     let i = at .blocks2 .i in
     let more : i < length (bookOf xs .blocks) = omega (arith, at .blocks2 .inv .1, ty .before .before .blocks2-test .taken) in
-    let times = sums.block-times xs (st .pre) i (row .result) more (row .ensures) in
+    let most = sums.block-seconds xs (st .pre) i (row .result) more (row .ensures) in
+    omega (arith, at .blocks2 .inv .0, at .blocks2 .inv .2, sums.summed-next questions.seconds (st .args .version) (st .args .number) (bookOf xs .blocks) 999999 i (at .blocks2 .seconds) (at .blocks2 .inv .3) more (row .result) (row .ensures) (ty .of-type .result) (ty .of-type .ensures) (c .share .result) (c .share .ensures ∙ ap (λ (w : ℕ). if ty .of-type .result then w else 0) (c .before .seconds-of .ensures)) most .bound)
+
+share-requires-2 : tie.Need-share-requires-2 Inv-blocks2 μ-blocks2
+share-requires-2 c κs = search needs
+
+add-count : tie.Need-add-count Inv-blocks2 μ-blocks2
+add-count c =
+    let ty = c .before .before .before in
+    let at = ty .before .before .before in
+    let st = at .before .before in
+    let row = ty .before .row-at in
+    let xs = st .args .book .now in
+    let i = at .blocks2 .i in
+    let more : i < length (bookOf xs .blocks) = omega (arith, at .blocks2 .inv .1, ty .before .before .blocks2-test .taken) in
     omega (arith, at .blocks2 .inv .0, at .blocks2 .inv .2, sums.summed-next (λ x. 1) (st .args .version) (st .args .number) (bookOf xs .blocks) 1 i (at .blocks2 .count) (at .blocks2 .inv .4) more (row .result) (row .ensures) (ty .of-type .result) (ty .of-type .ensures) (c .share2 .result) (c .share2 .ensures) (omega arith) .bound)
 
 add-i : tie.Need-add-i Inv-blocks2 μ-blocks2
@@ -94,18 +79,18 @@ blocks2-less c = search needs
 
 blocks2-again : tie.Need-blocks2-again Inv-blocks2 μ-blocks2
 blocks2-again c =
-    let ty = c .before .before in
+    let ty = c .before .before .before in
     let at = ty .before .before .before in
     let st = at .before .before in
     let row = ty .before .row-at in
     let xs = st .args .book .now in
     let i = at .blocks2 .i in
     let more : i < length (bookOf xs .blocks) = omega (arith, at .blocks2 .inv .1, ty .before .before .blocks2-test .taken) in
-    let times = sums.block-times xs (st .pre) i (row .result) more (row .ensures) in (
+    let most = sums.block-seconds xs (st .pre) i (row .result) more (row .ensures) in (
       omega arith,
       at .blocks2 .inv .1,
       at .blocks2 .inv .2,
-      sums.summed-next questions.seconds (st .args .version) (st .args .number) (bookOf xs .blocks) 999999 i (at .blocks2 .seconds) (at .blocks2 .inv .3) more (row .result) (row .ensures) (ty .of-type .result) (ty .of-type .ensures) (c .before .share .result) (c .before .share .ensures) (omega (arith, times .1)),
+      sums.summed-next questions.seconds (st .args .version) (st .args .number) (bookOf xs .blocks) 999999 i (at .blocks2 .seconds) (at .blocks2 .inv .3) more (row .result) (row .ensures) (ty .of-type .result) (ty .of-type .ensures) (c .before .share .result) (c .before .share .ensures ∙ ap (λ (w : ℕ). if ty .of-type .result then w else 0) (c .before .before .seconds-of .ensures)) most,
       sums.summed-next (λ x. 1) (st .args .version) (st .args .number) (bookOf xs .blocks) 1 i (at .blocks2 .count) (at .blocks2 .inv .4) more (row .result) (row .ensures) (ty .of-type .result) (ty .of-type .ensures) (c .share2 .result) (c .share2 .ensures) (omega arith),
     )
 
@@ -129,9 +114,7 @@ blocks-summed-spec =
     blocks2-holds
     row-at-requires
     of-type-requires
-    array-read-share
-    array-read-share-2
-    sub-share
+    seconds-of-requires
     share-requires
     add-seconds
     share-requires-2

@@ -18,11 +18,8 @@ enum-told-4 c = search needs
 enum-told-5 : tie.Need-enum-told-5
 enum-told-5 c = search needs
 
-array-read-result : tie.Need-array-read-result
-array-read-result c = search needs
-
-array-read-result-2 : tie.Need-array-read-result-2
-array-read-result-2 c = search needs
+ends-early-requires : tie.Need-ends-early-requires
+ends-early-requires c κs = search needs
 
 returns : tie.Need-returns
 returns c = search needs
@@ -37,7 +34,7 @@ returns-4 : tie.Need-returns-4
 returns-4 c = search needs
 
 returns-5 : tie.Need-returns-5
-returns-5 c = rw (c .enum-told5 .given .1)
+returns-5 c = rw (c .before .enum-told5 .given .1) (c .ends-early .ensures)
 
 pub time-fault-spec : {M : Type 1} → statement M
 time-fault-spec =
@@ -48,8 +45,7 @@ time-fault-spec =
     enum-told-3
     enum-told-4
     enum-told-5
-    array-read-result
-    array-read-result-2
+    ends-early-requires
     returns
     returns-2
     returns-3
