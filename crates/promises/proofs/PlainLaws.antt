@@ -15,6 +15,7 @@ use Rattle.refusals.specs.declared.Check.the-variants.{Passes}
 use Rattle.text.specs.Numbers.{value, decimal, isDecimal}
 use Rattle.text.specs.Cells.{cut, cells, content, cellsOf}
 use Rattle.text.specs.Fields.{parted}
+use Rattle.text.proofs.Writing.{read-back, decimal-digits, digits-content, decimal-width}
 use Rattle.tables.specs.Columns.{Column, columnsOf, keptWidth, inRange, fits, breaks}
 use Rattle.tables.specs.declared.Table.{Table}
 use Rattle.tables.specs.declared.Table.the-variants.{VehicleType, Depot, Stop, StopPoint, Block}
@@ -34,7 +35,7 @@ use Rattle.words.proofs.Lists.{and-left, and-right}
 use Rattle.promises.proofs.TestLaws.{both, unfailed}
 use Rattle.promises.proofs.CutLaws.{EachPlain, AllPlain, cut-parted}
 use Rattle.promises.proofs.LineLaws.{Unbroken, EachUnbroken, unbroken-append, unbrokenTest, tested}
-use Rattle.promises.proofs.NumberLaws.{read-back, decimal-digits, digits-plain, digits-content, digits-unbroken, decimal-width, cell-good}
+use Rattle.promises.proofs.NumberLaws.{digits-plain, digits-unbroken, cell-good}
 
 -- the form ----------------------------------------------------------------------------------------------------------------
 

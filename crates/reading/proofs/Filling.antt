@@ -2,7 +2,7 @@
 use mathlib.Core.Path.{_≡_, refl, ap, sym, _∙_}
 use mathlib.Core.List.{List, [], _∷_, _++_, map}
 use mathlib.Core.Bool.{Bool, true, false}
-use Prim.Native.Nat.{ℕ, zero, suc, _+_, _-_, _^_, _≤_, _<_}
+use Prim.Native.Nat.{ℕ, zero, suc, _+_, _≤_, _<_}
 use native.Mathlib.Omega.{arith}
 use native.Mathlib.Numerals.{add-one}
 use lib.Dec.{ltb}
@@ -16,14 +16,14 @@ use Rattle.refusals.specs.declared.Check.the-variants.{Passes, Fails}
 use Rattle.text.specs.Cells.{cut, cellsOf, content}
 use Rattle.text.specs.Numbers.{value}
 use Rattle.text.specs.Marks.{padded}
-use Rattle.text.proofs.Marking.{padded-more, length-padded}
+use Rattle.text.proofs.Marking.{padded-more}
 use Rattle.tables.specs.declared.Table.{Table}
 use Rattle.tables.specs.declared.Value.{Value}
 use Rattle.tables.specs.declared.Value.the-variants.{Number}
 use Rattle.tables.specs.Values.{cellCheck, valueOf, checkOf}
-use Rattle.tables.specs.Columns.{columnsOf, columnAt, keptWidth, inRange, breaks}
+use Rattle.tables.specs.Columns.{columnsOf, columnAt, keptWidth, breaks}
 use Rattle.tables.proofs.Figures.{kept-columns, kept-few, keys-some, keys-kept, version-low, kept-decimal, kept-required}
-use Rattle.tables.proofs.Values.{check-of-value, number-from, kept-value, kept-range, kept-small}
+use Rattle.tables.proofs.Values.{check-of-value, number-from, kept-value}
 use Rattle.rows.specs.Rows.{wide, column}
 use Rattle.reading.specs.Header.{Header, cutCheck, contents}
 use Rattle.reading.specs.Reading.{badCell, rowOf, rowRead}
@@ -130,39 +130,23 @@ row-number t ss i h l =
     values-at (x ∷ xs) zero g = refl
     values-at (x ∷ xs) (suc j) g = values-at xs j (omega arith)
 
-module _ (t : Table) (h : Header) (line : Bytes) where
-  -- the row of any line has 11 numbers
-  pub row-length : length (rowRead t h line) ≡ 11
-  row-length =
-      let ss = contents t h (cellsOf (cut line)) in
-      let n : length (contents t h (cellsOf (cut line))) ≡ length (columnsOf t) = contents-length 1 (columnsOf t) h (cellsOf (cut line)) in
-      let m : length (map value (take (keptWidth t) ss)) ≡ keptWidth t = length-map (take (keptWidth t) ss) value ∙ length-take-le (keptWidth t) ss (omega (arith, kept-columns t)) in
-      rw (wide-padded (map value (take (keptWidth t) ss)) (omega (arith, kept-few t))) (length-padded 11 (map value (take (keptWidth t) ss)))
+module _ (t : Table) (h : Header) (line : Bytes) (e : cellsCheck t h line ≡ Passes) where
+  module _ (i : ℕ) (l : i < keptWidth t) where
+    abbrev there : Bytes
+    there = getD (contents t h (cellsOf (cut line))) i []
 
-  module _ (e : cellsCheck t h line ≡ Passes) where
-    module _ (i : ℕ) (l : i < keptWidth t) where
-      abbrev there : Bytes
-      there = getD (contents t h (cellsOf (cut line))) i []
+    number-there : getD (rowRead t h line) i 0 ≡ value there
+    number-there = row-number t (contents t h (cellsOf (cut line))) i l (omega (arith, contents-length 1 (columnsOf t) h (cellsOf (cut line)), kept-columns t))
 
-      number-there : getD (rowRead t h line) i 0 ≡ value there
-      number-there = row-number t (contents t h (cellsOf (cut line))) i l (omega (arith, contents-length 1 (columnsOf t) h (cellsOf (cut line)), kept-columns t))
+    keeps : breaks (columnAt t i .rules) there ≡ false
+    keeps = all-kept 1 (columnsOf t) (contents t h (cellsOf (cut line))) e i (omega (arith, kept-columns t)) (omega (arith, contents-length 1 (columnsOf t) h (cellsOf (cut line)), kept-columns t))
 
-      keeps : breaks (columnAt t i .rules) there ≡ false
-      keeps = all-kept 1 (columnsOf t) (contents t h (cellsOf (cut line))) e i (omega (arith, kept-columns t)) (omega (arith, contents-length 1 (columnsOf t) h (cellsOf (cut line)), kept-columns t))
+    row-low : columnAt t i .rules .low ≤ getD (rowRead t h line) i 0
+    row-low = rw number-there (number-from (columnAt t i .rules) there (kept-decimal t i l) (kept-required t i l) keeps)
 
-      -- each kept number is in its column's range
-      pub row-range : inRange (columnAt t i .rules) (getD (rowRead t h line) i 0) ≡ true
-      row-range = rw number-there (kept-range t i l there keeps)
-
-      pub row-small : getD (rowRead t h line) i 0 < 10 ^ 9
-      row-small = rw number-there (kept-small t i l there keeps)
-
-      pub row-low : columnAt t i .rules .low ≤ getD (rowRead t h line) i 0
-      row-low = rw number-there (number-from (columnAt t i .rules) there (kept-decimal t i l) (kept-required t i l) keeps)
-
-    -- VERSION is at least 1
-    pub row-version : 1 ≤ column 1 (rowRead t h line)
-    row-version = rw (version-low t) at (row-low 0 (omega (arith, keys-some t, keys-kept t)))
+  -- VERSION is at least 1
+  pub row-version : 1 ≤ column 1 (rowRead t h line)
+  row-version = rw (version-low t) at (row-low 0 (omega (arith, keys-some t, keys-kept t)))
 
 -- what is read of a line that passes
 rowed-passes : (c : Check) (row : Row) → rowed c row .check ≡ Passes → c ≡ Passes

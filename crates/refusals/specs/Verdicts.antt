@@ -53,7 +53,7 @@ keyStands = Fails 9 0
 abbrev pub noRow : ℕ → Check
 noRow column = Fails 10 column
 
--- "END below BEGIN", at column 11
+-- "an end below its begin where either is 86,400 or more", at column 11
 abbrev pub endsEarly : Check
 endsEarly = Fails 11 11
 

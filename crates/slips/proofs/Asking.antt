@@ -106,19 +106,16 @@ wish-size (f ∷ fs) v e known = sized (letter f) (length fs) v e known
 -- rows with zeros behind their numbers -----------------------------------------------------------------------------------------
 
 module _ (ns : List ℕ) where
-  abbrev padding : ℕ
-  padding = 11 - length ns
-
   pub time-wide : timeFault Block (wide ns) ≡ timeFault Block ns
-  time-wide = rw (getD-padded ns padding 10, getD-padded ns padding 7)
+  time-wide = simp getD-padded
 
   -- the key that a column names
   named-wide : (t : Table) (k : ℕ) → named t k (wide ns) ≡ named t k ns
-  named-wide VehicleType k = rw (getD-padded ns padding 0, getD-padded ns padding (k - 1))
-  named-wide Depot k = rw (getD-padded ns padding 0, getD-padded ns padding (k - 1))
-  named-wide Stop k = rw (getD-padded ns padding 0, getD-padded ns padding (k - 1))
-  named-wide StopPoint k = rw (getD-padded ns padding 0, getD-padded ns padding (k - 1 - 1), getD-padded ns padding (k - 1))
-  named-wide Block k = rw (getD-padded ns padding 0, getD-padded ns padding (k - 1))
+  named-wide VehicleType k = simp getD-padded
+  named-wide Depot k = simp getD-padded
+  named-wide Stop k = simp getD-padded
+  named-wide StopPoint k = simp getD-padded
+  named-wide Block k = simp getD-padded
 
   module _ (b : Book) where
     pub knows-wide : (t : Table) → knows t (wide ns) b ≡ knows t ns b

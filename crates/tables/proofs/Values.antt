@@ -1,7 +1,7 @@
 -- What content is to a column: by its length, by what it is read as, and what content that keeps to the rules tells. Assumes nothing.
 use mathlib.Core.Path.{_≡_, refl, _∙_}
 use mathlib.Core.Bool.{Bool, true, false, _&&_, not}
-use Prim.Native.Nat.{ℕ, _^_, _≤_, _<_}
+use Prim.Native.Nat.{ℕ, _≤_, _<_}
 use native.Mathlib.Omega.{arith}
 use lib.Dec.{eqb, leb}
 use lib.ListN.{length}
@@ -11,7 +11,7 @@ use Rattle.words.proofs.Lists.{and-left, and-right}
 use Rattle.refusals.specs.Verdicts.{_when_, cellFault}
 use Rattle.text.specs.Numbers.{isDecimal, value, decimalOf}
 use Rattle.text.specs.declared.Digits.the-variants as digits-are
-use Rattle.text.proofs.Decimals.{decimal-value, decimal-bound, power-le}
+use Rattle.text.proofs.Decimals.{decimal-value}
 use Rattle.tables.specs.Columns.{inRange, fits, breaks, columnAt, keptWidth}
 use Rattle.tables.specs.Values.{cellCheck, kept, valueOf, checkOf}
 use Rattle.tables.specs.declared.Table.{Table}
@@ -97,30 +97,12 @@ module _ (x : Rules) (s : Bytes) (e : x .sort ≡ Decimal) (q : x .required ≡ 
   pub number-value : valueOf x s ≡ value-is.Number (value s)
   number-value = rw (b, e, ne-eqb (length s) 0 (number-kept .0))
 
-  pub number-in-range : inRange x (value s) ≡ true
-  number-in-range = number-kept .2
-
   pub number-from : x .low ≤ value s
-  number-from = leb-true (x .low) (value s) (and-left (leb (x .low) (value s)) (leb (value s) (x .high)) number-in-range)
+  number-from = leb-true (x .low) (value s) (and-left (leb (x .low) (value s)) (leb (value s) (x .high)) (number-kept .2))
 
-  pub number-to : value s ≤ x .high
-  number-to = leb-true (value s) (x .high) (and-right (leb (x .low) (value s)) (leb (value s) (x .high)) number-in-range)
-
-  pub number-small : value s < 10 ^ x .width
-  unfolding decimalOf
-  number-small = decimal-bound (x .width) s (value s) (rw (number-kept .1))
-
--- the same of what the book keeps of a row
-module _ (t : Table) (i : ℕ) (h : i < keptWidth t) (s : Bytes) (b : breaks (columnAt t i .rules) s ≡ false) where
-  pub kept-value : valueOf (columnAt t i .rules) s ≡ value-is.Number (value s)
-  kept-value = number-value (columnAt t i .rules) s (kept-decimal t i h) (kept-required t i h) b
-
-  pub kept-range : inRange (columnAt t i .rules) (value s) ≡ true
-  kept-range = number-in-range (columnAt t i .rules) s (kept-decimal t i h) (kept-required t i h) b
-
-  pub kept-small : value s < 10 ^ 9
-  kept-small =
-      omega (arith, number-small (columnAt t i .rules) s (kept-decimal t i h) (kept-required t i h) b, power-le (columnAt t i .rules .width) 9 (decimal-width t i (kept-decimal t i h)))
+-- what the book keeps of a row
+pub kept-value : (t : Table) (i : ℕ) → i < keptWidth t → (s : Bytes) → breaks (columnAt t i .rules) s ≡ false → valueOf (columnAt t i .rules) s ≡ value-is.Number (value s)
+kept-value t i h s b = number-value (columnAt t i .rules) s (kept-decimal t i h) (kept-required t i h) b
 
 -- of_cell and of_field ask that a decimal column is no wider than 64 bits
 pub column-narrow : (t : Table) (i : ℕ) → columnAt t i .rules .sort ≡ Decimal → columnAt t i .rules .width ≤ 19

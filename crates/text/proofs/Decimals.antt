@@ -2,7 +2,7 @@
 use mathlib.Core.Path.{_≡_, refl, sym, _∙_}
 use mathlib.Core.List.{[], _∷_}
 use mathlib.Core.Bool.{Bool, true, false, _&&_, and-false}
-use Prim.Native.Nat.{ℕ, suc, _+_, _-_, _*_, _^_, _≤_, _<_}
+use Prim.Native.Nat.{ℕ, _+_, _-_, _*_, _^_, _≤_, _<_}
 use native.Mathlib.Omega.{arith}
 use native.Mathlib.Numerals.{add-one}
 use native.Mathlib.Nat.{pow-suc, pow-le-pow-right}
@@ -71,17 +71,6 @@ first-digit b bs h =
     let d : (leb 48 b ≡ true) × (leb b 57 ≡ true) × (allDigits bs ≡ true) = all-true (leb 48 b) (leb b 57) (allDigits bs) h in
     (leb-true 48 b (d .0), leb-true b 57 (d .1), d .2)
 
-value-more : (s : Bytes) (n i : ℕ) → allDigits s ≡ true → n < 10 ^ i → valueFrom n s < 10 ^ (i + length s)
-unfolding valueFrom
-value-more [] n i h l = let z : i + 0 ≡ i = omega arith in rw z l
-value-more (b ∷ bs) n i h l =
-    let d : (48 ≤ b) × (b ≤ 57) × (allDigits bs ≡ true) = first-digit b bs h in
-    let z : i + suc (length bs) ≡ i + 1 + length bs = omega arith in
-    rw z (value-more bs (n * 10 + (b - 48)) (i + 1) (d .2) (digit-more n (b - 48) i l (omega arith)))
-
-pub value-bound : (s : Bytes) → allDigits s ≡ true → value s < 10 ^ length s
-value-bound s h = let z : 0 + length s ≡ length s = omega arith in rw z at (value-more s 0 0 h (lit< tt))
-
 -- what a value that was read tells
 pub decimal-value : (width : ℕ) (s : Bytes) (v : ℕ) → decimalOf width s ≡ Value v → (isDecimal width s ≡ true) × (value s ≡ v)
 unfolding decimalOf
@@ -90,12 +79,6 @@ decimal-value width s v e = go (isDecimal width s) refl e
     go : (t : Bool) → isDecimal width s ≡ t → (if t then Value (value s) else Other) ≡ Value v → (isDecimal width s ≡ true) × (value s ≡ v)
     go true p q = (p, cc)
     go false p q = let w : _≡_ {A = ℕ} 0 1 = cc in absurd (omega arith)
-
-pub decimal-bound : (width : ℕ) (s : Bytes) (v : ℕ) → decimalOf width s ≡ Value v → v < 10 ^ width
-decimal-bound width s v e =
-    let d : (isDecimal width s ≡ true) × (value s ≡ v) = decimal-value width s v e in
-    let p : (leb 1 (length s) ≡ true) × (leb (length s) width ≡ true) × (allDigits s ≡ true) = all-true (leb 1 (length s)) (leb (length s) width) (allDigits s) (d .0) in
-    omega (arith, d .1, value-bound s (p .2), power-le (length s) width (leb-true (length s) width (p .1)))
 
 -- a doubled quote is no digit: a content and its stretch are the same number, or neither is one
 once-digits : (s : Bytes) → allDigits (once false s) ≡ allDigits s
