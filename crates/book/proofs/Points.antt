@@ -4,13 +4,13 @@ use mathlib.Core.List.{List, [], _∷_}
 use mathlib.Core.Bool.{Bool, true, false, _&&_, _||_, not}
 use Prim.Native.Nat.{ℕ, _-_}
 use native.Mathlib.Omega.{arith}
-use lib.Dec.{lit≤}
+use lib.Dec.{lit≤, lit<}
 use lib.ListN.{take}
 use Rattle.words.specs.Words.{Row, same}
 use Rattle.words.proofs.Lists.{and-left, and-right}
 use Rattle.refusals.specs.Verdicts.{passes}
 use Rattle.refusals.specs.declared.Check.the-variants.{Passes}
-use Rattle.tables.specs.Columns.{ref, columnsOf, keptWidth}
+use Rattle.tables.specs.Columns.{references, ref, columnsOf, keptWidth}
 use Rattle.tables.specs.declared.Table.{Table}
 use Rattle.tables.specs.declared.Table.the-variants.{VehicleType, Depot, Stop, StopPoint, Block}
 use Rattle.rows.specs.declared.Order.{Order}
@@ -21,6 +21,7 @@ use Rattle.rows.proofs.Changes.{stands-key, stands-inserted, other-stands-inser
 use Rattle.book.specs.Book.{Book, empty, entered}
 use Rattle.book.specs.Rules.{timeFault, named, finds, unknownOf, unknown}
 use Rattle.book.specs.Keeping.{all, ranged, lawful, pointsNamed, Referable}
+use Rattle.book.proofs.Referring.{one-missing}
 
 -- a key that stands among rows that all pass a test stands in one that passes it
 pub record Passing (f : Row → Bool) (k : ℕ) (key : Row) : Type 0 where
@@ -57,10 +58,12 @@ module _ (b : Book) (row : Row) (named-all : pointsNamed b ≡ true) where
       ap (λ (l : Row). stands 2 l (b .stops)) (ap (λ (n : ℕ). n ∷ column (k - 1) row ∷ []) first ∙ ap (λ (n : ℕ). column 1 (p .row) ∷ n ∷ []) second)
       ∙ point-names (p .row) b (p .good)
 
-  pub block-known : finds (ref 3 Depot) row b ≡ true → finds (ref 5 VehicleType) row b ≡ true → finds (ref 7 StopPoint) row b ≡ true
-      → finds (ref 10 StopPoint) row b ≡ true → unknown Block row b ≡ Passes
+  -- so the last of the four references that are looked up tells of all six
+  pub block-passes : finds (ref 3 Depot) row b ≡ true → finds (ref 5 VehicleType) row b ≡ true → finds (ref 7 StopPoint) row b ≡ true
+      → (r : Bool) → finds (ref 10 StopPoint) row b ≡ r → passes (unknown Block row b) ≡ r
   unfolding unknownOf
-  block-known d v p q = rw (d, v, point-stop 7 p, p, point-stop 10 q, q)
+  block-passes d v p true q = rw (d, v, point-stop 7 p, p, point-stop 10 q, q)
+  block-passes d v p false q = one-missing row b (references Block) 5 (lit< tt) q
 
 -- the points of a lawful table all name their stops
 pub points-named : (b : Book) (xs : List Row) → all (lawful StopPoint b) xs ≡ true → all (λ x. passes (unknown StopPoint x b)) xs ≡ true

@@ -12,9 +12,9 @@ use denote.Enum.Declared.{tagOf}
 use types.Run.{OneOf}
 use Rattle.words.specs.Words.{Row}
 use Rattle.words.proofs.Lists.{drop-step, every, and-left, and-right}
-use Rattle.refusals.specs.Verdicts.{keyStands, noRow, endsEarly}
+use Rattle.refusals.specs.Verdicts.{keyStands, noRow, endsEarly, passes}
 use Rattle.refusals.specs.declared.Check.{Check}
-use Rattle.refusals.specs.declared.Check.the-variants.{Passes}
+use Rattle.refusals.specs.declared.Check.the-variants.{Passes, Fails}
 use Rattle.tables.specs.Columns.{references, ref, keyWidth, partOf}
 use Rattle.tables.specs.declared.Table.{Table}
 use Rattle.tables.proofs.Table.{the-type}
@@ -22,7 +22,7 @@ use Rattle.tables.specs.declared.Table.the-variants.{VehicleType, Depot, Stop, 
 use Rattle.tables.specs.declared.Reference.{Reference}
 use Rattle.rows.specs.Rows.{wide, column, orderFrom, sameKey, stands, found}
 use Rattle.book.specs.Book.{Book, knows, rows, with-rows}
-use Rattle.book.specs.Rules.{timeFault, named, unknownOf, unknown, ruled}
+use Rattle.book.specs.Rules.{timeFault, named, finds, unknownOf, unknown, ruled}
 use Rattle.book.proofs.Laying.{rows-apart}
 
 -- zeros behind the numbers: past their end a list reads as 0 too
@@ -108,6 +108,22 @@ module _ (t : Table) (row : Row) (b : Book) (i : ℕ) where
   pub unknown-end : length (references t) ≤ i → unknownFrom ≡ Passes
   unfolding unknownOf
   unknown-end h = rw (drop-of-length-le (references t) {i = i} h)
+
+-- a check that passes has no fault
+pub passed : (c : Check) → passes c ≡ true → c ≡ Passes
+passed Passes h = refl
+passed (Fails n k) h = let z : _≡_ {A = ℕ} 0 1 = cc in absurd (omega arith)
+
+-- one reference that finds no row is enough for a fault
+pub one-missing : (row : Row) (b : Book) (xs : List Reference) (i : ℕ) → i < length xs → finds (getD xs i (ref 0 VehicleType)) row b ≡ false → passes (unknownOf xs row b) ≡ false
+unfolding unknownOf
+one-missing row b [] i h e = absurd (omega arith)
+one-missing row b (x ∷ xs) zero h e = rw e
+one-missing row b (x ∷ xs) (suc i) h e = go (finds x row b) refl (one-missing row b xs i (omega arith) e)
+  where
+    go : (r : Bool) → finds x row b ≡ r → passes (unknownOf xs row b) ≡ false → passes (unknownOf (x ∷ xs) row b) ≡ false
+    go true f ih = rw f ih
+    go false f ih = rw f
 
 -- one reference, as the code asks for it
 pub asked-there : (t : Table) (row : Row) (b : Book) (i : ℕ) (x : Reference) (k : Row) (r : Bool) → x ≡ referenceOf t i

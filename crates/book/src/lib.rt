@@ -5,7 +5,7 @@ ghost use mathlib.Core.Bool.{Bool, true, false};
 ghost use Prim.Native.Nat.{ℕ, _+_, _*_, _≤_, _<_};
 ghost use lib.ListN.{length, take, getD};
 ghost use Rattle.words.specs.Words.{if_then_else_, same};
-ghost use Rattle.refusals.specs.Verdicts.{nowhere};
+ghost use Rattle.refusals.specs.Verdicts.{nowhere, passes};
 ghost use Rattle.tables.specs.Columns.{columnsOf, inRange, keptWidth, keyWidth, partOf, references, ref};
 ghost use Rattle.rows.specs.Rows.{wide, column, found, rising};
 ghost use Rattle.rows.specs.Room.{holds, rowOf, spot};
@@ -179,7 +179,7 @@ fn finds(book: &[Row], t: Table, i: usize, row: Row) -> bool
 // of that stop, and a known point's stop is known.
 fn block_finds(book: &[Row], row: Row) -> bool
     requires { ⌜ Sound (now book) × (pointsNamed (bookOf (now book)) ≡ true) ⌝ }
-    ensures { λ r. ⌜ (r ≡ true → unknown Table.Block row (bookOf (now (book .entry))) ≡ Check.Passes) ⌝ }
+    ensures { λ r. ⌜ r ≡ passes (unknown Table.Block row (bookOf (now (book .entry)))) ⌝ }
 {
     if !finds(book, Table::Block, 0, row) {
         return false;
@@ -191,17 +191,6 @@ fn block_finds(book: &[Row], row: Row) -> bool
         return false;
     }
     finds(book, Table::Block, 5, row)
-}
-
-// Whether it is soon known that a row's references all find their rows.
-fn soon_known(book: &[Row], t: Table, row: Row) -> bool
-    requires { ⌜ Sound (now book) × Referable t (bookOf (now book)) ⌝ }
-    ensures { λ r. ⌜ (r ≡ true → unknown t row (bookOf (now (book .entry))) ≡ Check.Passes) ⌝ }
-{
-    match t {
-        Table::Block => block_finds(book, row),
-        _ => false,
-    }
 }
 
 // 10: the first reference that finds no row, one by one.
@@ -221,15 +210,20 @@ fn first_unknown(book: &[Row], t: Table, row: Row) -> Check
     Check::Passes
 }
 
-// 10
+// 10. A block's references are sought one by one only to name the first that finds no row.
 pub fn unknown_reference(book: &[Row], t: Table, row: Row) -> Check
     requires { ⌜ Sound (now book) × Referable t (bookOf (now book)) ⌝ }
     ensures { λ r. ⌜ r ≡ unknown t row (bookOf (now (book .entry))) ⌝ }
 {
-    if soon_known(book, t, row) {
-        return Check::Passes;
+    match t {
+        Table::Block => {
+            if block_finds(book, row) {
+                return Check::Passes;
+            }
+            first_unknown(book, t, row)
+        }
+        _ => first_unknown(book, t, row),
     }
-    first_unknown(book, t, row)
 }
 
 // A table's rows onto a shelf, and how many they are.

@@ -27,8 +27,9 @@ use Rattle.book.specs.Room.{laid, bookOf}
 use Rattle.book.specs.Keeping.{ranged, all, lawful, lawfulTable, lawfulBook, keepsRule}
 use Rattle.tables.proofs.Figures.{kept-columns, keys-some, keys-kept, version-low}
 use Rattle.book.proofs.Laying.{Orderly, book-laid, sound-laid}
+use Rattle.book.proofs.Referring.{passed}
 use Rattle.book.proofs.Keeping.{tables-lawful}
-use Rattle.promises.proofs.TestLaws.{and-both, and-three, and-four, passed}
+use Rattle.promises.proofs.TestLaws.{and-both, and-three, and-four}
 use Rattle.rows.proofs.Room.{Versioned, sameRows-refl}
 use Rattle.promises.proofs.PlainLaws.{Eleven, kept-long}
 use Rattle.promises.proofs.HeldLaws.{Good, EachGood, Held, good-eleven}

@@ -30,7 +30,8 @@ use Rattle.slips.specs.declared.Wish.the-variants.{Add, Replace, Delete, Unknow
 use Rattle.writer.specs.Writing.{linesWritten, written}
 use Rattle.promises.specs.Promises.{run, with-blocks, writtenWith, readThere, admissible, known, accepted, someLine, someSlip, names, changes, touches, RunReadsAfresh, RuleKept, RefusedExactly, RefusedAlike, BlocksKept, TypesKept, OtherTablesKept}
 use Rattle.words.proofs.Lists.{and-left, and-right}
-use Rattle.promises.proofs.TestLaws.{or-left, or-right, passed, going-on}
+use Rattle.book.proofs.Referring.{passed}
+use Rattle.promises.proofs.TestLaws.{or-left, or-right, going-on}
 use Rattle.rows.proofs.Changes.{stands-removed, stands-replaced, length-removed, other-stands-inserted, other-stands-removed, other-found-inserted, other-found-replaced, other-found-removed}
 use Rattle.promises.proofs.PlainLaws.{plainNames, plainLine, plain-names-block, plain-line-block, row-read, row-judged}
 use Rattle.promises.proofs.HeldLaws.{Held, table-more}

@@ -4,7 +4,7 @@ use mathlib.Core.Bool.{Bool, true, false, _&&_, _||_}
 use Prim.Native.Nat.{ℕ}
 use native.Mathlib.Omega.{arith}
 use Rattle.words.proofs.Lists.{and-left, and-right}
-use Rattle.refusals.specs.Verdicts.{_⊳_, _when_, passes}
+use Rattle.refusals.specs.Verdicts.{_⊳_, _when_}
 use Rattle.refusals.specs.declared.Check.{Check}
 use Rattle.refusals.specs.declared.Check.the-variants.{Passes, Fails}
 use Rattle.refusals.specs.declared.Verdict.{Verdict}
@@ -37,10 +37,6 @@ both (Fails n k) e h = let z : _≡_ {A = ℕ} 0 1 = cc in let y : ⊥ = omega a
 pub unfailed : (n k : ℕ) (t : Bool) → Fails n k when t ≡ Passes → t ≡ false
 unfailed n k true h = let z : _≡_ {A = ℕ} 0 1 = cc in let y : ⊥ = omega arith in absurd y
 unfailed n k false h = refl
-
-pub passed : (c : Check) → passes c ≡ true → c ≡ Passes
-passed Passes h = refl
-passed (Fails n k) h = let z : _≡_ {A = ℕ} 0 1 = cc in let y : ⊥ = omega arith in absurd y
 
 -- a result that goes on
 pub going-on : (v : Verdict) (r : Result) (c : Book) → unless v r ≡ leaves c → r ≡ leaves c
