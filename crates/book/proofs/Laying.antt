@@ -7,7 +7,7 @@ use Prim.Native.Nat.{ℕ, _+_, _-_, _*_, _≤_, _<_}
 use native.Mathlib.Omega.{arith}
 use lib.Dec.{lit≤}
 use lib.ListN.{length, take, drop, getD, length-append, length-take, length-drop, take-append-drop, replicate, replicate-append-replicate}
-use lib.Seq.{take-at, drop-at, take-all, drop-drop, getD-take, getD-drop}
+use lib.Seq.{take-at, drop-at, take-all, take-take, drop-drop, getD-take, getD-drop}
 use Rattle.words.specs.Words.{Row}
 use Rattle.tables.specs.Columns.{keyWidth, partOf}
 use Rattle.tables.specs.declared.Table.{Table}
@@ -15,7 +15,7 @@ use Rattle.tables.specs.declared.Table.the-variants.{VehicleType, Depot, Stop, 
 use Rattle.tables.proofs.Figures.{part-below}
 use Rattle.rows.specs.Rows.{inserted, rising}
 use Rattle.rows.specs.Room.{zeros, filled, used, Holds, holds}
-use Rattle.rows.proofs.Room.{Versioned, used-versioned, used-within, used-row, used-filled, length-filled, holds-filled}
+use Rattle.rows.proofs.Room.{Versioned, used-versioned, used-within, used-take, used-row, used-filled, length-filled, holds-filled}
 use Rattle.book.specs.Book.{Book, empty, rows, with-rows, entered}
 use Rattle.book.specs.Room.{laid, part, bookOf, Sound}
 
@@ -78,6 +78,16 @@ module _ (t : Table) (xs : List Row) (sound : Sound xs) (from : ℕ) (here : fro
 
   pub lent-length : length lent ≡ 512
   lent-length = ap length (part-lent t xs from here) ∙ length-part xs (sound .long) t
+
+-- and the table's rows alone, as the code lends them
+pub rows-lent : (t : Table) (xs : List Row) → length xs ≡ 2560 → (from n : ℕ) → from ≡ partOf t * 512 → n ≡ length (rows t (bookOf xs)) → take (from + n - from) (drop from xs) ≡ rows t (bookOf xs)
+rows-lent t xs long from n here as-many =
+    let us = used (part (partOf t) xs) in
+    let f : from + n - from ≡ n = omega arith in
+    let e : n ≡ length us = as-many ∙ ap (λ (l : List Row). length l) (rows-part t xs) in
+    let m : length us ≤ 512 = omega (arith, used-within (part (partOf t) xs), length-part xs long t) in
+    ap (λ (k : ℕ). take k (drop from xs)) (f ∙ e) ∙ ap (λ (k : ℕ). take (length us) (drop k xs)) here
+    ∙ sym (take-take (length us) 512 (drop (partOf t * 512) xs) m) ∙ used-take (part (partOf t) xs) ∙ sym (rows-part t xs)
 
 -- a row of a part is read at its place in the slice
 part-row : (t : Table) (xs : List Row) (from i : ℕ) → from ≡ partOf t * 512 → i < 512 → getD (part (partOf t) xs) i [] ≡ getD xs (from + i) []

@@ -1,23 +1,24 @@
 -- The book while one of its tables stands on a shelf: how the rows come there, what a row that enters makes of them, and what is laid out of
 -- them. Assumes nothing.
 use mathlib.Core.Path.{_≡_, refl, sym, ap, subst, _∙_}
-use mathlib.Core.List.{List, append-nil}
+use mathlib.Core.List.{List, _++_, append-nil}
 use mathlib.Core.Bool.{true, false}
-use Prim.Native.Nat.{ℕ, suc, _-_, _*_, _≤_, _<_}
+use Prim.Native.Nat.{ℕ, suc, _-_, _≤_, _<_}
 use native.Mathlib.Omega.{arith}
-use lib.ListN.{length, getD, take, set, length-set}
+use lib.ListN.{length, getD, take, set, length-append, length-set}
+use lib.Seq.{take-at}
 use borrow.Author.Tests.{le-leb, lt-leb}
 use Rattle.words.specs.Words.{Row}
 use Rattle.refusals.specs.Verdicts.{keyStands, endsEarly}
 use Rattle.refusals.specs.declared.Check.{Check}
 use Rattle.refusals.specs.declared.Check.the-variants.{Passes, Fails}
-use Rattle.tables.specs.Columns.{keyWidth, partOf}
+use Rattle.tables.specs.Columns.{keyWidth}
 use Rattle.tables.specs.declared.Table.{Table}
 use Rattle.rows.specs.declared.Spot.the-variants.{At, Gap}
 use Rattle.rows.specs.Rows.{column, inserted, rising}
 use Rattle.rows.specs.Room.{filled, used, spot}
 use Rattle.rows.specs.Shelf.{shelved, upFrom}
-use Rattle.rows.proofs.Room.{Versioned, used-versioned, used-filled, used-take, used-within}
+use Rattle.rows.proofs.Room.{Versioned, used-versioned, used-filled}
 use Rattle.rows.proofs.Rising.{rising-inserted}
 use Rattle.rows.proofs.Changes.{versioned-inserted}
 use Rattle.rows.proofs.Places.{at-stands, gap-within, gap-missing}
@@ -28,7 +29,7 @@ use Rattle.book.specs.Rules.{timeFault, unknown, ruled}
 use Rattle.book.specs.Room.{laid, bookOf, Sound}
 use Rattle.book.specs.Keeping.{Referable}
 use Rattle.book.specs.Shelving.{shelfBook, OnShelf, Entered}
-use Rattle.book.proofs.Laying.{Orderly, orderly-book, orderly-with, sound-laid, book-laid, rows-with, with-same, entered-with, lent, lent-rows, lent-length}
+use Rattle.book.proofs.Laying.{Orderly, orderly-book, orderly-with, sound-laid, book-laid, rows-with, with-same, entered-with}
 use Rattle.book.proofs.Referring.{ruled-early, ruled-stands, ruled-unknown, unknown-with}
 
 -- rows whose VERSION is at least 1 are all used
@@ -40,23 +41,18 @@ used-all xs v =
 
 -- a table's rows on a shelf ---------------------------------------------------------------------------------------------------------
 
-module _ (t : Table) (xs : List Row) (sound : Sound xs) (from : ℕ) (here : from ≡ partOf t * 512) (slots : List Row) (order : List ℕ) (n m : ℕ)
-    (s : slots ≡ lent t xs sound from here) (long : m ≡ 512) (o : order ≡ upFrom 0 m) (as-many : n ≡ length (rows t (bookOf xs))) where
-  length-slots : length slots ≡ 512
-  length-slots = ap length s ∙ lent-length t xs sound from here
-
+module _ (t : Table) (xs : List Row) (sound : Sound xs) (slots rest : List Row) (order : List ℕ) (n : ℕ)
+    (s : slots ≡ rows t (bookOf xs) ++ rest) (long : length slots ≡ 512) (o : order ≡ upFrom 0 512) (as-many : n ≡ length (rows t (bookOf xs))) where
   few : n ≤ length slots
-  few = omega (arith, ap (λ (l : List Row). length l) (lent-rows t xs sound from here), used-within (lent t xs sound from here), ap (λ (l : List Row). length l) s)
+  few = omega (arith, ap (λ (l : List Row). length l) s, length-append (rows t (bookOf xs)) rest)
 
   order-is : order ≡ upFrom 0 (length slots)
-  order-is = o ∙ ap (upFrom 0) (long ∙ sym length-slots)
+  order-is = o ∙ ap (upFrom 0) (sym long)
 
   start-rows : shelved slots order n ≡ rows t (bookOf xs)
   start-rows =
-      let u = used (lent t xs sound from here) in
-      let e : n ≡ length u = as-many ∙ ap (λ (l : List Row). length l) (sym (lent-rows t xs sound from here)) in
-      ap (λ (l : List ℕ). shelved slots l n) order-is ∙ start-shelved slots n few
-      ∙ ap (take n) s ∙ ap (λ (k : ℕ). take k (lent t xs sound from here)) e ∙ used-take (lent t xs sound from here) ∙ lent-rows t xs sound from here
+      ap (λ (l : List ℕ). shelved slots l n) order-is ∙ start-shelved slots n few ∙ ap (take n) s
+      ∙ take-at (rows t (bookOf xs)) rest n (sym as-many)
 
   pub shelf-on : Referable t (bookOf xs) → OnShelf t xs slots order n
   shelf-on points =
@@ -65,7 +61,7 @@ module _ (t : Table) (xs : List Row) (sound : Sound xs) (from : ℕ) (here : fro
         sound = sound;
         points = points;
         shelf = rw order-is (shelf-start slots n few);
-        long = length-slots;
+        long = long;
         rises = rw start-rows (b .rises t);
         begun = rw start-rows (used-all (rows t (bookOf xs)) (b .versioned t));
       }

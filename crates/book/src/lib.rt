@@ -231,11 +231,12 @@ pub fn shelve(book: &[Row], t: Table, slots: &mut [Row], order: &mut [u16]) -> u
     requires { ⌜ Sound (now book) × Referable t (bookOf (now book)) × (length (now slots) ≡ 512) × (length (now order) ≡ 512) ⌝ }
     ensures { λ r. ⌜ OnShelf t (now (book .entry)) (now (slots .exit)) (now (order .exit)) r × (shelfBook t (now (book .entry)) (now (slots .exit)) (now (order .exit)) r ≡ bookOf (now (book .entry))) ⌝ }
 {
+    let used = count_rows(book, t);
     let from = first_row(t);
-    let to = from + ROWS;
-    rows::copy(&book[from..to], slots);
+    let to = from + used;
+    rows::copy(&book[from..to], &mut slots[..used]);
     rows::number_slots(order);
-    count_rows(book, t)
+    used
 }
 
 // The shelf's rows into their part of the book.

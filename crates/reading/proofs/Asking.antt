@@ -18,12 +18,12 @@ use Rattle.refusals.specs.declared.Cell.the-variants.{Number, Text, Empty}
 use Rattle.text.specs.Lines.{lines, headLine, lineStart, lineLength, lineAt}
 use Rattle.text.specs.Cells.{Cut, faulty, cells, cut, cellsOf, quoted, stretch, content}
 use Rattle.text.specs.Fields.{parted}
-use Rattle.text.specs.Marks.{startsFrom, padded, marked}
+use Rattle.text.specs.Marks.{boundsFrom}
 use Rattle.text.specs.declared.Line.{Line}
 use Rattle.text.proofs.Lining.{line-start, start-step, start-le, start-within, start-past, length-room, room-le}
 use Rattle.text.proofs.Cutting.{cells-parted}
 use Rattle.text.proofs.Contents.{content-le, quoted-some}
-use Rattle.text.proofs.Marking.{Stands, getD-padded, length-starts}
+use Rattle.text.proofs.Marking.{Stands, bound-at}
 use Rattle.tables.specs.Columns.{columnsOf, columnAt, number, numbered, breaks}
 use Rattle.tables.specs.Values.{cellCheck, kept, valueOf}
 use Rattle.tables.proofs.Values.{column-narrow}
@@ -37,11 +37,11 @@ use Rattle.tables.specs.declared.Value.{Value}
 use Rattle.tables.specs.declared.Value.the-variants as value-is
 use Rattle.reading.specs.Header.{Header, headerCheck, cutCheck, under, offset}
 use Rattle.reading.specs.Reading.{headerOf, topFaults}
-use Rattle.reading.specs.Heading.{placeFrom, places, cellNumbered, MarksOf}
+use Rattle.reading.specs.Heading.{placeFrom, places, cellNumbered, beginAt, MarksOf}
 use Rattle.reading.specs.CellQuestion.{answered, said, cellSaid, cutAt, cellAt, cellStart, cellVerdict, tableCell, askedOf, cellAsked, stretchOf}
 use Rattle.reading.specs.Asking.{cellJudged, rowAnswer}
 use Rattle.reading.specs.declared.CellAnswer.{CellAnswer}
-use Rattle.reading.proofs.Columns.{markAt, cell-marked, place-above, under-numbered, line-faulty, line-count, line-cells}
+use Rattle.reading.proofs.Columns.{cell-bounded, place-above, under-numbered, line-faulty, line-count, line-cells}
 use Rattle.reading.proofs.Names.{place-at}
 
 -- answers ----------------------------------------------------------------------------------------------------------------------
@@ -118,14 +118,14 @@ start-next i s at r h e f = rw (f, e) (sym (start-step i s h))
 
 -- where a cell begins on its line -----------------------------------------------------------------------------------------------
 
-offset-from : (i k b : ℕ) (h : Header) (cs : List Bytes) → length cs ≡ length h → (placeFrom i k h ≡ 0 → ⊥) → getD (startsFrom b cs) (placeFrom i k h - suc i) 0 ≡ b + offset k h cs
-unfolding placeFrom offset startsFrom
+offset-from : (i k b : ℕ) (h : Header) (cs : List Bytes) → length cs ≡ length h → (placeFrom i k h ≡ 0 → ⊥) → getD (boundsFrom b cs) (placeFrom i k h - suc i) 0 ≡ b + offset k h cs
+unfolding placeFrom offset boundsFrom
 offset-from i k b [] cs l n = absurd (n refl)
 offset-from i k b (x ∷ xs) [] l n = absurd (omega arith)
 offset-from i k b (x ∷ xs) (c ∷ cs) l n = go (eqb k x) n (offset-from (suc i) k (b + length c + 1) xs cs (omega arith))
   where
-    go : (q : Bool) → ((if q then suc i else placeFrom (suc i) k xs) ≡ 0 → ⊥) → ((placeFrom (suc i) k xs ≡ 0 → ⊥) → getD (startsFrom (b + length c + 1) cs) (placeFrom (suc i) k xs - suc (suc i)) 0 ≡ b + length c + 1 + offset k xs cs)
-        → getD (b ∷ startsFrom (b + length c + 1) cs) ((if q then suc i else placeFrom (suc i) k xs) - suc i) 0 ≡ b + (if q then 0 else length c + 1 + offset k xs cs)
+    go : (q : Bool) → ((if q then suc i else placeFrom (suc i) k xs) ≡ 0 → ⊥) → ((placeFrom (suc i) k xs ≡ 0 → ⊥) → getD (boundsFrom (b + length c + 1) cs) (placeFrom (suc i) k xs - suc (suc i)) 0 ≡ b + length c + 1 + offset k xs cs)
+        → getD (b ∷ boundsFrom (b + length c + 1) cs) ((if q then suc i else placeFrom (suc i) k xs) - suc i) 0 ≡ b + (if q then 0 else length c + 1 + offset k xs cs)
     go true m ih = let e : suc i - suc i ≡ 0 = omega arith in rw e (omega arith)
     go false m ih =
         let l : suc (suc i) ≤ placeFrom (suc i) k xs = place-above (suc i) k xs m in
@@ -141,31 +141,40 @@ place-most i k (x ∷ xs) = go (eqb k x) (place-most (suc i) k xs)
     go true ih = omega arith
     go false ih = omega arith
 
--- it is the mark of the cell that the header names for the column
-pub offset-marked : (k : ℕ) (h : Header) (cs : List Bytes) → length cs ≡ length h → length h ≤ 32 → (placeFrom 0 k h ≡ 0 → ⊥) → markAt (padded 32 (startsFrom 0 cs)) (placeFrom 0 k h) ≡ offset k h cs
-offset-marked k h cs e l n =
+-- it is where the cell begins that the header names for the column
+offset-begun : (k : ℕ) (h : Header) (row : Bytes) (bounds : List ℕ) (count : ℕ) → MarksOf row bounds count → count ≡ length h → (placeFrom 0 k h ≡ 0 → ⊥)
+    → beginAt bounds count (placeFrom 0 k h) ≡ offset k h (cellsOf (cut row))
+offset-begun k h row bounds count m e n =
+    let cs = cellsOf (cut row) in
     let a : 1 ≤ placeFrom 0 k h = place-above 0 k h n in
-    let m : placeFrom 0 k h ≤ length h = omega (arith, place-most 0 k h) in
-    rw (ne-eqb (placeFrom 0 k h) 0 n, le-ltb 32 (placeFrom 0 k h) (omega arith), getD-padded 32 (startsFrom 0 cs) (placeFrom 0 k h - 1) (omega arith) (rw length-starts (omega arith)))
-    (offset-from 0 k 0 h cs e n ∙ omega arith)
+    let p : placeFrom 0 k h ≤ count = omega (arith, place-most 0 k h) in
+    rw (ne-eqb (placeFrom 0 k h) 0 n, le-ltb count (placeFrom 0 k h) p, bound-at cs (length bounds) bounds (placeFrom 0 k h - 1) (m .kept) (omega (arith, m .counted, m .room)) (omega (arith, m .counted)))
+    (offset-from 0 k 0 h cs (m .counted ∙ e) n ∙ omega arith)
 
 said-empty : (sort : Sort) (a b : ℕ) (cell : Bytes) → cell ≡ [] → cellSaid sort a cell ≡ cellSaid sort b cell
 said-empty sort a b cell e = rw e
 
 -- a column that the header lacks has an empty cell, of which nothing is said wherever it begins
-pub said-marked : (sort : Sort) (begin k : ℕ) (h : Header) (cs : List Bytes) → length cs ≡ length h → length h ≤ 32
-    → cellSaid sort (begin + markAt (padded 32 (startsFrom 0 cs)) (placeFrom 0 k h)) (under k h cs) ≡ cellSaid sort (begin + offset k h cs) (under k h cs)
-said-marked sort begin k h cs e l = go (eqb (placeFrom 0 k h) 0) refl
+said-begun : (sort : Sort) (begin k : ℕ) (h : Header) (row : Bytes) (bounds : List ℕ) (count : ℕ) → MarksOf row bounds count → count ≡ length h
+    → cellSaid sort (begin + beginAt bounds count (placeFrom 0 k h)) (under k h (cellsOf (cut row))) ≡ cellSaid sort (begin + offset k h (cellsOf (cut row))) (under k h (cellsOf (cut row)))
+said-begun sort begin k h row bounds count m e = go (eqb (placeFrom 0 k h) 0) refl
   where
-    go : (z : Bool) → eqb (placeFrom 0 k h) 0 ≡ z → cellSaid sort (begin + markAt (padded 32 (startsFrom 0 cs)) (placeFrom 0 k h)) (under k h cs) ≡ cellSaid sort (begin + offset k h cs) (under k h cs)
-    go true q = said-empty sort (begin + markAt (padded 32 (startsFrom 0 cs)) (placeFrom 0 k h)) (begin + offset k h cs) (under k h cs) (under-numbered k h cs ∙ rw q)
-    go false q = ap (λ (o : ℕ). cellSaid sort (begin + o) (under k h cs)) (offset-marked k h cs e l (eqb-false (placeFrom 0 k h) 0 q))
+    go : (z : Bool) → eqb (placeFrom 0 k h) 0 ≡ z
+        → cellSaid sort (begin + beginAt bounds count (placeFrom 0 k h)) (under k h (cellsOf (cut row))) ≡ cellSaid sort (begin + offset k h (cellsOf (cut row))) (under k h (cellsOf (cut row)))
+    go true q = said-empty sort (begin + beginAt bounds count (placeFrom 0 k h)) (begin + offset k h (cellsOf (cut row))) (under k h (cellsOf (cut row))) (under-numbered k h (cellsOf (cut row)) ∙ rw q)
+    go false q = ap (λ (o : ℕ). cellSaid sort (begin + o) (under k h (cellsOf (cut row)))) (offset-begun k h row bounds count m e (eqb-false (placeFrom 0 k h) 0 q))
 
--- no mark lies behind its line
-pub mark-within : (line : Bytes) (start end : List ℕ) (n : ℕ) → MarksOf line start end → markAt start n ≤ length line
-mark-within line start end n m =
-    let p : Stands line (markAt start n) (markAt end n) (cellNumbered n (cellsOf (cut line))) = cell-marked line start end n m in
-    omega (arith, p .ordered, p .inside)
+-- no cell begins behind its line
+pub begin-within : (line : Bytes) (bounds : List ℕ) (count n : ℕ) → MarksOf line bounds count → beginAt bounds count n ≤ length line
+begin-within line bounds count n m = go (eqb n 0) (ltb count n) refl refl
+  where
+    go : (z w : Bool) → eqb n 0 ≡ z → ltb count n ≡ w → (if z then 0 else if w then 0 else getD bounds (n - 1) 0) ≤ length line
+    go true w p q = omega arith
+    go false true p q = omega arith
+    go false false p q =
+        let a : n ≡ 0 → ⊥ = eqb-false n 0 p in
+        let s : Stands line (getD bounds (n - 1) 0) (getD bounds n 0) (cellNumbered n (cellsOf (cut line))) = cell-bounded line bounds count n m (omega arith) (ltb-false count n q) in
+        omega (arith, s .ordered, s .inside)
 
 -- a row ---------------------------------------------------------------------------------------------------------------------------
 
@@ -187,24 +196,22 @@ module _ (t : Table) (h : Header) (line k begin : ℕ) (row : Bytes) where
   pub row-faulty : (n : ℕ) → cut row ≡ faulty n → answered (placed (number t) line (quoteFault n)) Empty ≡ rowAnswer t h line k begin row
   row-faulty n e = sym (row-checked (quoteFault n) (line-faulty h row rowCheck n e))
 
-  module _ (e : cut row ≡ cells (cellsOf (cut row))) where
-    pub row-count : (length (cellsOf (cut row)) ≡ length h → ⊥) → answered (placed (number t) line cellCount) Empty ≡ rowAnswer t h line k begin row
-    row-count n = sym (row-checked cellCount (line-count h row rowCheck e n))
+  pub row-count : cut row ≡ cells (cellsOf (cut row)) → (length (cellsOf (cut row)) ≡ length h → ⊥) → answered (placed (number t) line cellCount) Empty ≡ rowAnswer t h line k begin row
+  row-count e n = sym (row-checked cellCount (line-count h row rowCheck e n))
 
-    pub row-cell : (at start : List ℕ) (m from : ℕ) → length (cellsOf (cut row)) ≡ length h → length h ≤ 32 → at ≡ places h → start ≡ marked (cut row) .start → 1 ≤ k → k < 12 → m ≡ getD at k 0 → from ≡ begin + markAt start m
-        → cellJudged t line k from (cellNumbered m (cellsOf (cut row))) ≡ rowAnswer t h line k begin row
-    unfolding cellJudged
-    row-cell at start m from n few a s low high p q =
-        let cs : List Bytes = cellsOf (cut row) in
-        let d : k - 1 + 1 ≡ k = omega arith in
-        let o : m ≡ placeFrom 0 k h = p ∙ rw a (rw d at (place-at h (k - 1) (omega arith))) in
-        let u : cellNumbered m cs ≡ rowCell = rw o (sym (under-numbered k h cs)) in
-        let b : start ≡ padded 32 (startsFrom 0 cs) = s ∙ ap (λ (x : Cut). marked x .start) e in
-        let g : from ≡ begin + markAt (padded 32 (startsFrom 0 cs)) (placeFrom 0 k h) = q ∙ rw (b, o) in
-        let f : rowSaid from ≡ rowSaid (begin + offset k h cs) = ap rowSaid g ∙ said-marked (columnAt t (k - 1) .rules .sort) begin k h cs n few in
-        ap (λ (c : Bytes). answered (placed (number t) line (cellCheck k (columnAt t (k - 1) .rules) (content c))) (cellSaid (columnAt t (k - 1) .rules .sort) from c)) u
-        ∙ ap (λ (c : Cell). answered (placed (number t) line rowCheck) c) f
-        ∙ sym (row-checked rowCheck (line-cells h row rowCheck e n))
+  pub row-cell : (at bounds : List ℕ) (count m from : ℕ) → MarksOf row bounds count → count ≡ length h → at ≡ places h → 1 ≤ k → k < 12 → m ≡ getD at k 0 → from ≡ begin + beginAt bounds count m
+      → cellJudged t line k from (cellNumbered m (cellsOf (cut row))) ≡ rowAnswer t h line k begin row
+  unfolding cellJudged
+  row-cell at bounds count m from marks n a low high p q =
+      let cs : List Bytes = cellsOf (cut row) in
+      let d : k - 1 + 1 ≡ k = omega arith in
+      let o : m ≡ placeFrom 0 k h = p ∙ rw a (rw d at (place-at h (k - 1) (omega arith))) in
+      let u : cellNumbered m cs ≡ rowCell = rw o (sym (under-numbered k h cs)) in
+      let g : from ≡ begin + beginAt bounds count (placeFrom 0 k h) = q ∙ rw o in
+      let f : rowSaid from ≡ rowSaid (begin + offset k h cs) = ap rowSaid g ∙ said-begun (columnAt t (k - 1) .rules .sort) begin k h row bounds count marks n in
+      ap (λ (c : Bytes). answered (placed (number t) line (cellCheck k (columnAt t (k - 1) .rules) (content c))) (cellSaid (columnAt t (k - 1) .rules .sort) from c)) u
+      ∙ ap (λ (c : Cell). answered (placed (number t) line rowCheck) c) f
+      ∙ sym (row-checked rowCheck (line-cells h row rowCheck (marks .parted) (marks .counted ∙ n)))
 
 pub part-length : (s : Bytes) (a e : ℕ) → e ≤ length s → length (take (e - a) (drop a s)) ≡ e - a
 part-length s a e l = simp (length-take, length-drop) (omega arith)

@@ -4,19 +4,19 @@ use mathlib.Core.List.{List, [], _∷_}
 use mathlib.Core.Bool.{Bool, true, false}
 use Prim.Native.Nat.{ℕ, zero, suc, _+_, _-_, _≤_, _<_}
 use native.Mathlib.Omega.{arith}
-use lib.Dec.{eqb, ltb}
-use lib.ListN.{length, drop, getD, replicate, List·getD-eq-default, drop-of-length-le}
-use borrow.Author.Tests.{eq-eqb, ne-eqb, eqb-false, lt-ltb, ltb-true, ltb-false}
+use lib.Dec.{eqb}
+use lib.ListN.{length, drop, getD, List·getD-eq-default, drop-of-length-le}
+use borrow.Author.Tests.{eq-eqb, ne-eqb, eqb-false, lt-ltb}
 use Rattle.words.specs.Words.{Bytes, if_then_else_}
 use Rattle.words.proofs.Lists.{drop-step}
 use Rattle.refusals.specs.Verdicts.{_⊳_, _when_, quoteFault, cellCount, cellFault}
 use Rattle.refusals.specs.declared.Check.{Check}
 use Rattle.refusals.specs.declared.Check.the-variants.{Passes, Fails}
 use Rattle.text.specs.Cells.{Cut, faulty, cells, cut, cellsOf, content}
-use Rattle.text.specs.Marks.{startsFrom, endsFrom, padded, marked}
+use Rattle.text.specs.Marks.{BoundsOf, answerOf}
+use Rattle.text.specs.declared.Answer.{Answer}
 use Rattle.text.specs.declared.Answer.the-variants.{Good}
-use Rattle.text.specs.declared.Cells.{Cells}
-use Rattle.text.proofs.Marking.{Stands, cell-stands, length-starts, length-ends, good-count}
+use Rattle.text.proofs.Marking.{Stands, cell-stands, good-cells, good-count}
 use Rattle.text.proofs.Cutting.{faulty-from-one}
 use Rattle.tables.specs.declared.Table.{Table}
 use Rattle.tables.specs.declared.Rules.{Rules}
@@ -43,57 +43,22 @@ check-order (Fails n k) b c = refl
 
 -- marks ----------------------------------------------------------------------------------------------------------------------
 
-zero-past : (n k : ℕ) → _≡_ {A = ℕ} (getD (replicate n 0) k 0) 0
-zero-past zero k = refl
-zero-past (suc n) zero = refl
-zero-past (suc n) (suc k) = zero-past n k
+-- a number behind the last cell is no cell's
+pub behind-last : (n : ℕ) (cs : List Bytes) → 1 ≤ n → length cs < n → cellNumbered n cs ≡ []
+behind-last n cs h l = rw (ne-eqb n 0 (λ e. omega arith), List·getD-eq-default cs [] {n = n - 1} (omega arith))
 
-pub padded-past : (room : ℕ) (xs : List ℕ) (k : ℕ) → length xs ≤ k → getD (padded room xs) k 0 ≡ 0
-padded-past zero xs k l = zero-past (0 - length xs) k
-padded-past (suc room) [] k l = zero-past (suc room - 0) k
-padded-past (suc room) (x ∷ xs) zero l = absurd (omega arith)
-padded-past (suc room) (x ∷ xs) (suc k) l =
-    let a : suc room - suc (length xs) ≡ room - length xs = omega arith in
-    rw a (padded-past room xs k (omega arith))
+module _ (line : Bytes) (bounds : List ℕ) (count : ℕ) where
+  -- a cell stands between its bounds
+  pub cell-bounded : (n : ℕ) → MarksOf line bounds count → 1 ≤ n → n ≤ count → Stands line (getD bounds (n - 1) 0) (getD bounds n 0) (cellNumbered n (cellsOf (cut line)))
+  cell-bounded n m h l =
+      let e : suc (n - 1) ≡ n = omega arith in
+      rw (ne-eqb n 0 (λ z. omega arith)) (rw e at (cell-stands line (cellsOf (cut line)) (length bounds) bounds (n - 1) (m .parted) (m .kept) (omega (arith, m .counted, m .room)) (omega (arith, m .counted))))
 
-nowhere : (line : Bytes) → Stands line 0 0 []
-nowhere line = record { ordered = omega arith; inside = omega arith; there = refl }
-
--- a mark by the number of its cell, of which there are at most 32
-abbrev pub markAt : List ℕ → ℕ → ℕ
-markAt marks n = if eqb n 0 then 0 else if ltb 32 n then 0 else getD marks (n - 1) 0
-
-behind-last : (line : Bytes) (u : Cut) (k : ℕ) → length (cellsOf u) ≤ k → Stands line (getD (marked u .start) k 0) (getD (marked u .end) k 0) (getD (cellsOf u) k [])
-behind-last line (faulty n) k l = rw (zero-past 32 k) (nowhere line)
-behind-last line (cells cs) k l =
-    rw (padded-past 32 (startsFrom 0 cs) k (rw length-starts l), padded-past 32 (endsFrom 0 cs) k (rw length-ends l), List·getD-eq-default cs [] {n = k} l) (nowhere line)
-
-good-answer : (u : Cut) (k : ℕ) → k < length (cellsOf u) → marked u .answer ≡ Good (length (cellsOf u))
-good-answer (faulty n) k l = absurd (omega arith)
-good-answer (cells cs) k l = refl
-
-pub cell-marked : (line : Bytes) (start end : List ℕ) (n : ℕ) → MarksOf line start end → Stands line (markAt start n) (markAt end n) (cellNumbered n (cellsOf (cut line)))
-cell-marked line start end n m = go (eqb n 0) (ltb 32 n) (ltb (n - 1) (length (cellsOf (cut line)))) refl refl
-  where
-    go : (z w b : Bool) → ltb 32 n ≡ w → ltb (n - 1) (length (cellsOf (cut line))) ≡ b
-        → Stands line (if z then 0 else if w then 0 else getD start (n - 1) 0) (if z then 0 else if w then 0 else getD end (n - 1) 0) (if z then [] else getD (cellsOf (cut line)) (n - 1) [])
-    go true w b p q = nowhere line
-    go false true b p q =
-        let l : 32 < n = ltb-true 32 n p in
-        rw (List·getD-eq-default (cellsOf (cut line)) [] {n = n - 1} (omega (arith, m .few))) (nowhere line)
-    go false false true p q =
-        let l : n - 1 < length (cellsOf (cut line)) = ltb-true (n - 1) (length (cellsOf (cut line))) q in
-        rw (m .starts, m .ends) (cell-stands line (marked (cut line)) (length (cellsOf (cut line))) (n - 1) refl (good-answer (cut line) (n - 1) l) l (omega (arith, m .few)))
-    go false false false p q = rw (m .starts, m .ends) (behind-last line (cut line) (n - 1) (ltb-false (n - 1) (length (cellsOf (cut line))) q))
-
--- the marks of a line whose cells are counted
-pub marks-of : (line : Bytes) (r : Cells) (m : ℕ) → r ≡ marked (cut line) → r .answer ≡ Good m → m ≤ 32 → MarksOf line (r .start) (r .end)
-marks-of line r m e g l =
-    record {
-      starts = ap (λ (x : Cells). x .start) e;
-      ends = ap (λ (x : Cells). x .end) e;
-      few = omega (arith, good-count (cut line) r m e g);
-    }
+  -- the bounds of a line whose cells are counted
+  pub marks-of : (r : Answer) → r ≡ answerOf (cut line) → ((cs : List Bytes) → cut line ≡ cells cs → BoundsOf cs (length bounds) bounds) → r ≡ Good count → count < length bounds → MarksOf line bounds count
+  marks-of r e b g l =
+      let p : cut line ≡ cells (cellsOf (cut line)) = good-cells (cut line) r count e g in
+      record { parted = p; counted = good-count (cut line) r count e g; room = l; kept = b (cellsOf (cut line)) p }
 
 -- the cell of a column ----------------------------------------------------------------------------------------------------------
 

@@ -1,13 +1,13 @@
 -- The row of a line, filled column by column, and what a row that passes tells. Assumes nothing.
 use mathlib.Core.Path.{_≡_, refl, ap, sym, _∙_}
-use mathlib.Core.List.{List, [], _∷_, _++_, map}
+use mathlib.Core.List.{List, [], _∷_, _++_, map, append-assoc}
 use mathlib.Core.Bool.{Bool, true, false}
-use Prim.Native.Nat.{ℕ, zero, suc, _+_, _≤_, _<_}
+use Prim.Native.Nat.{ℕ, zero, suc, _+_, _-_, _≤_, _<_}
 use native.Mathlib.Omega.{arith}
 use native.Mathlib.Numerals.{add-one}
 use lib.Dec.{ltb}
-use lib.ListN.{length, take, drop, getD, set, replicate, length-map, length-append, List·getD-append}
-use lib.Seq.{take-suc, take-all, take-append-le, take-nil, set-getD, getD-take, length-take-le}
+use lib.ListN.{length, take, drop, getD, set, replicate, length-map, length-append, List·getD-append, List·getD-eq-default}
+use lib.Seq.{take-suc, take-all, set-at, take-append-le, take-nil, set-getD, getD-take, length-take-le}
 use borrow.Author.Tests.{ltb-true, ltb-false}
 use Rattle.words.specs.Words.{Bytes, Row}
 use Rattle.refusals.specs.Verdicts.{_⊳_}
@@ -15,8 +15,6 @@ use Rattle.refusals.specs.declared.Check.{Check}
 use Rattle.refusals.specs.declared.Check.the-variants.{Passes, Fails}
 use Rattle.text.specs.Cells.{cut, cellsOf, content}
 use Rattle.text.specs.Numbers.{value}
-use Rattle.text.specs.Marks.{padded}
-use Rattle.text.proofs.Marking.{padded-more}
 use Rattle.tables.specs.declared.Table.{Table}
 use Rattle.tables.specs.declared.Value.{Value}
 use Rattle.tables.specs.declared.Value.the-variants.{Number}
@@ -25,25 +23,23 @@ use Rattle.tables.specs.Columns.{columnsOf, columnAt, keptWidth, breaks}
 use Rattle.tables.proofs.Figures.{kept-columns, kept-few, keys-some, keys-kept, version-low, kept-decimal, kept-required}
 use Rattle.tables.proofs.Values.{check-of-value, number-from, kept-value}
 use Rattle.rows.specs.Rows.{wide, column}
+use Rattle.book.proofs.Referring.{getD-padded}
 use Rattle.reading.specs.Header.{Header, cutCheck, contents}
 use Rattle.reading.specs.Reading.{badCell, rowOf, rowRead}
 use Rattle.reading.specs.Heading.{places, cellNumbered, rowed, read, cellsCheck}
 use Rattle.reading.specs.declared.Judged.{Judged}
-use Rattle.reading.proofs.Columns.{second-passes, padded-past, contents-length, content-found, bad-next, bad-here, bad-end, check-kept, all-kept}
+use Rattle.reading.proofs.Columns.{second-passes, contents-length, content-found, bad-next, bad-here, bad-end, check-kept, all-kept}
 
 -- a row is an array of 11 numbers
-wide-padded : (ns : List ℕ) → length ns ≤ 11 → wide ns ≡ padded 11 ns
-wide-padded ns l = rw (take-all 11 ns l)
-
 pub wide-more : (ns : List ℕ) (k v : ℕ) → length ns ≡ k → k < 11 → set (wide ns) k v ≡ wide (ns ++ (v ∷ []))
 wide-more ns k v e l =
-    let m : length (ns ++ (v ∷ [])) ≤ 11 = rw length-append (omega arith) in
-    let p : set (padded 11 ns) k v ≡ padded 11 (ns ++ (v ∷ [])) = rw (← e) (padded-more 11 ns v) in
-    rw (wide-padded ns (omega arith)) p ∙ sym (wide-padded (ns ++ (v ∷ [])) m)
+    let rest : List ℕ = replicate (11 - length (ns ++ (v ∷ []))) 0 in
+    let a : 11 - length ns ≡ suc (11 - length (ns ++ (v ∷ []))) = rw length-append (omega arith) in
+    rw a (set-at ns 0 rest v k e ∙ sym (append-assoc ns (v ∷ []) rest))
 
-wide-past : (ns : List ℕ) (k : ℕ) → length ns ≤ 11 → length ns ≤ k → set (wide ns) k 0 ≡ wide ns
-wide-past ns k l h =
-    let z : getD (wide ns) k 0 ≡ 0 = rw (wide-padded ns l) (padded-past 11 ns k h) in
+wide-past : (ns : List ℕ) (k : ℕ) → length ns ≤ k → set (wide ns) k 0 ≡ wide ns
+wide-past ns k h =
+    let z : getD (wide ns) k 0 ≡ 0 = getD-padded ns (11 - length ns) k ∙ List·getD-eq-default ns 0 {n = k} h in
     rw z at (set-getD (wide ns) k 0)
 
 map-last : (xs : List Bytes) (s : Bytes) → map value (xs ++ (s ∷ [])) ≡ map value xs ++ (value s ∷ [])
@@ -71,7 +67,7 @@ module _ (t : Table) (ss : List Bytes) (k : ℕ) (row : Row) (v : ℕ) (e : row 
   row-stays h q =
       let a : take (keptWidth t) (take k ss ++ (getD ss k [] ∷ [])) ≡ take (keptWidth t) (take k ss) = take-append-le (keptWidth t) (take k ss) (getD ss k [] ∷ []) (omega (arith, so-far)) in
       let n : length (map value (take (keptWidth t) (take k ss))) ≡ keptWidth t = length-map (take (keptWidth t) (take k ss)) value ∙ length-take-le (keptWidth t) (take k ss) (omega (arith, so-far)) in
-      rw (e, one-more, a, q) (wide-past (map value (take (keptWidth t) (take k ss))) k (omega (arith, kept-few t)) (omega arith))
+      rw (e, one-more, a, q) (wide-past (map value (take (keptWidth t) (take k ss))) k (omega arith))
 
 -- the columns of a line, walked from the first one on -------------------------------------------------------------------------------
 

@@ -2,15 +2,15 @@
 use mathlib.Core.List.{List, [], _∷_}
 use mathlib.Core.Path.{_≡_}
 use mathlib.Core.Bool.{Bool, true, false}
-use Prim.Native.Nat.{ℕ, zero, suc, _-_, _≤_}
+use Prim.Native.Nat.{ℕ, zero, suc, _-_, _<_}
 use lib.Dec.{eqb, ltb}
 use lib.ListN.{length, getD, replicate}
 use Rattle.words.specs.Words.{Bytes, Row, if_then_else_}
 use Rattle.refusals.specs.Verdicts.{_⊳_, _when_, columnMissing, columnTwice}
 use Rattle.refusals.specs.declared.Check.{Check}
 use Rattle.refusals.specs.declared.Check.the-variants.{Passes, Fails}
-use Rattle.text.specs.Cells.{cut, cellsOf}
-use Rattle.text.specs.Marks.{marked}
+use Rattle.text.specs.Cells.{cells, cut, cellsOf}
+use Rattle.text.specs.Marks.{BoundsOf}
 use Rattle.tables.specs.Columns.{columnsOf}
 use Rattle.tables.specs.declared.Table.{Table}
 use Rattle.rows.specs.Room.{zeros}
@@ -57,11 +57,16 @@ namesCheck t h =
 abbrev pub cellNumbered : ℕ → List Bytes → Bytes
 cellNumbered n cs = if eqb n 0 then [] else getD cs (n - 1) []
 
--- where the cells of a line begin and end, which are no more than the marks have room for
-pub record MarksOf (line : Bytes) (start end : List ℕ) : Type 0 where
-  pub starts : start ≡ marked (cut line) .start
-  pub ends : end ≡ marked (cut line) .end
-  pub few : length (cellsOf (cut line)) ≤ 32
+-- where the cell of a number begins, by the bounds of so many cells; 0 where there is none
+abbrev pub beginAt : List ℕ → ℕ → ℕ → ℕ
+beginAt bounds count n = if eqb n 0 then 0 else if ltb count n then 0 else getD bounds (n - 1) 0
+
+-- a line has so many cells, and there is room for their bounds, which are kept
+pub record MarksOf (line : Bytes) (bounds : List ℕ) (count : ℕ) : Type 0 where
+  pub parted : cut line ≡ cells (cellsOf (cut line))
+  pub counted : length (cellsOf (cut line)) ≡ count
+  pub room : count < length bounds
+  pub kept : BoundsOf (cellsOf (cut line)) (length bounds) bounds
 
 -- a line that passes is its row
 abbrev pub rowed : Check → Row → Judged

@@ -2,8 +2,8 @@
 ghost use mathlib.Core.Path.{_≡_};
 ghost use mathlib.Core.List.{List};
 ghost use mathlib.Core.Bool.{true, false, _&&_, not};
-ghost use Prim.Native.Nat.{ℕ, suc, _+_, _-_, _≤_, _<_};
-ghost use lib.Dec.{eqb, ltb};
+ghost use Prim.Native.Nat.{ℕ, suc, _+_, _≤_, _<_};
+ghost use lib.Dec.{eqb};
 ghost use lib.ListN.{length, getD, set, drop};
 ghost use Rattle.words.specs.Words.{if_then_else_};
 ghost use Rattle.refusals.specs.Verdicts.{placed, nowhere, notThere};
@@ -16,7 +16,7 @@ ghost use Rattle.book.specs.Keeping.{pointsNamed};
 ghost use Rattle.book.specs.Shelving.{shelfBook, OnShelf};
 ghost use Rattle.reading.specs.Header.{header, missing};
 ghost use Rattle.reading.specs.Reading.{rowRead, rowsRead, headerOf, topFaults, tableRead, reading, leaves, unless, _▹_};
-ghost use Rattle.reading.specs.Heading.{places, headed, heading, namesCheck, cellNumbered, MarksOf, KeptOf, rowed, read, cellsCheck, Taken};
+ghost use Rattle.reading.specs.Heading.{places, headed, heading, namesCheck, cellNumbered, beginAt, MarksOf, KeptOf, rowed, read, cellsCheck, Taken};
 ghost use Rattle.reading.specs.CellQuestion.{answered, said, tableCell, cellAsked, stretchOf};
 ghost use Rattle.reading.specs.Asking.{cellJudged, rowAnswer};
 ghost use Rattle.reading.specs.Calls.{outcome, resultOf, readCall, NamedIn, delivery};
@@ -58,37 +58,42 @@ pub struct CellAnswer {
     pub cell: Cell,
 }
 
+// Room for the bounds of 32 cells, the most that a header has.
+const BOUNDS: usize = 33;
+
 fn wide(n: usize) -> u64
     ensures { λ r. ⌜ r ≡ n ⌝ }
 {
     n as u64
 }
 
-// Where a cell, by its number from 1, begins or ends; 0 for a cell that is not there.
-fn mark_of(marks: &[usize; 32], cell: usize) -> usize
-    ensures { λ r. ⌜ r ≡ (if eqb cell 0 then 0 else if ltb 32 cell then 0 else getD (now (marks .entry)) (cell - 1) 0) ⌝ }
+// Where a cell, by its number from 1, begins; 0 for a cell that is not there.
+fn begin_of(bounds: &[usize], cells: usize, cell: usize) -> usize
+    requires { ⌜ cells < length (now bounds) ⌝ }
+    ensures { λ r. ⌜ r ≡ beginAt (now (bounds .entry)) cells cell ⌝ }
 {
     if cell == 0 {
         return 0;
     }
-    if 32 < cell {
+    if cells < cell {
         return 0;
     }
-    marks[cell - 1]
+    bounds[cell - 1]
 }
 
 // The cell of that number; an empty part of the line where there is none.
-fn cell_of<'a>(
-    line: &'a [u8],
-    start: &'a [usize; 32],
-    end: &'a [usize; 32],
-    cell: usize,
-) -> &'a [u8]
-    requires { ⌜ MarksOf (now line) (now start) (now end) ⌝ }
+fn cell_of<'a, 'b>(line: &'a [u8], bounds: &'b [usize], cells: usize, cell: usize) -> &'a [u8]
+    requires { ⌜ MarksOf (now line) (now bounds) cells ⌝ }
     ensures { λ r. ⌜ now r ≡ cellNumbered cell (cellsOf (cut (now (line .entry)))) ⌝ }
 {
-    let from = mark_of(start, cell);
-    let to = mark_of(end, cell);
+    if cell == 0 {
+        return &line[0..0];
+    }
+    if cells < cell {
+        return &line[0..0];
+    }
+    let from = bounds[cell - 1];
+    let to = bounds[cell] - 1;
     &line[from..to]
 }
 
@@ -149,20 +154,14 @@ fn lowest_missing(t: Table, at: &[usize; 12]) -> usize
 }
 
 // The names of a header, from left to right; then what it lacks.
-fn map_names<'a>(
-    line: &'a [u8],
-    start: &'a [usize; 32],
-    end: &'a [usize; 32],
-    cells: usize,
-    t: Table,
-) -> Heading
-    requires { ⌜ MarksOf (now line) (now start) (now end) × (cells ≡ length (cellsOf (cut (now line)))) ⌝ }
+fn map_names(line: &[u8], bounds: &[usize], cells: usize, t: Table) -> Heading
+    requires { ⌜ MarksOf (now line) (now bounds) cells ⌝ }
     ensures { λ r. ⌜ r ≡ headed (namesCheck t (header t (cellsOf (cut (now (line .entry)))))) (header t (cellsOf (cut (now (line .entry))))) ⌝ }
 {
     let mut at = [0usize; 12];
     let mut i = 0;
     'names: while i < cells {
-        let column = t.column_of(text::stretch_of(cell_of(line, start, end, i + 1)));
+        let column = t.column_of(text::stretch_of(cell_of(line, bounds, cells, i + 1)));
         if comes_again(&at, column) {
             return no_heading(Check::column_twice(wide(column)));
         }
@@ -185,15 +184,15 @@ fn map_names<'a>(
 pub fn read_header(line: &[u8], t: Table) -> Heading
     ensures { λ r. ⌜ r ≡ heading t (now (line .entry)) ⌝ }
 {
-    let marks = text::cells_of(line);
-    let answer = marks.answer;
+    let mut bounds = [0usize; BOUNDS];
+    let answer = text::cells_of(line, &mut bounds);
     match answer {
         Answer::Bad(cell) => no_heading(Check::quote_fault(wide(cell))),
         Answer::Good(cells) => {
             if 32 < cells {
                 return no_heading(Check::too_many_cells());
             }
-            map_names(line, &marks.start, &marks.end, cells, t)
+            map_names(line, &bounds, cells, t)
         }
     }
 }
@@ -221,14 +220,8 @@ fn kept_number(value: Value, kept: bool) -> u64
 }
 
 // 8 by column number: the cells of a line, and its row.
-fn read_columns<'a, 'b>(
-    line: &'a [u8],
-    start: &'a [usize; 32],
-    end: &'a [usize; 32],
-    t: Table,
-    at: &'b [usize; 12],
-) -> Judged
-    requires { ⌜ MarksOf (now line) (now start) (now end) ⌝ }
+fn read_columns(line: &[u8], bounds: &[usize], cells: usize, t: Table, at: &[usize; 12]) -> Judged
+    requires { ⌜ MarksOf (now line) (now bounds) cells ⌝ }
     ensures { λ r. ⌜ ((h : List ℕ) → now (at .entry) ≡ places h → r ≡ rowed (cellsCheck t h (now (line .entry))) (rowRead t h (now (line .entry)))) ⌝ }
 {
     let columns = t.columns();
@@ -237,7 +230,7 @@ fn read_columns<'a, 'b>(
     let mut k = 0;
     'columns: while k < columns {
         let rules = t.rules(k);
-        let value = rules.of_cell(cell_of(line, start, end, at[k + 1]));
+        let value = rules.of_cell(cell_of(line, bounds, cells, at[k + 1]));
         let check = value.check(wide(k + 1));
         match check {
             Check::Passes => {}
@@ -257,20 +250,25 @@ fn read_columns<'a, 'b>(
     }
 }
 
-// 6, 7, 8 and the row of a line, without looking at a book.
-pub fn read_row(line: &[u8], t: Table, cells: usize, at: &[usize; 12]) -> Judged
-    requires { ⌜ cells ≤ 32 ⌝ }
+// 6, 7, 8 and the row of a line, without looking at a book. The bounds of its cells are kept where the caller has room for them.
+pub fn read_row(
+    line: &[u8],
+    t: Table,
+    cells: usize,
+    at: &[usize; 12],
+    bounds: &mut [usize],
+) -> Judged
+    requires { ⌜ cells < length (now bounds) ⌝ }
     ensures { λ r. ⌜ ((h : List ℕ) → KeptOf h cells (now (at .entry)) → r ≡ read t h (now (line .entry))) ⌝ }
 {
-    let marks = text::cells_of(line);
-    let answer = marks.answer;
+    let answer = text::cells_of(line, bounds);
     match answer {
         Answer::Bad(cell) => no_row(Check::quote_fault(wide(cell))),
         Answer::Good(count) => {
             if count != cells {
                 return no_row(Check::cell_count());
             }
-            read_columns(line, &marks.start, &marks.end, t, at)
+            read_columns(line, &bounds[..], cells, t, at)
         }
     }
 }
@@ -281,18 +279,19 @@ fn take_line(
     t: Table,
     cells: usize,
     at: &[usize; 12],
+    bounds: &mut [usize],
     book: &[Row],
     slots: &mut [Row],
     order: &mut [u16],
     n: usize,
 ) -> Check
-    requires { ⌜ (cells ≤ 32) × OnShelf t (now book) (now slots) (now order) n × ((h : List ℕ) × KeptOf h cells (now at)) ⌝ }
+    requires { ⌜ (cells < length (now bounds)) × OnShelf t (now book) (now slots) (now order) n × ((h : List ℕ) × KeptOf h cells (now at)) ⌝ }
     ensures { λ r. ⌜ (r ≡ Check.Passes → OnShelf t (now (book .entry)) (now (slots .exit)) (now (order .exit)) (suc n)) × ((h : List ℕ) → KeptOf h cells (now (at .entry)) → Taken t h (now (line .entry)) (shelfBook t (now (book .entry)) (now (slots .entry)) (now (order .entry)) n) (shelfBook t (now (book .entry)) (now (slots .exit)) (now (order .exit)) (suc n)) r) ⌝ }
 {
     if n == ROWS {
         return Check::too_many_rows();
     }
-    let read = read_row(line, t, cells, at);
+    let read = read_row(line, t, cells, at, bounds);
     let check = read.check;
     let row = read.row;
     match check {
@@ -308,12 +307,13 @@ fn take_lines(
     t: Table,
     cells: usize,
     at: &[usize; 12],
+    bounds: &mut [usize],
     book: &[Row],
     slots: &mut [Row],
     order: &mut [u16],
     n: usize,
 ) -> Filled
-    requires { ⌜ (from ≤ length (now bytes)) × (length (now bytes) ≤ 65536) × (cells ≤ 32) × OnShelf t (now book) (now slots) (now order) n × ((h : List ℕ) × KeptOf h cells (now at)) ⌝ }
+    requires { ⌜ (from ≤ length (now bytes)) × (length (now bytes) ≤ 65536) × (cells < length (now bounds)) × OnShelf t (now book) (now slots) (now order) n × ((h : List ℕ) × KeptOf h cells (now at)) ⌝ }
     ensures { λ r. ⌜ (r .verdict ≡ Verdict.Accepted → OnShelf t (now (book .entry)) (now (slots .exit)) (now (order .exit)) (r .count)) × ((h : List ℕ) → KeptOf h cells (now (at .entry)) → unless (r .verdict) (leaves (shelfBook t (now (book .entry)) (now (slots .exit)) (now (order .exit)) (r .count))) ≡ rowsRead t h 2 (lines (drop from (now (bytes .entry)))) (shelfBook t (now (book .entry)) (now (slots .entry)) (now (order .entry)) n)) ⌝ }
 {
     let mut verdict = Verdict::Accepted;
@@ -324,7 +324,17 @@ fn take_lines(
         let l = text::next_line(bytes, i);
         let end = l.end;
         let next = l.next;
-        let check = take_line(&bytes[i..end], t, cells, at, book, slots, order, count);
+        let check = take_line(
+            &bytes[i..end],
+            t,
+            cells,
+            at,
+            bounds,
+            book,
+            slots,
+            order,
+            count,
+        );
         let v = check.on(t.number(), line);
         match v {
             Verdict::Accepted => {}
@@ -355,6 +365,7 @@ fn take_rows(
 {
     let mut slots = [[0u64; 11]; ROWS];
     let mut order = [0u16; ROWS];
+    let mut bounds = [0usize; BOUNDS];
     let n = book::shelve(&book[..], t, &mut slots, &mut order);
     let filled = take_lines(
         bytes,
@@ -362,6 +373,7 @@ fn take_rows(
         t,
         cells,
         at,
+        &mut bounds,
         &book[..],
         &mut slots,
         &mut order,
@@ -518,20 +530,20 @@ fn judged_cell(cell: &[u8], at: usize, t: Table, line: u64, column: usize) -> Ce
 }
 
 // The cell of that number on a row, which begins at a place of the text.
-fn numbered_cell<'a>(
-    row: &'a [u8],
-    start: &'a [usize; 32],
-    end: &'a [usize; 32],
+fn numbered_cell(
+    row: &[u8],
+    bounds: &[usize],
+    cells: usize,
     number: usize,
     from: usize,
     t: Table,
     line: u64,
     column: usize,
 ) -> CellAnswer
-    requires { ⌜ MarksOf (now row) (now start) (now end) × (from ≤ 65536) × (1 ≤ column) ⌝ }
+    requires { ⌜ MarksOf (now row) (now bounds) cells × (from ≤ 65536) × (1 ≤ column) ⌝ }
     ensures { λ r. ⌜ r ≡ cellJudged t line column from (cellNumbered number (cellsOf (cut (now (row .entry))))) ⌝ }
 {
-    judged_cell(cell_of(row, start, end, number), from, t, line, column)
+    judged_cell(cell_of(row, bounds, cells, number), from, t, line, column)
 }
 
 // 6, 7, and then the column's cell.
@@ -547,8 +559,8 @@ fn cell_in_row(
     requires { ⌜ (begin + length (now row) ≤ 65536) × (1 ≤ column) × (column < 12) × (cells ≤ 32) ⌝ }
     ensures { λ r. ⌜ ((h : List ℕ) → KeptOf h cells (now (at .entry)) → r ≡ rowAnswer t h line column begin (now (row .entry))) ⌝ }
 {
-    let marks = text::cells_of(row);
-    let answer = marks.answer;
+    let mut bounds = [0usize; BOUNDS];
+    let answer = text::cells_of(row, &mut bounds);
     match answer {
         Answer::Bad(cell) => refused(Check::quote_fault(wide(cell)), t.number(), line),
         Answer::Good(count) => {
@@ -556,8 +568,8 @@ fn cell_in_row(
                 return refused(Check::cell_count(), t.number(), line);
             }
             let number = at[column];
-            let from = begin + mark_of(&marks.start, number);
-            numbered_cell(row, &marks.start, &marks.end, number, from, t, line, column)
+            let from = begin + begin_of(&bounds, cells, number);
+            numbered_cell(row, &bounds, cells, number, from, t, line, column)
         }
     }
 }

@@ -2,18 +2,17 @@
 use mathlib.Core.Path.{_≡_, refl, sym, ap, _∙_}
 use mathlib.Core.List.{List, [], _∷_, map}
 use mathlib.Core.Bool.{Bool, true, false, _&&_}
-use Prim.Native.Nat.{ℕ, suc, _-_, _≤_}
+use Prim.Native.Nat.{ℕ, suc, _-_, _≤_, _<_}
 use native.Mathlib.Omega.{arith}
-use lib.Dec.{eqb, lit<}
+use lib.Dec.{eqb, lit≤}
 use lib.ListN.{length, getD}
-use borrow.Author.Tests.{eqb-true}
+use borrow.Author.Tests.{eqb-true, ne-eqb}
 use Rattle.words.specs.Words.{Bytes, Row, if_then_else_, bytes, same}
 use Rattle.refusals.specs.Verdicts.{_⊳_, _when_, tooManyRows, endsEarly}
 use Rattle.refusals.specs.declared.Check.{Check}
 use Rattle.refusals.specs.declared.Check.the-variants.{Passes, Fails}
 use Rattle.text.specs.Numbers.{value}
 use Rattle.text.specs.Fields.{fields}
-use Rattle.text.specs.Marks.{fieldMarks}
 use Rattle.text.specs.declared.Fields.{Fields}
 use Rattle.text.proofs.Cutting.{fields-some}
 use Rattle.text.proofs.Marking.{Stands, field-stands}
@@ -21,13 +20,14 @@ use Rattle.tables.specs.Columns.{keyWidth, references}
 use Rattle.tables.specs.declared.Table.{Table}
 use Rattle.tables.specs.declared.Table.the-variants.{VehicleType, Depot, Stop, StopPoint, Block}
 use Rattle.tables.specs.declared.Reference.{Reference}
-use Rattle.rows.specs.Rows.{wide, column}
+use Rattle.rows.specs.Rows.{wide}
 use Rattle.book.specs.Book.{Book, rows, knows, full}
 use Rattle.book.specs.Rules.{timeFault, named, unknownOf, unknown, ruled}
 use Rattle.book.proofs.Referring.{getD-padded, stands-wide}
 use Rattle.reading.specs.Heading.{rowed}
 use Rattle.reading.specs.declared.Judged.{Judged}
 use Rattle.slips.specs.Slips.{numbers, letter, counted, wish, badField, missingBlock, lineJudged, fieldsRead}
+use Rattle.slips.specs.Taking.{FieldsOf}
 use Rattle.slips.specs.declared.Wish.{Wish}
 use Rattle.slips.specs.declared.Wish.the-variants.{Add, Replace, Delete, Unknown}
 
@@ -60,20 +60,9 @@ module _ (f : Bytes) where
   unfolding bytes
   letter-unknown a r e = rw (a, r, e)
 
-pub wish-first : (fs : List Bytes) → 1 ≤ length fs → wish fs ≡ counted (letter (getD fs 0 [])) (length fs - 1)
+wish-first : (fs : List Bytes) → 1 ≤ length fs → wish fs ≡ counted (letter (getD fs 0 [])) (length fs - 1)
 wish-first [] h = absurd (omega arith)
 wish-first (f ∷ fs) h = let e : suc (length fs) - 1 ≡ length fs = omega arith in rw e
-
--- the first field stands on the line where the marks say
-pub first-stands : (line : Bytes) (r : Fields) → r ≡ fieldMarks (fields line) → Stands line (getD (r .start) 0 0) (getD (r .end) 0 0) (getD (fields line) 0 [])
-first-stands line r e = field-stands line r 0 e (rw e (omega (arith, fields-some line))) (lit< tt)
-
-pub marks-some : (line : Bytes) (r : Fields) → r ≡ fieldMarks (fields line) → 1 ≤ r .count
-marks-some line r e = rw e (fields-some line)
-
-pub wish-marked : (line : Bytes) (r : Fields) → r ≡ fieldMarks (fields line) → (f : Bytes) (w v : Wish) → f ≡ getD (fields line) 0 [] → w ≡ letter f
-    → v ≡ counted w (r .count - 1) → v ≡ wish (fields line)
-wish-marked line r e f w v p q h = h ∙ ap (λ (x : Wish). counted x (r .count - 1)) (q ∙ ap letter p) ∙ rw e (sym (wish-first (fields line) (fields-some line)))
 
 -- how many numbers a line of a kind has
 abbrev size : Wish → ℕ
@@ -99,9 +88,37 @@ sized w n v e known = go (eqb n (size w)) refl (sym (counted-size w n) ∙ e)
     go true q p = eqb-true n (size w) q ∙ ap size p
     go false q p = absurd (known (sym p))
 
+-- no kind has more numbers than a block
+size-few : (w : Wish) → size w ≤ 11
+size-few Add = lit≤ tt
+size-few Replace = lit≤ tt
+size-few Delete = lit≤ tt
+size-few Unknown = lit≤ tt
+
+counted-many : (w : Wish) (n : ℕ) → 11 < n → counted w n ≡ Unknown
+counted-many w n h = counted-size w n ∙ rw (ne-eqb n (size w) (λ e. omega (arith, size-few w)))
+
 pub wish-size : (fs : List Bytes) (v : Wish) → wish fs ≡ v → (v ≡ Unknown → ⊥) → length (numbers fs) ≡ size v
 wish-size [] v e known = absurd (known (sym e))
 wish-size (f ∷ fs) v e known = sized (letter f) (length fs) v e known
+
+-- what the marks of a line say
+module _ (line : Bytes) (marks : Fields) (m : FieldsOf line marks) where
+  pub marks-some : 1 ≤ marks .count
+  marks-some = rw (m .0) (fields-some line)
+
+  counted-first : wish (fields line) ≡ counted (letter (getD (fields line) 0 [])) (marks .count - 1)
+  counted-first = rw (m .0) (wish-first (fields line) (fields-some line))
+
+  pub wish-many : 11 < marks .count - 1 → Unknown ≡ wish (fields line)
+  wish-many h = sym (counted-first ∙ counted-many (letter (getD (fields line) 0 [])) (marks .count - 1) h)
+
+  -- the first field of no more than 12 stands between the first bounds
+  pub first-stands : marks .count - 1 ≤ 11 → Stands line (getD (marks .bounds) 0 0) (getD (marks .bounds) 1 0) (getD (fields line) 0 [])
+  first-stands few = field-stands line 13 (marks .bounds) 0 (m .1) (omega (arith, m .0)) (omega (arith, fields-some line))
+
+  pub wish-marked : (f : Bytes) (w v : Wish) → f ≡ getD (fields line) 0 [] → w ≡ letter f → v ≡ counted w (marks .count - 1) → v ≡ wish (fields line)
+  wish-marked f w v p q h = h ∙ ap (λ (x : Wish). counted x (marks .count - 1)) (q ∙ ap letter p) ∙ sym counted-first
 
 -- rows with zeros behind their numbers -----------------------------------------------------------------------------------------
 

@@ -2,7 +2,7 @@
 use mathlib.Core.Path.{_≡_, refl, sym, ap, _∙_}
 use mathlib.Core.List.{List, [], _∷_, _++_, map}
 use mathlib.Core.Bool.{Bool, true, false}
-use Prim.Native.Nat.{ℕ, _+_, _-_, _≤_, _<_}
+use Prim.Native.Nat.{ℕ, suc, _+_, _-_, _≤_, _<_}
 use native.Mathlib.Numerals.{add-one}
 use native.Mathlib.Omega.{arith}
 use lib.Dec.{lit<}
@@ -15,7 +15,6 @@ use Rattle.refusals.specs.declared.Check.{Check}
 use Rattle.refusals.specs.declared.Check.the-variants.{Passes, Fails}
 use Rattle.text.specs.Numbers.{value}
 use Rattle.text.specs.Fields.{fields}
-use Rattle.text.specs.Marks.{fieldMarks}
 use Rattle.text.specs.declared.Fields.{Fields}
 use Rattle.text.proofs.Cutting.{fields-some}
 use Rattle.text.proofs.Marking.{Stands, field-stands}
@@ -30,6 +29,7 @@ use Rattle.rows.specs.Room.{zeros}
 use Rattle.reading.specs.Reading.{badCell}
 use Rattle.reading.specs.Heading.{rowed}
 use Rattle.slips.specs.Slips.{numbers, badField}
+use Rattle.slips.specs.Taking.{FieldsOf}
 use Rattle.tables.specs.declared.Value.the-variants as value-is
 
 -- the fields behind the first
@@ -41,12 +41,13 @@ pub numbers-at : (fs : List Bytes) (i : ℕ) → getD fs (i + 1) [] ≡ getD (nu
 numbers-at [] i = refl
 numbers-at (f ∷ fs) i = rw add-one
 
--- each number stands on the line where the marks say
-pub number-stands : (line : Bytes) (r : Fields) (n i : ℕ) → r ≡ fieldMarks (fields line) → length (numbers (fields line)) ≡ n → n ≤ 11 → i < n
-    → Stands line (getD (r .start) (i + 1) 0) (getD (r .end) (i + 1) 0) (getD (numbers (fields line)) i [])
-number-stands line r n i e c few h =
-    let k : r .count ≡ length (numbers (fields line)) + 1 = ap (λ (m : Fields). m .count) e ∙ numbers-count (fields line) (fields-some line) in
-    rw (numbers-at (fields line) i) at (field-stands line r (i + 1) e (omega arith) (omega arith))
+-- each number stands on the line between its bounds
+pub number-stands : (line : Bytes) (marks : Fields) (n i : ℕ) → FieldsOf line marks → length (numbers (fields line)) ≡ n → n ≤ 11 → i < n
+    → Stands line (getD (marks .bounds) (i + 1) 0) (getD (marks .bounds) (i + 2) 0) (getD (numbers (fields line)) i [])
+number-stands line marks n i m c few h =
+    let k : length (fields line) ≡ length (numbers (fields line)) + 1 = numbers-count (fields line) (fields-some line) in
+    let e : suc (i + 1) ≡ i + 2 = omega arith in
+    rw (numbers-at (fields line) i, e) at (field-stands line 13 (marks .bounds) (i + 1) (m .1) (omega arith) (omega arith))
 
 -- 8, column by column
 abbrev pub badFrom : ℕ → List Bytes → Check

@@ -8,14 +8,13 @@ ghost use Rattle.words.specs.Words.{same};
 ghost use Rattle.refusals.specs.Verdicts.{_⊳_, _when_, endsEarly};
 ghost use Rattle.text.specs.Fields.{fields};
 ghost use Rattle.text.specs.Lines.{slipLines};
-ghost use Rattle.text.specs.Marks.{fieldMarks};
 ghost use Rattle.book.specs.Rules.{timeFault, unknown};
 ghost use Rattle.book.specs.Room.{bookOf, Sound};
 ghost use Rattle.book.specs.Keeping.{pointsNamed};
 ghost use Rattle.book.specs.Shelving.{shelfBook, OnShelf};
 ghost use Rattle.reading.specs.Calls.{delivery};
 ghost use Rattle.slips.specs.Calls.{outcome, cleared, slipOutcome, slipCall, emptied, dayCall};
-ghost use Rattle.slips.specs.Taking.{Taken, LinesTaken, behind};
+ghost use Rattle.slips.specs.Taking.{FieldsOf, Taken, LinesTaken, behind};
 ghost use Rattle.slips.specs.Slips.{numbers, letter, counted, wish, fieldsRead, linesPosted};
 use book::BOOK_ROWS;
 use reading::Judged;
@@ -110,16 +109,19 @@ fn kind_of(field: &[u8]) -> Wish
     Wish::Unknown
 }
 
-// What a line asks for, by its first field and by how many follow.
+// What a line asks for, by its first field and by how many follow. With more numbers than a block has it is of no kind, and its bounds are not kept.
 fn wish_of(line: &[u8], marks: Fields) -> Wish
-    requires { ⌜ marks ≡ fieldMarks (fields (now line)) ⌝ }
+    requires { ⌜ FieldsOf (now line) marks ⌝ }
     ensures { λ r. ⌜ r ≡ wish (fields (now (line .entry))) ⌝ }
 {
-    let start = marks.start;
-    let end = marks.end;
-    let from = start[0];
-    let to = end[0];
-    kind_of(&line[from..to]).with_numbers(marks.count - 1)
+    let n = marks.count - 1;
+    if BLOCK_NUMBERS < n {
+        return Wish::Unknown;
+    }
+    let bounds = marks.bounds;
+    let from = bounds[0];
+    let to = bounds[1] - 1;
+    kind_of(&line[from..to]).with_numbers(n)
 }
 
 // The number of a value, or 0.
@@ -136,16 +138,15 @@ fn figure(value: Value) -> u64
 
 // 8, and the row of a line of n numbers.
 fn read_fields(line: &[u8], marks: Fields, n: usize) -> Judged
-    requires { ⌜ (marks ≡ fieldMarks (fields (now line))) × (length (numbers (fields (now line))) ≡ n) × (n ≤ 11) ⌝ }
+    requires { ⌜ FieldsOf (now line) marks × (length (numbers (fields (now line))) ≡ n) × (n ≤ 11) ⌝ }
     ensures { λ r. ⌜ r ≡ fieldsRead (numbers (fields (now (line .entry)))) ⌝ }
 {
-    let start = marks.start;
-    let end = marks.end;
+    let bounds = marks.bounds;
     let mut row = [0u64; 11];
     let mut i: usize = 0;
     'columns: while i < n {
-        let from = start[i + 1];
-        let to = end[i + 1];
+        let from = bounds[i + 1];
+        let to = bounds[i + 2] - 1;
         let value = Table::Block.rules(i).of_field(&line[from..to]);
         match value.check((i + 1) as u64) {
             Check::Passes => {}
@@ -184,7 +185,7 @@ fn add_block(
     order: &mut [u16],
     n: usize,
 ) -> Told
-    requires { ⌜ (marks ≡ fieldMarks (fields (now line))) × (wish (fields (now line)) ≡ Wish.Add) × OnShelf Table.Block (now book) (now slots) (now order) n ⌝ }
+    requires { ⌜ FieldsOf (now line) marks × (wish (fields (now line)) ≡ Wish.Add) × OnShelf Table.Block (now book) (now slots) (now order) n ⌝ }
     ensures { λ r. ⌜ Taken (now (line .entry)) (now (book .entry)) (now (slots .entry)) (now (slots .exit)) (now (order .entry)) (now (order .exit)) n r ⌝ }
 {
     if n == ROWS {
@@ -237,7 +238,7 @@ fn replace_block(
     order: &[u16],
     n: usize,
 ) -> Told
-    requires { ⌜ (marks ≡ fieldMarks (fields (now line))) × (wish (fields (now line)) ≡ Wish.Replace) × OnShelf Table.Block (now book) (now slots) (now order) n ⌝ }
+    requires { ⌜ FieldsOf (now line) marks × (wish (fields (now line)) ≡ Wish.Replace) × OnShelf Table.Block (now book) (now slots) (now order) n ⌝ }
     ensures { λ r. ⌜ Taken (now (line .entry)) (now (book .entry)) (now (slots .entry)) (now (slots .exit)) (now (order .entry)) (now (order .entry)) n r ⌝ }
 {
     let read = read_fields(line, marks, BLOCK_NUMBERS);
@@ -275,7 +276,7 @@ fn delete_block(
     order: &mut [u16],
     n: usize,
 ) -> Told
-    requires { ⌜ (marks ≡ fieldMarks (fields (now line))) × (wish (fields (now line)) ≡ Wish.Delete) × OnShelf Table.Block (now book) (now slots) (now order) n ⌝ }
+    requires { ⌜ FieldsOf (now line) marks × (wish (fields (now line)) ≡ Wish.Delete) × OnShelf Table.Block (now book) (now slots) (now order) n ⌝ }
     ensures { λ r. ⌜ Taken (now (line .entry)) (now (book .entry)) (now (slots .entry)) (now (slots .entry)) (now (order .entry)) (now (order .exit)) n r ⌝ }
 {
     let read = read_fields(line, marks, KEY_NUMBERS);

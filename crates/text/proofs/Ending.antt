@@ -6,7 +6,7 @@ use Prim.Native.Nat.{ℕ, suc, _+_, _-_, _≤_, _<_}
 use native.Mathlib.Omega.{arith}
 use borrow.Author.Tests.{eqb-true, ne-eqb, lt-ltb, le-ltb}
 use lib.Dec.{eqb, ltb}
-use lib.ListN.{length, take, drop, getD, length-drop, drop-of-length-le}
+use lib.ListN.{length, take, drop, getD, set, length-drop, drop-of-length-le}
 use lib.Seq.{drop-drop, length-take-le}
 use Rattle.words.specs.Words.{Bytes, if_then_else_}
 use Rattle.words.proofs.Lists.{drop-step}
@@ -19,7 +19,7 @@ use Rattle.text.specs.declared.State.the-variants.{Fresh, Plain, Inside,
 use Rattle.text.specs.declared.CellEnd.{CellEnd}
 use Rattle.text.specs.declared.CellEnd.the-variants.{Nowhere, At}
 use Rattle.text.proofs.Cutting.{before, grownBy, grownBy-after}
-use Rattle.text.proofs.Marking.{Sofar, bytes-more}
+use Rattle.text.proofs.Marking.{Sofar, bytes-more, cell-more}
 
 -- bytes that leave a state as it is ---------------------------------------------------------------------------------------
 
@@ -284,15 +284,15 @@ module _ (line : Bytes) (from : ℕ) where
     ends-within = let w : length (drop from line) ≡ length line - from = length-drop from line in omega (arith, h, ends-from Fresh from e (drop from line) q .within)
 
     -- what is found with the whole cell
-    pub cell-found : (room : ℕ) (whole : Cut) (xs ys : List ℕ) (n : ℕ) → Sofar room whole xs ys n from from (cut (drop from line)) → Sofar room whole xs ys n from e (after (following (drop e line)))
-    cell-found room whole xs ys n s =
+    cell-found : (room : ℕ) (whole : Cut) (bounds : List ℕ) (n : ℕ) → Sofar room whole bounds n from (cut (drop from line)) → Sofar room whole bounds n e (after (following (drop e line)))
+    cell-found room whole bounds n s =
         let cell = take (e - from) (drop from line) in
         let l : length cell ≡ e - from = length-take-le (e - from) (drop from line) (rw length-drop (omega (arith, h, ends-behind, ends-within))) in
         let a : from + (e - from) ≡ e = omega (arith, ends-behind) in
         let d : drop (e - from) (drop from line) ≡ drop e line = drop-drop (e - from) from line ∙ ap (λ (k : ℕ). drop k line) a in
         let p : cut (drop from line) ≡ grownBy cell (after (following (drop e line))) = ends-from Fresh from e (drop from line) q .parted-there ∙ rw d (sym (grownBy-after cell (following (drop e line)))) in
         let r : from + length cell ≡ e = rw l a in
-        subst (λ (k : ℕ). Sofar room whole xs ys n from k (after (following (drop e line)))) r (bytes-more room whole xs ys n from from (after (following (drop e line))) cell (subst (Sofar room whole xs ys n from from) p s))
+        subst (λ (k : ℕ). Sofar room whole bounds n k (after (following (drop e line)))) r (bytes-more room whole bounds n from (after (following (drop e line))) cell (subst (Sofar room whole bounds n from) p s))
 
 module _ (line : Bytes) (e : ℕ) where
   pub following-last : length line ≤ e → following (drop e line) ≡ cells []
@@ -300,3 +300,10 @@ module _ (line : Bytes) (e : ℕ) where
 
   pub following-next : e < length line → following (drop e line) ≡ cut (drop (e + 1) line)
   following-next h = rw (drop-step 0 line e h)
+
+-- one cell more, whose end is noted with the byte that parts it from the next
+pub cell-ended : (line : Bytes) (from e : ℕ) → from ≤ length line → endFrom Fresh from (drop from line) ≡ At e → (room : ℕ) (bounds bounds′ : List ℕ) (n : ℕ)
+    → Sofar room (cut line) bounds n from (cut (drop from line)) → bounds′ ≡ set bounds (n + 1) (e + 1) → (rest : Cut) → following (drop e line) ≡ rest
+    → Sofar room (cut line) bounds′ (n + 1) (e + 1) rest
+cell-ended line from e h q room bounds bounds′ n s g rest f =
+    cell-more room (cut line) bounds n e rest bounds′ (subst (Sofar room (cut line) bounds n e) (ap after f) (cell-found line from e h q room (cut line) bounds n s)) g

@@ -1,16 +1,17 @@
 // What stands in a text: lines, cells, contents, numbers, fields.
 ghost use mathlib.Core.Path.{_≡_};
 ghost use mathlib.Core.Bool.{true, false};
+ghost use mathlib.Core.List.{List};
 ghost use Prim.Native.Nat.{ℕ, _+_, _≤_, _<_};
 ghost use lib.ListN.{length, drop, getD, set};
 ghost use lib.Dec.{eqb, leb, ltb};
-ghost use Rattle.words.specs.Words.{if_then_else_};
+ghost use Rattle.words.specs.Words.{Bytes, if_then_else_};
 ghost use Rattle.text.specs.declared.State.the-variants.{Fresh, Plain, Inside};
 ghost use Rattle.text.specs.Lines.{lineLength, slipLength, lineAt, slipLineAt};
-ghost use Rattle.text.specs.Cells.{kind, cut, quoted, stretch, once, content};
+ghost use Rattle.text.specs.Cells.{cells, kind, cut, quoted, stretch, once, content};
 ghost use Rattle.text.specs.Numbers.{decimalOf};
 ghost use Rattle.text.specs.Fields.{fields};
-ghost use Rattle.text.specs.Marks.{marked, fieldMarks};
+ghost use Rattle.text.specs.Marks.{BoundsOf, answerOf};
 ghost use Rattle.text.specs.Ends.{stays, endFrom, stopAt};
 
 // What a byte, or the line's end, is to a cell. The specification alone speaks of kinds and states.
@@ -44,18 +45,10 @@ pub enum Answer {
     Good(usize),
 }
 
-// The cells of a line: where the first 32 begin and end.
-pub struct Cells {
-    pub answer: Answer,
-    pub start: [usize; 32],
-    pub end: [usize; 32],
-}
-
-// The fields of a slip line: where the first 12 begin and end.
+// The fields of a slip line: how many, and the bounds of up to 12.
 pub struct Fields {
     pub count: usize,
-    pub start: [usize; 12],
-    pub end: [usize; 12],
+    pub bounds: [usize; 13],
 }
 
 // Where a line ends, and where the next one begins.
@@ -225,35 +218,25 @@ fn note(places: &mut [usize], n: usize, place: usize)
     }
 }
 
-// The cells of a line, one by one.
-pub fn cells_of(line: &[u8]) -> Cells
-    ensures { λ r. ⌜ r ≡ marked (cut (now (line .entry))) ⌝ }
+// The cells of a line, one by one: the first faulty one, or how many they are, with their bounds where there is room for them.
+pub fn cells_of(line: &[u8], bounds: &mut [usize]) -> Answer
+    ensures { λ r. ⌜ (r ≡ answerOf (cut (now (line .entry)))) × ((cs : List Bytes) → cut (now (line .entry)) ≡ cells cs → BoundsOf cs (length (now (bounds .exit))) (now (bounds .exit))) ⌝ }
 {
-    let mut start = [0usize; 32];
-    let mut end = [0usize; 32];
     let mut n: usize = 0;
     let mut from: usize = 0;
+    note(bounds, n, from);
     'cells: loop {
         match cell_end(line, from) {
             CellEnd::Nowhere => {
-                return Cells {
-                    answer: Answer::Bad(n + 1),
-                    start: [0; 32],
-                    end: [0; 32],
-                };
+                return Answer::Bad(n + 1);
             }
             CellEnd::At(i) => {
-                note(&mut start, n, from);
-                note(&mut end, n, i);
                 n += 1;
-                if i == line.len() {
-                    return Cells {
-                        answer: Answer::Good(n),
-                        start,
-                        end,
-                    };
-                }
                 from = i + 1;
+                note(bounds, n, from);
+                if i == line.len() {
+                    return Answer::Good(n);
+                }
             }
         }
     }
@@ -271,27 +254,19 @@ fn field_ends(line: &[u8], i: usize) -> bool
 
 // The fields of a slip line, in one pass.
 pub fn fields_of(line: &[u8]) -> Fields
-    ensures { λ r. ⌜ r ≡ fieldMarks (fields (now (line .entry))) ⌝ }
+    ensures { λ r. ⌜ (r .count ≡ length (fields (now (line .entry)))) × BoundsOf (fields (now (line .entry))) 13 (r .bounds) ⌝ }
 {
-    let mut start = [0usize; 12];
-    let mut end = [0usize; 12];
+    let mut bounds = [0usize; 13];
     let mut n: usize = 0;
-    let mut from: usize = 0;
     let mut i: usize = 0;
     'fields: loop {
         if field_ends(line, i) {
-            note(&mut start, n, from);
-            note(&mut end, n, i);
             n += 1;
+            note(&mut bounds, n, i + 1);
             if i == line.len() {
-                return Fields {
-                    count: n,
-                    start,
-                    end,
-                };
+                return Fields { count: n, bounds };
             }
             i += 1;
-            from = i;
         } else {
             i += 1;
         }

@@ -1,8 +1,19 @@
--- `book::shelve` meets its contract: the part's rows stand in the slots as they stood, and the order counts them. Assumes nothing.
+-- `book::shelve` meets its contract: the table's rows stand in the first slots as they stood, and the order counts them. Assumes nothing.
+use mathlib.Core.Path.{sym, ap, _∙_}
+use mathlib.Core.List.{List, _++_}
+use native.Mathlib.Omega.{arith}
+use lib.ListN.{length, drop}
+use lib.Seq.{length-take-le}
+use Rattle.words.specs.Words.{Row}
+use Rattle.rows.specs.Shelf.{upFrom}
+use Rattle.book.proofs.Laying.{rows-lent}
 use Rattle.book.proofs.Shelving.{shelf-on, shelf-same}
 use borrow.Author.Needs.{needs}
 use Rattle.book.proofs.shelve.Statement.{statement}
 use Rattle.book.proofs.shelve.Tie as tie
+
+count-rows-requires : tie.Need-count-rows-requires
+count-rows-requires c κs = search needs
 
 first-row-requires : tie.Need-first-row-requires
 first-row-requires c κs = search needs
@@ -22,14 +33,24 @@ part-copy-start c = search needs
 part-copy-end : tie.Need-part-copy-end
 part-copy-end c = search needs
 
+slice-relend-prefix-copy : tie.Need-slice-relend-prefix-copy
+slice-relend-prefix-copy c = search needs
+
+slice-aggregate-copy : tie.Need-slice-aggregate-copy
+slice-aggregate-copy c =
+    let n = c .before .before .before .count-rows in
+    let st = c .before .before .before .before .before in
+    sym (length-take-le (n .result) (st .args .slots .now) (omega (arith, n .ensures .1, st .pre .2)))
+
 copy-requires : tie.Need-copy-requires
-copy-requires c κs = search needs
+copy-requires c κs =
+    let n = c .before .before .before .count-rows in
+    let st = c .before .before .before .before .before in
+    ap (λ (l : List Row). length l) (rows-lent (st .args .t) (st .args .book .now) (st .pre .0 .long) _ (n .result) (c .before .before .first-row .ensures .0) (n .ensures .0))
+    ∙ sym (n .ensures .0) ∙ slice-aggregate-copy c
 
 number-slots-requires : tie.Need-number-slots-requires
 number-slots-requires c κs = search needs
-
-count-rows-requires : tie.Need-count-rows-requires
-count-rows-requires c κs = search needs
 
 same-length : tie.Need-same-length
 same-length c = search needs
@@ -39,28 +60,34 @@ same-length-2 c = search needs
 
 returns : tie.Need-returns
 returns c =
+    let n = c .before .before .before .before .before .before .before .before .before .count-rows in
     let st = c .before .before .before .before .before .before .before .before .before .before .before in
-    let at = c .before .before .before .before .before .before .before .before .before .first-row in
-    let s = c .before .before .before .before .before .before .copy .ensures in
-    let o = c .before .before .before .number-slots .ensures in
-    let n = c .count-rows in (
-      shelf-on (st .args .t) (st .args .book .now) (st .pre .0) (at .result) (at .ensures .0) _ _ (n .result) _ s (st .pre .3) o (n .ensures .0) (st .pre .1),
-      shelf-same (st .args .t) (st .args .book .now) (st .pre .0) (at .result) (at .ensures .0) _ _ (n .result) _ s (st .pre .3) o (n .ensures .0),
+    let at = c .before .before .before .before .before .before .before .before .first-row in
+    let xs = st .args .book .now in
+    let s =
+    ap (λ (l : List Row). l ++ drop (n .result) (st .args .slots .now))
+    (c .before .before .before .before .before .copy .ensures ∙ rows-lent (st .args .t) xs (st .pre .0 .long) _ (n .result) (at .ensures .0) (n .ensures .0)) in
+    let long = same-length c ∙ st .pre .2 in
+    let o = c .before .before .number-slots .ensures ∙ ap (upFrom 0) (st .pre .3) in (
+      shelf-on (st .args .t) xs (st .pre .0) _ _ _ (n .result) s long o (n .ensures .0) (st .pre .1),
+      shelf-same (st .args .t) xs (st .pre .0) _ _ _ (n .result) s long o (n .ensures .0),
     )
 
 pub shelve-spec : {M : Type 1} → statement M
 shelve-spec =
     tie.close
     (tie.spec
+    count-rows-requires
     first-row-requires
     add-to
     mul-copy
     sub-copy
     part-copy-start
     part-copy-end
+    slice-relend-prefix-copy
+    slice-aggregate-copy
     copy-requires
     number-slots-requires
-    count-rows-requires
     same-length
     same-length-2
     returns)

@@ -15,13 +15,13 @@ use Rattle.reading.proofs.map_names.Statement.{statement}
 use Rattle.reading.proofs.map_names.Tie as tie
 
 abbrev Inv-names : tie.InvT-names
-Inv-names line start end cells t at₀ i₀ at i = (i ≤ cells) × Walked (header t (cellsOf (cut line))) at i
+Inv-names line bounds cells t at₀ i₀ at i = (i ≤ cells) × Walked (header t (cellsOf (cut line))) at i
 
 abbrev μ-names : tie.MeasureT-names
-μ-names line start end cells t at₀ i₀ at i = cells - i
+μ-names line bounds cells t at₀ i₀ at i = cells - i
 
 names-holds : tie.Need-names-holds Inv-names μ-names
-names-holds c = (omega arith, walked-none (header (c .before .args .t) (cellsOf (cut (c .before .args .line .now)))))
+names-holds c = (omega arith, walked-none (header (c .before .before .args .t) (cellsOf (cut (c .before .before .args .line .now)))))
 
 add-cell-of : tie.Need-add-cell-of Inv-names μ-names
 add-cell-of c = search needs
@@ -36,7 +36,7 @@ column-of-requires : tie.Need-column-of-requires Inv-names μ-names
 column-of-requires c κs = search needs
 
 comes-again-requires : tie.Need-comes-again-requires Inv-names μ-names
-comes-again-requires c κs = name-few (c .before .before .before .before .before .before .before .args .t) (c .before .before .stretch-of .result .now) (c .before .column-of .result) (c .before .column-of .ensures)
+comes-again-requires c κs = name-few (c .before .before .before .before .before .before .before .before .args .t) (c .before .before .stretch-of .result .now) (c .before .column-of .result) (c .before .column-of .ensures)
 
 wide-requires : tie.Need-wide-requires Inv-names μ-names
 wide-requires c κs = search needs
@@ -49,12 +49,12 @@ no-heading-requires c κs = search needs
 
 returns : tie.Need-returns Inv-names μ-names
 returns c =
-    let a = c .before .before .before .before .before .before .before .before .before .before .before .before .args in
+    let a = c .before .before .before .before .before .before .before .before .before .before .before .before .before .args in
     let h = header (a .t) (cellsOf (cut (a .line .now))) in
     let w = c .before .before .before .before .before .before .before .before .before .before .names in
     let column = c .before .before .before .before .before .before .column-of .result in
     let name = c .before .before .before .before .before .before .before .stretch-of .result .now in
-    let l : w .i < length (cellsOf (cut (a .line .now))) = omega (arith, c .before .before .before .before .before .before .before .before .before .before .before .before .pre .1, c .before .before .before .before .before .before .before .before .before .names-test .taken) in
+    let l : w .i < length (cellsOf (cut (a .line .now))) = omega (arith, c .before .before .before .before .before .before .before .before .before .before .before .before .before .pre .counted, c .before .before .before .before .before .before .before .before .before .names-test .taken) in
     let n : w .i < length h = omega (arith, header-length (a .t) (cellsOf (cut (a .line .now)))) in
     let e : getD h (w .i) 0 ≡ column = name-read (a .t) (cellsOf (cut (a .line .now))) (w .i) (c .before .before .before .before .before .before .before .before .cell-of .result .now) name column l (c .before .before .before .before .before .before .before .before .cell-of .ensures) (c .before .before .before .before .before .before .before .stretch-of .ensures) (c .before .before .before .before .before .before .column-of .ensures) in
     let few : column < 12 = name-few (a .t) name column (c .before .before .before .before .before .before .column-of .ensures) in
@@ -65,7 +65,7 @@ add-note : tie.Need-add-note Inv-names μ-names
 add-note c = search needs
 
 note-requires : tie.Need-note-requires Inv-names μ-names
-note-requires c κs = name-few (c .before .before .before .before .before .before .before .before .before .args .t) (c .before .before .before .before .stretch-of .result .now) (c .before .before .before .column-of .result) (c .before .before .before .column-of .ensures)
+note-requires c κs = name-few (c .before .before .before .before .before .before .before .before .before .before .args .t) (c .before .before .before .before .stretch-of .result .now) (c .before .before .before .column-of .result) (c .before .before .before .column-of .ensures)
 
 add-i : tie.Need-add-i Inv-names μ-names
 add-i c = search needs
@@ -75,12 +75,12 @@ names-less c = search needs
 
 names-again : tie.Need-names-again Inv-names μ-names
 names-again c =
-    let a = c .before .before .before .before .before .before .before .before .before .before .args in
+    let a = c .before .before .before .before .before .before .before .before .before .before .before .args in
     let h = header (a .t) (cellsOf (cut (a .line .now))) in
     let w = c .before .before .before .before .before .before .before .before .names in
     let column = c .before .before .before .before .column-of .result in
     let name = c .before .before .before .before .before .stretch-of .result .now in
-    let l : w .i < length (cellsOf (cut (a .line .now))) = omega (arith, c .before .before .before .before .before .before .before .before .before .before .pre .1, c .before .before .before .before .before .before .before .names-test .taken) in
+    let l : w .i < length (cellsOf (cut (a .line .now))) = omega (arith, c .before .before .before .before .before .before .before .before .before .before .before .pre .counted, c .before .before .before .before .before .before .before .names-test .taken) in
     let n : w .i < length h = omega (arith, header-length (a .t) (cellsOf (cut (a .line .now)))) in
     let e : getD h (w .i) 0 ≡ column = name-read (a .t) (cellsOf (cut (a .line .now))) (w .i) (c .before .before .before .before .before .before .cell-of .result .now) name column l (c .before .before .before .before .before .before .cell-of .ensures) (c .before .before .before .before .before .stretch-of .ensures) (c .before .before .before .before .column-of .ensures) in
     let few : column < 12 = name-few (a .t) name column (c .before .before .before .before .column-of .ensures) in
@@ -91,10 +91,10 @@ lowest-missing-requires c κs = search needs
 
 returns-2 : tie.Need-returns-2 Inv-names μ-names
 returns-2 c =
-    let a = c .before .before .before .before .before .before .args in
+    let a = c .before .before .before .before .before .before .before .args in
     let h = header (a .t) (cellsOf (cut (a .line .now))) in
     let w = c .before .before .before .before .names in
-    let m : length h ≡ a .cells = header-length (a .t) (cellsOf (cut (a .line .now))) ∙ sym (c .before .before .before .before .before .before .pre .1) in
+    let m : length h ≡ a .cells = header-length (a .t) (cellsOf (cut (a .line .now))) ∙ c .before .before .before .before .before .before .before .pre .counted in
     let l : length h ≤ w .i = omega arith in
     let o : repeated [] h ≡ 0 = walked-once h (w .at) (w .i) (w .inv .1) l in
     let p : w .at ≡ places h = walked-noted h (w .at) (w .i) (w .inv .1) l in
@@ -111,10 +111,10 @@ no-heading-requires-2 c κs = search needs
 
 returns-3 : tie.Need-returns-3 Inv-names μ-names
 returns-3 c =
-    let a = c .before .before .before .before .before .before .before .before .before .args in
+    let a = c .before .before .before .before .before .before .before .before .before .before .args in
     let h = header (a .t) (cellsOf (cut (a .line .now))) in
     let w = c .before .before .before .before .before .before .before .names in
-    let m : length h ≡ a .cells = header-length (a .t) (cellsOf (cut (a .line .now))) ∙ sym (c .before .before .before .before .before .before .before .before .before .pre .1) in
+    let m : length h ≡ a .cells = header-length (a .t) (cellsOf (cut (a .line .now))) ∙ c .before .before .before .before .before .before .before .before .before .before .pre .counted in
     let l : length h ≤ w .i = omega arith in
     let o : repeated [] h ≡ 0 = walked-once h (w .at) (w .i) (w .inv .1) l in
     let p : w .at ≡ places h = walked-noted h (w .at) (w .i) (w .inv .1) l in

@@ -14,7 +14,7 @@ judged-cell-requires c κs = search needs
 
 returns : tie.Need-returns
 returns c =
-    let a = c .before .before .before .args in
+    let a = c .before .before .before .before .args in
     c .judged-cell .ensures ∙ ap (λ (cell : Bytes). cellJudged (a .t) (a .line) (a .column) (a .from) cell) (c .before .cell-of .ensures)
 
 pub numbered-cell-spec : {M : Type 1} → statement M

@@ -20,10 +20,10 @@ use Rattle.reading.proofs.read_columns.Statement.{statement}
 use Rattle.reading.proofs.read_columns.Tie as tie
 
 abbrev Inv-columns : tie.InvT-columns
-Inv-columns line start end t at columns kept row₀ k₀ row k = (k ≤ columns) × (columns ≤ 11) × (columns ≡ length (columnsOf t)) × (kept ≡ keptWidth t) × ((h : List ℕ) → at ≡ places h → Columned t h line row k)
+Inv-columns line bounds cells t at columns kept row₀ k₀ row k = (k ≤ columns) × (columns ≤ 11) × (columns ≡ length (columnsOf t)) × (kept ≡ keptWidth t) × ((h : List ℕ) → at ≡ places h → Columned t h line row k)
 
 abbrev μ-columns : tie.MeasureT-columns
-μ-columns line start end t at columns kept row₀ k₀ row k = columns - k
+μ-columns line bounds cells t at columns kept row₀ k₀ row k = columns - k
 
 columns-requires : tie.Need-columns-requires Inv-columns μ-columns
 columns-requires c κs = search needs
@@ -32,7 +32,7 @@ kept-requires : tie.Need-kept-requires Inv-columns μ-columns
 kept-requires c κs = search needs
 
 columns-holds : tie.Need-columns-holds Inv-columns μ-columns
-columns-holds c = (omega arith, omega (arith, c .before .columns2 .ensures, columns-few (c .before .before .before .args .t)), c .before .columns2 .ensures, c .kept .ensures, λ h e. columned-none (c .before .before .before .args .t) h (c .before .before .before .args .line .now))
+columns-holds c = (omega arith, omega (arith, c .before .columns2 .ensures, columns-few (c .before .before .before .before .args .t)), c .before .columns2 .ensures, c .kept .ensures, λ h e. columned-none (c .before .before .before .before .args .t) h (c .before .before .before .before .args .line .now))
 
 rules-requires : tie.Need-rules-requires Inv-columns μ-columns
 rules-requires c κs = search needs
@@ -51,7 +51,7 @@ cell-of-requires c κs = search needs
 
 of-cell-requires : tie.Need-of-cell-requires Inv-columns μ-columns
 of-cell-requires c κs =
-    let a = c .before .before .before .before .before .before .before .before .args in
+    let a = c .before .before .before .before .before .before .before .before .before .args in
     rw (c .before .before .rules .ensures) (column-narrow (a .t) (c .before .before .before .before .columns .k))
 
 add-wide : tie.Need-add-wide Inv-columns μ-columns
@@ -74,7 +74,7 @@ no-row-requires c κs = search needs
 
 returns : tie.Need-returns Inv-columns μ-columns
 returns c =
-    let a = c .before .before .before .before .before .before .before .before .before .before .before .before .before .before .args in
+    let a = c .before .before .before .before .before .before .before .before .before .before .before .before .before .before .before .args in
     let line = a .line .now in
     let at = a .at .now in
     let w = c .before .before .before .before .before .before .before .before .before .before .columns in
@@ -101,7 +101,7 @@ columns-less c = search needs
 
 columns-again : tie.Need-columns-again Inv-columns μ-columns
 columns-again c =
-    let a = c .before .before .before .before .before .before .before .before .before .before .before .before .before .before .args in
+    let a = c .before .before .before .before .before .before .before .before .before .before .before .before .before .before .before .args in
     let line = a .line .now in
     let at = a .at .now in
     let w = c .before .before .before .before .before .before .before .before .before .before .columns in
@@ -112,7 +112,7 @@ columns-again c =
 
 returns-2 : tie.Need-returns-2 Inv-columns μ-columns
 returns-2 c =
-    let a = c .before .before .before .before .before .args in
+    let a = c .before .before .before .before .before .before .args in
     let w = c .before .columns in
     λ h e. columned-all (a .t) h (a .line .now) (w .row) (w .k) (w .inv .4 h e) (omega (arith, w .inv .2, c .columns-test .left))
 

@@ -15,6 +15,9 @@ use borrow.Author.Needs.{needs}
 use Rattle.reading.proofs.read_header.Statement.{statement}
 use Rattle.reading.proofs.read_header.Tie as tie
 
+slice-aggregate-cells-of : tie.Need-slice-aggregate-cells-of
+slice-aggregate-cells-of c = search needs
+
 cells-of-requires : tie.Need-cells-of-requires
 cells-of-requires c κs = search needs
 
@@ -41,44 +44,48 @@ no-heading-requires-2 c κs = search needs
 
 returns : tie.Need-returns
 returns c =
-    let a = c .before .before .before .before .before .before .before .before .args in
+    let a = c .before .before .before .before .before .before .before .before .before .before .args in
     let line = a .line .now in
     let h = header (a .t) (cellsOf (cut line)) in
-    let r = c .before .before .before .before .before .before .cells-of in
+    let r = c .before .before .before .before .before .before .before .cells-of in
     let g = c .before .before .before .before .answer2 .given in
-    let l : 32 < length (cellsOf (cut line)) = omega (arith, good-count (cut line) (r .result) (g .0 .0) (r .ensures) (g .1), c .before .before .if1 .taken) in
-    c .no-heading2 .ensures 4 0 h (c .before .too-many-cells .ensures) ∙ ap (λ (q : Check). headed q h) (sym (header-wide (a .t) line (good-cells (cut line) (r .result) (g .0 .0) (r .ensures) (g .1)) l))
+    let l : 32 < length (cellsOf (cut line)) = omega (arith, good-count (cut line) (r .result) (g .0 .0) (r .ensures .0) (g .1), c .before .before .if1 .taken) in
+    c .no-heading2 .ensures 4 0 h (c .before .too-many-cells .ensures) ∙ ap (λ (q : Check). headed q h) (sym (header-wide (a .t) line (good-cells (cut line) (r .result) (g .0 .0) (r .ensures .0) (g .1)) l))
+
+slice-aggregate-map-names : tie.Need-slice-aggregate-map-names
+slice-aggregate-map-names c = search needs
 
 map-names-requires : tie.Need-map-names-requires
 map-names-requires c κs =
     let line = c .before .before .before .before .before .before .before .before .before .args .line .now in
-    let r = c .before .before .before .before .before .before .before .cells-of in
-    let g = c .before .before .before .before .before .answer2 .given in
-    (marks-of line (r .result) (g .0 .0) (r .ensures) (g .1) (c .before .before .before .if1 .left), sym (good-count (cut line) (r .result) (g .0 .0) (r .ensures) (g .1)))
+    let r = c .before .before .before .before .before .before .cells-of in
+    let g = c .before .before .before .answer2 .given in
+    marks-of line _ _ (r .result) (r .ensures .0) (r .ensures .1) (g .1) (omega (arith, c .before .if1 .left, c .before .before .before .before .before .bounds2 .given))
 
 returns-2 : tie.Need-returns-2
 returns-2 c =
-    let a = c .before .before .before .before .before .before .before .before .args in
+    let a = c .before .before .before .before .before .before .before .before .before .before .args in
     let line = a .line .now in
     let h = header (a .t) (cellsOf (cut line)) in
-    let r = c .before .before .before .before .before .before .cells-of in
+    let r = c .before .before .before .before .before .before .before .cells-of in
     let g = c .before .before .before .before .answer .given in
-    c .no-heading .ensures 6 (c .before .before .wide .result) h (c .before .quote-fault .ensures) ∙ ap (λ (q : Check). headed q h) (ap (λ (m : ℕ). Fails 6 m) (c .before .before .wide .ensures) ∙ sym (header-faulty (a .t) line (g .0 .0) (bad-cell (cut line) (r .result) (g .0 .0) (r .ensures) (g .1))))
+    c .no-heading .ensures 6 (c .before .before .wide .result) h (c .before .quote-fault .ensures) ∙ ap (λ (q : Check). headed q h) (ap (λ (m : ℕ). Fails 6 m) (c .before .before .wide .ensures) ∙ sym (header-faulty (a .t) line (g .0 .0) (bad-cell (cut line) (r .result) (g .0 .0) (r .ensures .0) (g .1))))
 
 returns-3 : tie.Need-returns-3
 returns-3 c =
     let a = c .before .before .before .before .before .before .before .before .before .before .args in
     let line = a .line .now in
     let h = header (a .t) (cellsOf (cut line)) in
-    let r = c .before .before .before .before .before .before .before .before .cells-of in
-    let g = c .before .before .before .before .before .before .answer2 .given in
-    let l : length (cellsOf (cut line)) ≤ 32 = omega (arith, good-count (cut line) (r .result) (g .0 .0) (r .ensures) (g .1), c .before .before .before .before .if1 .left) in
-    c .map-names .ensures ∙ ap (λ (q : Check). headed q h) (sym (header-names (a .t) line (good-cells (cut line) (r .result) (g .0 .0) (r .ensures) (g .1)) l))
+    let r = c .before .before .before .before .before .before .before .cells-of in
+    let g = c .before .before .before .before .answer2 .given in
+    let l : length (cellsOf (cut line)) ≤ 32 = omega (arith, good-count (cut line) (r .result) (g .0 .0) (r .ensures .0) (g .1), c .before .before .if1 .left) in
+    c .map-names .ensures ∙ ap (λ (q : Check). headed q h) (sym (header-names (a .t) line (good-cells (cut line) (r .result) (g .0 .0) (r .ensures .0) (g .1)) l))
 
 pub read-header-spec : {M : Type 1} → statement M
 read-header-spec =
     tie.close
     (tie.spec
+    slice-aggregate-cells-of
     cells-of-requires
     enum-known-answer
     wide-requires
@@ -88,6 +95,7 @@ read-header-spec =
     too-many-cells-requires
     no-heading-requires-2
     returns
+    slice-aggregate-map-names
     map-names-requires
     returns-2
     returns-3)

@@ -10,7 +10,7 @@ too-many-rows-requires c κs = search needs
 
 returns : tie.Need-returns
 returns c =
-    let st = c .before .before .before .before in (
+    let st = c .before .before .before .before .before in (
       refused-shelf _ _ (c .too-many-rows .result) (c .too-many-rows .ensures),
       λ h kept. line-full (st .args .t) h (st .args .line .now) (st .args .book .now) (st .args .slots .now) (st .args .order .now) (st .args .n) (st .pre .1) (c .before .if1 .taken) _ (c .too-many-rows .result) (c .too-many-rows .ensures),
     )
@@ -26,35 +26,41 @@ enum-told c = search needs
 
 enter-requires : tie.Need-enter-requires
 enter-requires c κs =
-    let st = c .before .before .before .before .before .before .before .before .before in
-    let read = c .before .before .before .before .before .read-row in
+    let st = c .before .before .before .before .before .before .before .before .before .before .before .before .before in
+    let read = c .before .before .before .before .before .before .before .read-row in
     let h = st .pre .2 .0 in (
       st .pre .1,
-      line-room (st .args .t) h (st .args .line .now) (st .args .book .now) (st .args .slots .now) (st .args .order .now) (st .args .n) (st .pre .1) (c .before .before .before .before .before .before .if1 .left),
-      line-version (st .args .t) h (st .args .line .now) (st .args .book .now) (st .args .slots .now) (st .args .order .now) (st .args .n) (st .pre .1) (c .before .before .before .before .before .before .if1 .left) (read .result) (read .ensures h (st .pre .2 .1)) (c .before .before .enum-told .given .1),
-    )
-
-returns-2 : tie.Need-returns-2
-returns-2 c =
-    let st = c .before .before .before .before .before .before .before .before in
-    let read = c .before .before .before .before .read-row in (
-      refused-shelf _ _ _ refl,
-      λ h kept. line-faulty (st .args .t) h (st .args .line .now) (st .args .book .now) (st .args .slots .now) (st .args .order .now) (st .args .n) (st .pre .1) (c .before .before .before .before .before .if1 .left) (read .result) (read .ensures h kept) _ _ _ (c .before .check .given .1),
+      line-room (st .args .t) h (st .args .line .now) (st .args .book .now) (st .args .slots .now) (st .args .order .now) (st .args .n) (st .pre .1) (c .before .before .before .before .before .before .before .before .before .if1 .left),
+      line-version (st .args .t) h (st .args .line .now) (st .args .book .now) (st .args .slots .now) (st .args .order .now) (st .args .n) (st .pre .1) (c .before .before .before .before .before .before .before .before .before .if1 .left) (read .result) (read .ensures h (st .pre .2 .1)) (c .before .before .enum-told .given .1),
     )
 
 same-length : tie.Need-same-length
 same-length c = search needs
 
+returns-2 : tie.Need-returns-2
+returns-2 c =
+    let st = c .before .before .before .before .before .before .before .before .before .before .before .before in
+    let read = c .before .before .before .before .before .before .read-row in (
+      refused-shelf _ _ _ refl,
+      λ h kept. line-faulty (st .args .t) h (st .args .line .now) (st .args .book .now) (st .args .slots .now) (st .args .order .now) (st .args .n) (st .pre .1) (c .before .before .before .before .before .before .before .before .if1 .left) (read .result) (read .ensures h kept) _ _ _ (c .before .check .given .1),
+    )
+
 same-length-2 : tie.Need-same-length-2
 same-length-2 c = search needs
 
+same-length-3 : tie.Need-same-length-3
+same-length-3 c = search needs
+
+same-length-4 : tie.Need-same-length-4
+same-length-4 c = search needs
+
 returns-3 : tie.Need-returns-3
 returns-3 c =
-    let st = c .before .before .before .before .before .before .before .before .before .before .before .before .before in
-    let read = c .before .before .before .before .before .before .before .before .before .read-row in
+    let st = c .before .before .before .before .before .before .before .before .before .before .before .before .before .before .before .before .before in
+    let read = c .before .before .before .before .before .before .before .before .before .before .before .read-row in
     let entered = c .before .before .before .enter in (
       entered .ensures .on,
-      λ h kept. line-entered (st .args .t) h (st .args .line .now) (st .args .book .now) (st .args .slots .now) (st .args .order .now) (st .args .n) (st .pre .1) (c .before .before .before .before .before .before .before .before .before .before .if1 .left) (read .result) (read .ensures h kept) (c .before .before .before .before .before .before .enum-told .given .1) _ _ (entered .result) (entered .ensures),
+      λ h kept. line-entered (st .args .t) h (st .args .line .now) (st .args .book .now) (st .args .slots .now) (st .args .order .now) (st .args .n) (st .pre .1) (c .before .before .before .before .before .before .before .before .before .before .before .before .before .if1 .left) (read .result) (read .ensures h kept) (c .before .before .before .before .before .before .enum-told .given .1) _ _ (entered .result) (entered .ensures),
     )
 
 pub take-line-spec : {M : Type 1} → statement M
@@ -67,7 +73,9 @@ take-line-spec =
     enum-known-check
     enum-told
     enter-requires
-    returns-2
     same-length
+    returns-2
     same-length-2
+    same-length-3
+    same-length-4
     returns-3)

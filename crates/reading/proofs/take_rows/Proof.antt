@@ -6,6 +6,7 @@ use Rattle.book.specs.Room.{bookOf}
 use Rattle.book.proofs.Points.{referable}
 use Rattle.reading.specs.Reading.{rowsRead}
 use Rattle.reading.proofs.Taking.{laid-accepted, result-accepted, result-refused}
+use native.Mathlib.Omega.{arith}
 use borrow.Author.Needs.{needs}
 use Rattle.reading.proofs.take_rows.Statement.{statement}
 use Rattle.reading.proofs.take_rows.Tie as tie
@@ -28,8 +29,13 @@ slice-aggregate-take-lines c = search needs
 slice-aggregate-take-lines-2 : tie.Need-slice-aggregate-take-lines-2
 slice-aggregate-take-lines-2 c = search needs
 
+slice-aggregate-take-lines-3 : tie.Need-slice-aggregate-take-lines-3
+slice-aggregate-take-lines-3 c = search needs
+
 take-lines-requires : tie.Need-take-lines-requires
-take-lines-requires c κs = search needs
+take-lines-requires c κs =
+    let st = c .before .before .before .before .before .before .before .before .before .before .before in
+    (st .pre .0, st .pre .1, omega (arith, st .pre .2), c .before .before .before .before .before .before .shelve .ensures .0, st .pre .5)
 
 enum-told : tie.Need-enum-told
 enum-told c = search needs
@@ -41,7 +47,7 @@ slice-aggregate-lay-table-2 : tie.Need-slice-aggregate-lay-table-2
 slice-aggregate-lay-table-2 c = search needs
 
 lay-table-requires : tie.Need-lay-table-requires
-lay-table-requires c κs = c .before .before .before .before .before .before .before .take-lines .ensures .0 (c .before .before .before .enum-told .given .1)
+lay-table-requires c κs = c .before .before .before .before .before .before .before .before .take-lines .ensures .0 (c .before .before .before .enum-told .given .1)
 
 enum-known-verdict : tie.Need-enum-known-verdict
 enum-known-verdict c = search needs
@@ -51,9 +57,9 @@ same-length c = search needs
 
 returns : tie.Need-returns
 returns c =
-    let st = c .before .before .before .before .before .before .before .before .before .before .before .before .before .before .before .before .before .before .before .before in
-    let shelved = c .before .before .before .before .before .before .before .before .before .before .before .before .before .before .before .shelve in
-    let taken = c .before .before .before .before .before .before .before .before .before .take-lines in
+    let st = c .before .before .before .before .before .before .before .before .before .before .before .before .before .before .before .before .before .before .before .before .before .before in
+    let shelved = c .before .before .before .before .before .before .before .before .before .before .before .before .before .before .before .before .before .shelve in
+    let taken = c .before .before .before .before .before .before .before .before .before .before .take-lines in
     let accepted = c .before .before .before .before .before .enum-told .given .1 in
     let left = laid-accepted (st .args .t) (st .args .book .now) _ _ (taken .result .count) (taken .ensures .0 accepted) _ (c .before .lay-table .ensures) in
     (left .0, λ h kept. result-accepted (taken .result .verdict) _ _ (taken .ensures .1 h kept ∙ ap (rowsRead (st .args .t) h 2 (lines (drop (st .args .from) (st .args .bytes .now)))) (shelved .ensures .1)) accepted _ left)
@@ -63,9 +69,9 @@ same-length-2 c = search needs
 
 returns-2 : tie.Need-returns-2
 returns-2 c =
-    let st = c .before .before .before .before .before .before .before .before .before .before .before .before .before .before .before .before in
-    let shelved = c .before .before .before .before .before .before .before .before .before .before .before .shelve in
-    let taken = c .before .before .before .before .before .take-lines in
+    let st = c .before .before .before .before .before .before .before .before .before .before .before .before .before .before .before .before .before .before in
+    let shelved = c .before .before .before .before .before .before .before .before .before .before .before .before .before .shelve in
+    let taken = c .before .before .before .before .before .before .take-lines in
     (st .pre .3, λ h kept. result-refused (taken .result .verdict) _ _ (taken .ensures .1 h kept ∙ ap (rowsRead (st .args .t) h 2 (lines (drop (st .args .from) (st .args .bytes .now)))) (shelved .ensures .1)) _ (c .before .verdict .given .1) (st .args .book .now))
 
 pub take-rows-spec : {M : Type 1} → statement M
@@ -77,6 +83,7 @@ take-rows-spec =
     shelve-requires
     slice-aggregate-take-lines
     slice-aggregate-take-lines-2
+    slice-aggregate-take-lines-3
     take-lines-requires
     enum-told
     slice-aggregate-lay-table

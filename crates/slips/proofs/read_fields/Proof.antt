@@ -1,12 +1,13 @@
 -- `slips::read_fields` meets its contract: the fields before place i pass, and their numbers stand in the row. Assumes nothing.
 use mathlib.Core.List.{[]}
 use mathlib.Core.Path.{_≡_, refl, ap, _∙_}
-use Prim.Native.Nat.{_-_, _≤_, _<_}
+use Prim.Native.Nat.{_+_, _-_, _≤_, _<_}
 use native.Mathlib.Omega.{arith}
 use lib.ListN.{getD, set, length}
 use borrow.Author.Needs.{needs}
 use Rattle.words.specs.Words.{Row}
 use Rattle.text.specs.Fields.{fields}
+use Rattle.text.proofs.Marking.{Stands}
 use Rattle.tables.specs.Values.{valueOf}
 use Rattle.tables.specs.Columns.{columnAt}
 use Rattle.tables.specs.declared.Table.the-variants.{Block}
@@ -17,23 +18,26 @@ use Rattle.slips.proofs.read_fields.Statement.{statement}
 use Rattle.slips.proofs.read_fields.Tie as tie
 
 abbrev Inv-columns : tie.InvT-columns
-Inv-columns line n start end row₀ i₀ row i = (i ≤ n) × (row ≡ rowSofar i (numbers (fields line))) × (badField (numbers (fields line)) ≡ badFrom i (numbers (fields line)))
+Inv-columns line n bounds row₀ i₀ row i = (i ≤ n) × (row ≡ rowSofar i (numbers (fields line))) × (badField (numbers (fields line)) ≡ badFrom i (numbers (fields line)))
 
 abbrev μ-columns : tie.MeasureT-columns
-μ-columns line n start end row₀ i₀ row i = n - i
+μ-columns line n bounds row₀ i₀ row i = n - i
+
+-- where the field that is read stands
+stands : (c : tie.In-columns Inv-columns μ-columns) → Stands (c .before .before .before .before .args .line .now) (getD (c .before .before .before .before .args .marks .bounds) (c .before .columns .i + 1) 0) (getD (c .before .before .before .before .args .marks .bounds) (c .before .columns .i + 2) 0) (getD (numbers (fields (c .before .before .before .before .args .line .now))) (c .before .columns .i) [])
+stands c =
+    let st = c .before .before .before .before in
+    number-stands (st .args .line .now) (st .args .marks) (st .args .n) (c .before .columns .i) (st .pre .0) (st .pre .1) (st .pre .2) (c .columns-test .taken)
 
 -- a field that was checked
-few : (c : tie.After-check Inv-columns μ-columns) → length (numbers (fields (c .before .before .before .before .before .before .before .before .before .args .line .now))) ≤ 11
-few c = omega (arith, c .before .before .before .before .before .before .before .before .before .pre .1, c .before .before .before .before .before .before .before .before .before .pre .2)
+few : (c : tie.After-check Inv-columns μ-columns) → length (numbers (fields (c .before .before .before .before .before .before .before .before .args .line .now))) ≤ 11
+few c = omega (arith, c .before .before .before .before .before .before .before .before .pre .1, c .before .before .before .before .before .before .before .before .pre .2)
 
-inside : (c : tie.After-check Inv-columns μ-columns) → c .before .before .before .before .before .columns .i < length (numbers (fields (c .before .before .before .before .before .before .before .before .before .args .line .now)))
-inside c = omega (arith, c .before .before .before .before .before .before .before .before .before .pre .1, c .before .before .before .before .columns-test .taken)
+inside : (c : tie.After-check Inv-columns μ-columns) → c .before .before .before .before .before .columns .i < length (numbers (fields (c .before .before .before .before .before .before .before .before .args .line .now)))
+inside c = omega (arith, c .before .before .before .before .before .before .before .before .pre .1, c .before .before .before .before .columns-test .taken)
 
-value-is : (c : tie.After-check Inv-columns μ-columns) → c .before .of-field .result ≡ valueOf (columnAt Block (c .before .before .before .before .before .columns .i) .rules) (getD (numbers (fields (c .before .before .before .before .before .before .before .before .before .args .line .now))) (c .before .before .before .before .before .columns .i) [])
-value-is c =
-    let st = c .before .before .before .before .before .before .before .before .before in
-    c .before .of-field .ensures
-    ∙ rw (c .before .before .before .rules .ensures, number-stands (st .args .line .now) (st .args .marks) (st .args .n) (c .before .before .before .before .before .columns .i) (st .pre .0) (st .pre .1) (st .pre .2) (c .before .before .before .before .columns-test .taken) .there)
+value-is : (c : tie.After-check Inv-columns μ-columns) → c .before .of-field .result ≡ valueOf (columnAt Block (c .before .before .before .before .before .columns .i) .rules) (getD (numbers (fields (c .before .before .before .before .before .before .before .before .args .line .now))) (c .before .before .before .before .before .columns .i) [])
+value-is c = c .before .of-field .ensures ∙ rw (c .before .before .before .rules .ensures, stands (c .before .before .before .before) .there)
 
 columns-holds : tie.Need-columns-holds Inv-columns μ-columns
 columns-holds c = (search needs, refl, refl)
@@ -56,26 +60,20 @@ mul-to c = search needs
 array-read-to : tie.Need-array-read-to Inv-columns μ-columns
 array-read-to c = search needs
 
+sub-to : tie.Need-sub-to Inv-columns μ-columns
+sub-to c = omega (arith, stands c .ordered)
+
 rules-requires : tie.Need-rules-requires Inv-columns μ-columns
 rules-requires c κs = search needs
 
 sub-of-field : tie.Need-sub-of-field Inv-columns μ-columns
-sub-of-field c =
-    let st = c .before .before .before .before .before .before in
-    let s = number-stands (st .args .line .now) (st .args .marks) (st .args .n) (c .before .before .columns .i) (st .pre .0) (st .pre .1) (st .pre .2) (c .before .columns-test .taken) in
-    omega (arith, s .ordered, s .inside)
+sub-of-field c = omega (arith, stands (c .before) .ordered)
 
 part-of-field-start : tie.Need-part-of-field-start Inv-columns μ-columns
-part-of-field-start c =
-    let st = c .before .before .before .before .before .before in
-    let s = number-stands (st .args .line .now) (st .args .marks) (st .args .n) (c .before .before .columns .i) (st .pre .0) (st .pre .1) (st .pre .2) (c .before .columns-test .taken) in
-    omega (arith, s .ordered, s .inside)
+part-of-field-start c = omega (arith, stands (c .before) .ordered, stands (c .before) .inside)
 
 part-of-field-end : tie.Need-part-of-field-end Inv-columns μ-columns
-part-of-field-end c =
-    let st = c .before .before .before .before .before .before in
-    let s = number-stands (st .args .line .now) (st .args .marks) (st .args .n) (c .before .before .columns .i) (st .pre .0) (st .pre .1) (st .pre .2) (c .before .columns-test .taken) in
-    omega (arith, s .ordered, s .inside)
+part-of-field-end c = omega (arith, stands (c .before) .inside)
 
 of-field-requires : tie.Need-of-field-requires Inv-columns μ-columns
 of-field-requires c κs = rw (c .before .rules .ensures) (column-narrow Block (c .before .before .before .columns .i))
@@ -96,7 +94,7 @@ returns : tie.Need-returns Inv-columns μ-columns
 returns c =
     let k = c .before .before .before in
     let at = k .before .before .before .before .before in
-    let st = at .before .before .before .before in
+    let st = at .before .before .before in
     let fs = numbers (fields (st .args .line .now)) in
     refused (badField fs) _ _ _ (at .columns .inv .2 ∙ field-fault fs (few k) (at .columns .i) (k .before .of-field .result) (k .check .result) (inside k) (value-is k) (k .check .ensures) _ _ (c .before .number .given .1))
 
@@ -119,7 +117,7 @@ columns-again : tie.Need-columns-again Inv-columns μ-columns
 columns-again c =
     let k = c .before .before .before in
     let at = k .before .before .before .before .before in
-    let st = at .before .before .before .before in
+    let st = at .before .before .before in
     let fs = numbers (fields (st .args .line .now)) in
     let i = at .columns .i in
     let p = c .before .enum-told .given .1 in
@@ -133,7 +131,7 @@ columns-again c =
 returns-2 : tie.Need-returns-2 Inv-columns μ-columns
 returns-2 c =
     let at = c .before in
-    let st = at .before .before .before .before in
+    let st = at .before .before .before in
     let fs = numbers (fields (st .args .line .now)) in
     let e : at .columns .i ≡ length fs = omega (arith, st .pre .1, at .columns .inv .0, c .columns-test .left) in
     passed (badField fs) _ _ (at .columns .inv .2 ∙ bad-end fs (omega (arith, st .pre .1, st .pre .2)) (at .columns .i) (omega arith)) (at .columns .inv .1 ∙ row-whole fs (at .columns .i) e)
@@ -151,6 +149,7 @@ read-fields-spec =
     add-to
     mul-to
     array-read-to
+    sub-to
     rules-requires
     sub-of-field
     part-of-field-start

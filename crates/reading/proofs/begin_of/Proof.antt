@@ -1,8 +1,8 @@
--- `reading::mark_of` meets its contract: a cell behind the marks has none. Assumes nothing.
+-- `reading::begin_of` meets its contract: what is no cell's number begins nowhere. Assumes nothing.
 use borrow.Author.Tests.{eq-eqb, ne-eqb, lt-ltb, le-ltb}
 use borrow.Author.Needs.{needs}
-use Rattle.reading.proofs.mark_of.Statement.{statement}
-use Rattle.reading.proofs.mark_of.Tie as tie
+use Rattle.reading.proofs.begin_of.Statement.{statement}
+use Rattle.reading.proofs.begin_of.Tie as tie
 
 returns : tie.Need-returns
 returns c = rw (eq-eqb _ _ (c .if1 .taken))
@@ -16,12 +16,12 @@ sub-result c = search needs
 mul-result : tie.Need-mul-result
 mul-result c = search needs
 
-element-copy-out-result : tie.Need-element-copy-out-result
-element-copy-out-result c = search needs
+shared-slice-read-result : tie.Need-shared-slice-read-result
+shared-slice-read-result c = search needs
 
 returns-3 : tie.Need-returns-3
 returns-3 c = rw (ne-eqb _ _ (c .before .before .if1 .left), le-ltb _ _ (c .before .if2 .left))
 
-pub mark-of-spec : {M : Type 1} → statement M
-mark-of-spec =
-    tie.close (tie.spec returns returns-2 sub-result mul-result element-copy-out-result returns-3)
+pub begin-of-spec : {M : Type 1} → statement M
+begin-of-spec =
+    tie.close (tie.spec returns returns-2 sub-result mul-result shared-slice-read-result returns-3)
