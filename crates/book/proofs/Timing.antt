@@ -1,6 +1,6 @@
 -- A block's two times: which test decides 11, and how long a block runs. Assumes nothing.
 use mathlib.Core.Path.{_≡_, refl}
-use mathlib.Core.Bool.{Bool, true, false, _&&_, not}
+use mathlib.Core.Bool.{Bool, true, false, not}
 use Prim.Native.Nat.{ℕ, _+_, _-_, _≤_, _<_}
 use native.Mathlib.Omega.{arith}
 use lib.Dec.{ltb}
@@ -8,7 +8,6 @@ use lib.ListN.{getD}
 use borrow.Author.Tests.{ltb-true, lt-ltb, le-ltb}
 use Rattle.words.specs.Words.{Row, if_then_else_}
 use Rattle.words.proofs.Lists.{and-left, and-right}
-use Rattle.tables.specs.declared.Table.{Table}
 use Rattle.tables.specs.declared.Table.the-variants.{Block}
 use Rattle.book.specs.Rules.{day, withinDay, endsLower, overnight, timeFault}
 use Rattle.book.specs.Questions.{seconds}

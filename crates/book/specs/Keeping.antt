@@ -1,8 +1,7 @@
 -- The test of the book rule.
 use mathlib.Core.Path.{_≡_}
 use mathlib.Core.List.{List, [], _∷_}
-use mathlib.Core.Bool.{Bool, true, false, _&&_, not}
-use Prim.Native.Nat.{ℕ}
+use mathlib.Core.Bool.{Bool, true, _&&_, not}
 use lib.Dec.{leb, eqb}
 use lib.ListN.{length, take}
 use Rattle.words.specs.Words.{Row, same}

@@ -1,8 +1,8 @@
 // The book that is lent, the rules of its rows, and what it is asked.
 ghost use mathlib.Core.Path.{_≡_};
-ghost use mathlib.Core.List.{List, [], _∷_, _++_};
-ghost use mathlib.Core.Bool.{Bool, true, false};
-ghost use Prim.Native.Nat.{ℕ, _+_, _*_, _≤_, _<_};
+ghost use mathlib.Core.List.{[], _∷_};
+ghost use mathlib.Core.Bool.{true, false};
+ghost use Prim.Native.Nat.{_+_, _*_, _≤_, _<_};
 ghost use lib.ListN.{length, take, getD};
 ghost use Rattle.words.specs.Words.{if_then_else_, same};
 ghost use Rattle.refusals.specs.Verdicts.{nowhere, passes};

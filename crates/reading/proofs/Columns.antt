@@ -12,7 +12,7 @@ use Rattle.words.proofs.Lists.{drop-step}
 use Rattle.refusals.specs.Verdicts.{_⊳_, _when_, quoteFault, cellCount, cellFault}
 use Rattle.refusals.specs.declared.Check.{Check}
 use Rattle.refusals.specs.declared.Check.the-variants.{Passes, Fails}
-use Rattle.text.specs.Cells.{Cut, faulty, cells, cut, cellsOf, content}
+use Rattle.text.specs.Cells.{faulty, cells, cut, cellsOf, content}
 use Rattle.text.specs.Marks.{BoundsOf, answerOf}
 use Rattle.text.specs.declared.Answer.{Answer}
 use Rattle.text.specs.declared.Answer.the-variants.{Good}

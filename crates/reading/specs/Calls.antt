@@ -1,17 +1,17 @@
 -- What the calls answer, and what everything lent to them holds behind the call.
 use mathlib.Core.Path.{_≡_}
 use mathlib.Core.List.{List}
-use mathlib.Core.Bool.{Bool, true, false, not}
+use mathlib.Core.Bool.{true}
 use lib.Dec.{eqb}
 use lib.ListN.{length}
 use Rattle.words.specs.Words.{Bytes, Row, if_then_else_}
-use Rattle.refusals.specs.Verdicts.{_when_, nowhere, badLoan}
+use Rattle.refusals.specs.Verdicts.{nowhere, badLoan}
 use Rattle.refusals.specs.declared.Verdict.{Verdict}
 use Rattle.refusals.specs.declared.Verdict.the-variants.{Accepted, Refused}
-use Rattle.book.specs.Book.{Book, empty}
+use Rattle.book.specs.Book.{empty}
 use Rattle.book.specs.Room.{laid, bookOf}
 use Rattle.book.specs.Keeping.{pointsNamed}
-use Rattle.reading.specs.Reading.{Delivery, Result, refused, leaves, unless, reading}
+use Rattle.reading.specs.Reading.{Delivery, Result, refused, leaves, reading}
 
 -- a verdict, and what the lent book holds
 pub record Outcome : Type 0 where

@@ -1,10 +1,8 @@
-use mathlib.Core.Path.{_≡_, refl, ap, sym, _∙_}
-use Prim.Native.Nat.{ℕ, _+_, _-_, _≤_, _<_}
+use mathlib.Core.Path.{refl, ap, _∙_}
+use Prim.Native.Nat.{ℕ, _-_}
 use native.Mathlib.Omega.{arith}
-use lib.ListN.{length, take, drop}
+use lib.ListN.{take, drop}
 use Rattle.refusals.specs.Verdicts.{placed}
-use Rattle.refusals.specs.declared.Check.{Check}
-use Rattle.text.specs.Lines.{lineAt, lineLength, lineRoom}
 use Rattle.text.specs.Cells.{cut, cellsOf}
 use Rattle.text.specs.declared.Line.{Line}
 use Rattle.text.proofs.Lining.{length-room, room-le}
