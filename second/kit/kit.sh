@@ -1,5 +1,5 @@
 # shellcheck shell=sh disable=SC2154
-# Sourced by second/run and bench/run: builds C programs with the kit's own clang and C library, for x86-64, and runs them
+# Sourced by second/run, bench/run and tests/reading: builds C programs with the kit's own clang and C library, for x86-64, and runs them
 # natively or, on another processor, under the kit's emulator. Nothing of the machine but sh and its usual commands is used.
 # POSIX sh. Needs $root, the top of the repository; gives kit_build and kit_exec.
 

@@ -4,5 +4,6 @@
 #include <stddef.h>
 int printf(const char *restrict, ...);
 int putchar(int);
+int getchar(void);
 int puts(const char *);
 #endif

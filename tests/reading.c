@@ -1,0 +1,478 @@
+/* tests/reading.c: plays the cases of tests/reading.cases, which come on standard input, on the library, and holds each answer to
+ * the one that the case names. How a case is written stands at the head of that file. */
+#include "../include/workshop.h"
+
+#include <inttypes.h>
+#include <stdio.h>
+#include <stdlib.h>
+#include <string.h>
+
+enum { TABLES = 5, TABLE_ROWS = WORKSHOP_BOOK_ROWS / TABLES, MOST_ROWS = WORKSHOP_BOOK_ROWS + 1 };
+enum { MOST_BYTES = 70000, MOST_NAMES = 32, MOST_FILE = 1000000 };
+
+/* Every number that is lent, before a call. */
+enum { BEFORE = 7 };
+
+typedef uint64_t row[WORKSHOP_NUMBERS];
+
+struct text {
+    size_t length;
+    uint8_t bytes[MOST_BYTES + 1]; /* one more, for a 0 behind the text */
+};
+
+/* In the order of reading, which is that of the book. */
+static const char *const tables[TABLES] = {"vehicle_type", "depot", "stop", "stop_point", "vehicle_block"};
+
+static const uint64_t zeros[4];
+
+static struct {
+    uint64_t line; /* of the file of cases */
+    size_t names;
+    const char *name[MOST_NAMES]; /* texts that have a name */
+    struct text named[MOST_NAMES];
+    struct text beside[TABLES]; /* what is handed in for a table that a case does not name */
+    uint64_t passed, failed;
+} file;
+
+/* The case that is played. */
+static struct {
+    const char *name; /* NULL before the first */
+    int answers;
+    struct text texts[TABLES];
+    size_t book_rows;
+    row book[MOST_ROWS];
+    int asks; /* the cell question in place of the reading */
+    uint64_t asked[3];
+    struct text asked_text;
+} played;
+
+static void end_with(const char *why)
+{
+    printf("reading: line %" PRIu64 " of the cases: %s\n", file.line, why);
+    exit(2);
+}
+
+/* ---- Texts as they are written in the cases */
+
+static void put(struct text *out, uint8_t byte)
+{
+    if (out->length == MOST_BYTES)
+        end_with("the text is too long");
+    out->bytes[out->length++] = byte;
+}
+
+static void put_number(struct text *out, uint64_t number)
+{
+    if (number >= 10)
+        put_number(out, number / 10);
+    put(out, (uint8_t)('0' + number % 10));
+}
+
+/* The number that stands there; `at` goes behind it. */
+static uint64_t take_number(const char **at)
+{
+    char *end;
+    uint64_t number = strtoull(*at, &end, 10);
+
+    if (**at < '0' || **at > '9')
+        end_with("a number is missing");
+    *at = end;
+    return number;
+}
+
+static void take_byte(const char **at, char wanted)
+{
+    if (**at != wanted)
+        end_with("a text or an answer is written wrongly");
+    ++*at;
+}
+
+/* What stands behind a backslash. */
+static const char *put_escaped(struct text *out, const char *at)
+{
+    char digits[3] = {0, 0, 0};
+    char *end;
+
+    if (*at == 'n')
+        put(out, '\n');
+    else if (*at == 'r')
+        put(out, '\r');
+    else if (*at == 't')
+        put(out, '\t');
+    else {
+        take_byte(&at, 'x');
+        memcpy(digits, at, 2);
+        put(out, (uint8_t)strtoull(digits, &end, 16));
+        if (end != digits + 2)
+            end_with("\\x takes two digits");
+        return at + 2;
+    }
+    return at + 1;
+}
+
+static const char *put_named(struct text *out, const char *at)
+{
+    size_t i, k;
+
+    for (i = 0; i < file.names; i++) {
+        size_t length = strlen(file.name[i]);
+
+        if (memcmp(at, file.name[i], length) == 0 && at[length] == '}') {
+            for (k = 0; k < file.named[i].length; k++)
+                put(out, file.named[i].bytes[k]);
+            return at + length + 1;
+        }
+    }
+    end_with("no text has the name in braces");
+    return at;
+}
+
+static const char *put_repeated(struct text *out, const char *at);
+
+/* What is written up to the end of the line, or of the repetition that it stands in; then # is the number. */
+static const char *put_written(struct text *out, const char *at, int repeated, uint64_t number)
+{
+    while (*at != 0 && !(repeated && *at == '}'))
+        if (*at == '\\')
+            at = put_escaped(out, at + 1);
+        else if (*at == '{')
+            at = at[1] >= '0' && at[1] <= '9' ? put_repeated(out, at + 1) : put_named(out, at + 1);
+        else if (repeated && *at == '#') {
+            put_number(out, number);
+            at++;
+        } else
+            put(out, (uint8_t)*at++);
+    return at;
+}
+
+static const char *put_repeated(struct text *out, const char *at)
+{
+    uint64_t number = take_number(&at);
+    const char *body;
+    uint64_t last;
+
+    take_byte(&at, '.');
+    take_byte(&at, '.');
+    last = take_number(&at);
+    take_byte(&at, ':');
+    body = at;
+    at = put_written(out, body, 1, number);
+    while (number != last) {
+        number = number < last ? number + 1 : number - 1;
+        at = put_written(out, body, 1, number);
+    }
+    take_byte(&at, '}');
+    return at;
+}
+
+static void set_text(struct text *text, const char *written)
+{
+    text->length = 0;
+    put_written(text, written, 0, 0);
+}
+
+/* ---- The library's answer */
+
+struct answer {
+    uint64_t returned;
+    uint64_t place[4];
+    uint64_t cell[4]; /* four zeros for a reading */
+};
+
+static void fill(uint64_t *numbers, size_t count, uint64_t with)
+{
+    size_t i;
+
+    for (i = 0; i < count; i++)
+        numbers[i] = with;
+}
+
+static struct answer call(void)
+{
+    const struct text *t = played.texts;
+    struct answer answer;
+    size_t r;
+
+    for (r = 0; r < MOST_ROWS; r++)
+        fill(played.book[r], WORKSHOP_NUMBERS, BEFORE);
+    fill(answer.place, 4, BEFORE);
+    fill(answer.cell, 4, played.asks ? BEFORE : 0);
+    if (played.asks)
+        answer.returned = workshop_cell(played.asked_text.bytes, played.asked_text.length, played.asked[0], played.asked[1],
+            played.asked[2], answer.cell, answer.place);
+    else
+        answer.returned = workshop_read(t[0].bytes, t[0].length, t[1].bytes, t[1].length, t[2].bytes, t[2].length, t[3].bytes,
+            t[3].length, t[4].bytes, t[4].length, played.book, played.book_rows, answer.place);
+    return answer;
+}
+
+static void show(const char *what, const uint64_t *numbers, size_t count)
+{
+    size_t i;
+
+    printf("    %s", what);
+    for (i = 0; i < count; i++)
+        printf(" %" PRIu64, numbers[i]);
+    putchar('\n');
+}
+
+static int fail(const char *what)
+{
+    printf("reading: line %" PRIu64 " of the cases: FAILED: %s: %s\n", file.line, played.name, what);
+    return 0;
+}
+
+static int same(const char *what, const uint64_t *wanted, const uint64_t *came, size_t count)
+{
+    if (memcmp(wanted, came, count * sizeof *wanted) == 0)
+        return 1;
+    fail(what);
+    show("wanted", wanted, count);
+    show("came  ", came, count);
+    return 0;
+}
+
+/* Plays the case; whether it is answered with this place and, where a cell is asked, with these numbers. */
+static int answers_with(const uint64_t place[4], const uint64_t cell[4])
+{
+    struct answer came;
+
+    if (!played.name)
+        end_with("an answer stands before the first case");
+    came = call();
+    return same("the place", place, came.place, 4) && same("the number returned", place, &came.returned, 1) &&
+        same("the cell", cell, came.cell, 4);
+}
+
+/* ---- The lines of a case */
+
+/* Ends the line's first word; answers what stands behind it and one blank. */
+static char *cut_word(char *line)
+{
+    while (*line != 0 && *line != ' ')
+        line++;
+    if (*line == ' ')
+        *line++ = 0;
+    return line;
+}
+
+static size_t table_of(const char *word)
+{
+    size_t t;
+
+    for (t = 0; t < TABLES; t++)
+        if (strcmp(tables[t], word) == 0)
+            return t;
+    end_with("there is no such table, and no such word at the beginning of a line");
+    return t;
+}
+
+static void count(int good)
+{
+    played.answers++;
+    if (good)
+        file.passed++;
+    else
+        file.failed++;
+}
+
+static void take_let(char *rest)
+{
+    if (file.names == MOST_NAMES)
+        end_with("too many names");
+    file.name[file.names] = rest;
+    set_text(&file.named[file.names], cut_word(rest));
+    file.names++;
+}
+
+static void take_beside(char *rest)
+{
+    char *written = cut_word(rest);
+
+    set_text(&file.beside[table_of(rest)], written);
+}
+
+static void end_case(void)
+{
+    if (played.name && !played.answers)
+        end_with("the case above has no answer");
+}
+
+static void take_case(char *rest)
+{
+    end_case();
+    played.name = rest;
+    played.answers = 0;
+    played.asks = 0;
+    played.book_rows = WORKSHOP_BOOK_ROWS;
+    memcpy(played.texts, file.beside, sizeof played.texts);
+}
+
+static void take_book(char *rest)
+{
+    const char *at = rest;
+
+    played.book_rows = take_number(&at);
+    if (played.book_rows > MOST_ROWS)
+        end_with("the book is too long");
+}
+
+static void take_cell(char *rest)
+{
+    const char *at = rest;
+    size_t i;
+
+    played.asks = 1;
+    for (i = 0; i < 3; i++) {
+        played.asked[i] = take_number(&at);
+        if (*at != 0)
+            take_byte(&at, ' ');
+    }
+    set_text(&played.asked_text, at);
+}
+
+/* Rows written as numbers with semicolons between them, and zeros behind them. */
+static void lay_out(const char *written, row rows[TABLE_ROWS])
+{
+    static struct text text;
+    const char *at = (const char *)text.bytes;
+    size_t r, c;
+
+    set_text(&text, written);
+    text.bytes[text.length] = 0;
+    memset(rows, 0, TABLE_ROWS * sizeof rows[0]);
+    for (r = 0; *at != 0; r++) {
+        if (r == TABLE_ROWS)
+            end_with("more rows than a table has");
+        rows[r][0] = take_number(&at);
+        for (c = 1; c < WORKSHOP_NUMBERS && *at == ';'; c++) {
+            at++;
+            rows[r][c] = take_number(&at);
+        }
+        take_byte(&at, '\n');
+    }
+}
+
+static void want_accepted(char *rest)
+{
+    static row rows[TABLE_ROWS];
+    char *written = cut_word(rest);
+    const row *came = (const row *)played.book + table_of(rest) * TABLE_ROWS;
+    int good = answers_with(zeros, zeros);
+    size_t r;
+
+    lay_out(written, rows);
+    for (r = 0; r < TABLE_ROWS && good; r++)
+        good = same("a row of the book", rows[r], came[r], WORKSHOP_NUMBERS);
+    count(good);
+}
+
+/* A refused reading leaves the empty book; one of another length stays as it came. */
+static int book_is_left(void)
+{
+    uint64_t left = played.book_rows == WORKSHOP_BOOK_ROWS ? 0 : BEFORE;
+    size_t r, c;
+
+    for (r = 0; r < MOST_ROWS; r++)
+        for (c = 0; c < WORKSHOP_NUMBERS; c++)
+            if (played.book[r][c] != (r < played.book_rows ? left : BEFORE))
+                return fail("the book after a refusal");
+    return 1;
+}
+
+static void want_refused(char *rest)
+{
+    const char *at = rest;
+    uint64_t place[4];
+    size_t i;
+
+    for (i = 0; i < 4; i++) {
+        place[i] = take_number(&at);
+        take_byte(&at, i < 3 ? ' ' : 0);
+    }
+    count(answers_with(place, zeros) && (played.asks || book_is_left()));
+}
+
+static void want_number(char *rest)
+{
+    const char *at = rest;
+    uint64_t cell[4] = {1, 0, 0, 0};
+
+    cell[1] = take_number(&at);
+    take_byte(&at, 0);
+    count(answers_with(zeros, cell));
+}
+
+static void want_text(char *rest)
+{
+    static struct text text;
+    const char *at = rest;
+    uint64_t cell[4] = {2, 0, 0, 0};
+    int good;
+
+    cell[2] = take_number(&at);
+    take_byte(&at, ' ');
+    set_text(&text, at);
+    cell[3] = text.length;
+    good = answers_with(zeros, cell);
+    if (good && memcmp(played.asked_text.bytes + cell[2], text.bytes, text.length) != 0)
+        good = fail("the bytes of the text");
+    count(good);
+}
+
+static void want_nothing(char *rest)
+{
+    const char *at = rest;
+
+    take_byte(&at, 0);
+    if (!played.asks)
+        end_with("the case asks for no cell");
+    count(answers_with(zeros, zeros));
+}
+
+static void take_line(char *line)
+{
+    static const struct {
+        const char *word;
+        void (*take)(char *rest);
+    } lines[] = {{"let", take_let}, {"beside", take_beside}, {"case", take_case}, {"book", take_book}, {"cell", take_cell},
+        {"accepted", want_accepted}, {"refused", want_refused}, {"number", want_number}, {"text", want_text},
+        {"nothing", want_nothing}};
+    char *rest;
+    size_t i;
+
+    file.line++;
+    if (*line == 0 || *line == '#')
+        return;
+    rest = cut_word(line);
+    for (i = 0; i < sizeof lines / sizeof lines[0]; i++)
+        if (strcmp(lines[i].word, line) == 0) {
+            lines[i].take(rest);
+            return;
+        }
+    set_text(&played.texts[table_of(line)], rest);
+}
+
+int main(void)
+{
+    static char cases[MOST_FILE];
+    size_t length = 0;
+    size_t start = 0;
+    int byte;
+
+    while ((byte = getchar()) >= 0) {
+        if (length + 2 >= MOST_FILE)
+            end_with("the cases are too long");
+        cases[length++] = (char)byte;
+        if (byte == '\n') {
+            cases[length - 1] = 0;
+            take_line(cases + start);
+            start = length;
+        }
+    }
+    if (start != length)
+        end_with("the last line lacks its line feed");
+    end_case();
+    printf("%" PRIu64 " passed, %" PRIu64 " failed\n", file.passed, file.failed);
+    return file.failed != 0 || file.passed == 0;
+}
