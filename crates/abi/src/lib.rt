@@ -2,9 +2,9 @@
 ghost use mathlib.Core.Path.{_≡_};
 ghost use mathlib.Core.List.{[], _∷_};
 ghost use Rattle.refusals.specs.Verdicts.{paper, values};
-ghost use Rattle.book.specs.Calls.{typeCall, blockCall};
-ghost use Rattle.reading.specs.Calls.{readCall, delivery};
-ghost use Rattle.reading.specs.CellQuestion.{cellAsked};
+ghost use Rattle.questions.specs.Calls.{typeCall, blockCall};
+ghost use Rattle.delivery.specs.Calls.{readCall, delivery};
+ghost use Rattle.cell_question.specs.CellQuestion.{cellAsked};
 ghost use Rattle.slips.specs.Calls.{slipCall};
 ghost use Rattle.writer.specs.Calls.{writeCall};
 ghost use Rattle.abi.specs.Telling.{Tells};
@@ -43,7 +43,7 @@ pub extern "C" fn workshop_read(
 ) -> u64
     ensures { λ r. ⌜ Tells r (now (place .exit)) (readCall (delivery (now («vehicle_type» .entry)) (now (depot .entry)) (now (stop .entry)) (now («stop_point» .entry)) (now («vehicle_block» .entry))) (now (book .entry)) .verdict) × (now (book .exit) ≡ readCall (delivery (now («vehicle_type» .entry)) (now (depot .entry)) (now (stop .entry)) (now («stop_point» .entry)) (now («vehicle_block» .entry))) (now (book .entry)) .book) ⌝ }
 {
-    let told = on_paper(reading::read(vehicle_type, depot, stop, stop_point, vehicle_block, book));
+    let told = on_paper(delivery::read(vehicle_type, depot, stop, stop_point, vehicle_block, book));
     *place = told;
     told[0]
 }
@@ -73,7 +73,7 @@ pub extern "C" fn workshop_cell(
 ) -> u64
     ensures { λ r. ⌜ Tells r (now (place .exit)) (cellAsked (now (text .entry)) table line column .verdict) × (now (answer .exit) ≡ values (cellAsked (now (text .entry)) table line column .cell)) ⌝ }
 {
-    let asked = reading::cell(text, table, line, column);
+    let asked = cell_question::cell(text, table, line, column);
     let verdict = asked.verdict;
     let told = on_paper(verdict);
     let cell = asked.cell;
@@ -93,7 +93,7 @@ pub extern "C" fn workshop_type(
 ) -> u64
     ensures { λ r. ⌜ Tells r (now (place .exit)) (typeCall (now (book .entry)) version number .verdict) × (now (answer .exit) ≡ typeCall (now (book .entry)) version number .seconds ∷ typeCall (now (book .entry)) version number .count ∷ []) ⌝ }
 {
-    let found = book::type_answer(book, version, number);
+    let found = questions::type_answer(book, version, number);
     let verdict = found.verdict;
     let told = on_paper(verdict);
     *answer = [found.seconds, found.count];
@@ -113,7 +113,7 @@ pub extern "C" fn workshop_block(
 ) -> u64
     ensures { λ r. ⌜ Tells r (now (place .exit)) (blockCall (now (book .entry)) version «day_type» depot block .verdict) × (now (answer .exit) ≡ blockCall (now (book .entry)) version «day_type» depot block .numbers) ⌝ }
 {
-    let found = book::block_answer(book, version, day_type, depot, block);
+    let found = questions::block_answer(book, version, day_type, depot, block);
     let verdict = found.verdict;
     let told = on_paper(verdict);
     let numbers = found.numbers;

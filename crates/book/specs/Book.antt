@@ -4,10 +4,11 @@ use mathlib.Core.Bool.{Bool}
 use lib.Dec.{leb}
 use lib.ListN.{length}
 use Rattle.words.specs.Words.{Row}
-use Rattle.tables.specs.Columns.{keyWidth}
+use Rattle.rows.specs.Rows.{inserted, stands}
 use Rattle.tables.specs.declared.Table.{Table}
 use Rattle.tables.specs.declared.Table.the-variants.{VehicleType, Depot, Stop, StopPoint, Block}
-use Rattle.rows.specs.Rows.{stands, inserted}
+use Rattle.tables.specs.Columns.{keyWidth}
+use Rattle.tables.specs.Parts.{room}
 
 -- "The book holds the keys of tables 1 to 3 and the 11 numbers of each block, rows by rising key", and the keys of stop points
 pub record Book : Type 0 where
@@ -17,9 +18,13 @@ pub record Book : Type 0 where
   pub points : List Row
   pub blocks : List Row
 
+-- a book by its tables
+abbrev pub bookBy : (Table → List Row) → Book
+bookBy f = record { types = f VehicleType; depots = f Depot; stops = f Stop; points = f StopPoint; blocks = f Block }
+
 -- "an empty book, which is the book of" five "tables without rows"
 abbrev pub empty : Book
-empty = record { types = []; depots = []; stops = []; points = []; blocks = [] }
+empty = bookBy (λ t. [])
 
 abbrev pub rows : Table → Book → List Row
 rows VehicleType b = b .types
@@ -45,4 +50,4 @@ knows t row b = stands (keyWidth t) row (rows t b)
 
 -- "There are at most 512 rows in each table."
 abbrev pub full : Table → Book → Bool
-full t b = leb 512 (length (rows t b))
+full t b = leb (room t) (length (rows t b))

@@ -1,8 +1,5 @@
--- The book, to be read in this order.
+-- The book that is lent, and the parts of its tables, to be read in this order.
 pub mod Book
-pub mod Rules
-pub mod Questions
+pub mod Result
 pub mod Room
-pub mod Keeping
-pub mod Shelving
-pub mod Calls
+pub mod Holding

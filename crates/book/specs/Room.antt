@@ -1,27 +1,24 @@
--- The book in a lent slice: five parts of 512 rows, each a table's rows with zeros behind them.
-use mathlib.Core.Path.{_≡_}
+-- The book in a lent slice: a part for each table, its rows with zeros behind them.
 use mathlib.Core.List.{List, [], _∷_, _++_}
-use Prim.Native.Nat.{ℕ, _*_}
-use lib.ListN.{length, take, drop}
+use lib.ListN.{take, drop}
 use Rattle.words.specs.Words.{Row}
-use Rattle.tables.specs.Columns.{keyWidth, partOf}
+use Rattle.rows.specs.Room.{filled, used}
+use Rattle.tables.specs.Parts.{room, tables, begin}
 use Rattle.tables.specs.declared.Table.{Table}
-use Rattle.rows.specs.Room.{filled, used, Holds}
-use Rattle.book.specs.Book.{Book}
+use Rattle.book.specs.Book.{Book, rows, bookBy}
 
--- "rows by rising key, unused room zero, and nothing else"
+-- some tables of a book, one behind the other: "rows by rising key, unused room zero, and nothing else"
+abbrev pub laidOf : List Table → Book → List Row
+laidOf [] b = []
+laidOf (t ∷ ts) b = filled (room t) (rows t b) ++ laidOf ts b
+
 abbrev pub laid : Book → List Row
-laid b = filled 512 (b .types) ++ (filled 512 (b .depots) ++ (filled 512 (b .stops) ++ (filled 512 (b .points) ++ filled 512 (b .blocks))))
+laid b = laidOf tables b
 
-abbrev pub part : ℕ → List Row → List Row
-part i slice = take 512 (drop (i * 512) slice)
+-- a table's part of a slice
+abbrev pub part : Table → List Row → List Row
+part t slice = take (room t) (drop (begin t) slice)
 
 -- the book that a slice holds
 abbrev pub bookOf : List Row → Book
-bookOf slice =
-    record { types = used (part 0 slice); depots = used (part 1 slice); stops = used (part 2 slice); points = used (part 3 slice); blocks = used (part 4 slice) }
-
--- each part holds a table by its key
-pub record Sound (slice : List Row) : Type 0 where
-  pub long : length slice ≡ 2560
-  pub tables : (t : Table) → Holds (keyWidth t) (part (partOf t) slice)
+bookOf slice = bookBy (λ t. used (part t slice))

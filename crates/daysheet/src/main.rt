@@ -1,42 +1,28 @@
 // The day sheet of the working folder: running time per vehicle type, the day's slip applied; or the first fault.
 use libc::STDOUT_FILENO;
 use rows::ROWS;
+use tables::BOOK_ROWS;
 
-// The first n bytes, at once.
-fn print(out: &[u8], n: usize) {
-    if n <= out.len() {
-        io::write_all(STDOUT_FILENO, &out[0..n]);
-    }
-}
+// Room for the longest sheet: 512 T lines of at most 28 bytes, and the S line.
+const SHEET_ROOM: usize = 16384;
 
 fn main() {
-    // One byte more than a text may have, so that one that is too long is told.
-    let mut types = [0u8; 65537];
-    let mut depots = [0u8; 65537];
-    let mut stops = [0u8; 65537];
-    let mut points = [0u8; 65537];
-    let mut blocks = [0u8; 65537];
-    let mut slip = [0u8; 65537];
-    let t = files::load(b"vehicle_type.din", &mut types);
-    let d = files::load(b"depot.din", &mut depots);
-    let s = files::load(b"stop.din", &mut stops);
-    let p = files::load(b"stop_point.din", &mut points);
-    let b = files::load(b"vehicle_block.din", &mut blocks);
-    let c = files::load(b"slip.txt", &mut slip);
-    let mut book = [[0u64; 11]; 5 * ROWS];
+    let mut room = [0u8; files::ROOM];
+    let n = files::load_delivery(&mut room, false);
+    let slip = files::load_slip(&mut room);
+    let mut book = [[0u64; 11]; BOOK_ROWS];
     let mut work = [[0u64; 11]; ROWS];
-    let verdict = slips::day(
-        &types[..t],
-        &depots[..d],
-        &stops[..s],
-        &points[..p],
-        &blocks[..b],
-        &slip[..c],
+    let verdict = day::day(
+        files::text(&room, files::VEHICLE_TYPE, n.types),
+        files::text(&room, files::DEPOT, n.depots),
+        files::text(&room, files::STOP, n.stops),
+        files::text(&room, files::STOP_POINT, n.points),
+        files::text(&room, files::VEHICLE_BLOCK, n.blocks),
+        files::text(&room, files::SLIP, slip),
         &mut book,
         &mut work,
     );
-    // Room for the longest sheet: 512 T lines of at most 28 bytes, and the S line.
-    let mut out = [0u8; 16384];
+    let mut out = [0u8; SHEET_ROOM];
     let written = sheet::day_sheet(verdict, &book, &mut out);
-    print(&out, written.size);
+    io::write_all(STDOUT_FILENO, files::text(&out, 0, written.size));
 }

@@ -1,7 +1,9 @@
 -- Demand 2: blocks written out and read back give the same book, and written again the same text. Assumes nothing.
-use mathlib.Core.Path.{_≡_, ap, _∙_}
+use mathlib.Core.Path.{ap, _∙_, _≡_}
 use Rattle.tables.specs.declared.Table.the-variants.{Block}
-use Rattle.reading.specs.Reading.{Result, _▹_, tableRead, reading}
+use Rattle.book.specs.Result.{Result, _▹_}
+use Rattle.table_reading.specs.Reading.{tableRead}
+use Rattle.delivery.specs.Delivery.{reading}
 use Rattle.writer.specs.Writing.{written}
 use Rattle.promises.specs.Promises.{ReadsBack, WritesAgain}
 use Rattle.promises.proofs.DeliveryLaws.{Accepted, left-by, blocks-back}

@@ -1,42 +1,43 @@
 -- Demand 1: what the calls answer and leave behind, for good and bad input alike. Assumes nothing.
+use mathlib.Core.Path.{_≡_, refl, _∙_, ap, sym, subst}
+use mathlib.Core.List.{List, [], _∷_}
+use mathlib.Core.Bool.{false, not, _&&_, Bool, true}
 use Prim.Native.Nat.{ℕ, _≤_}
 use native.Mathlib.Omega.{arith}
-use mathlib.Core.Path.{_≡_, refl, ap, sym, subst, _∙_}
-use mathlib.Core.Bool.{Bool, true, false, not, _&&_}
-use mathlib.Core.List.{List, [], _∷_}
-use lib.ListN.{length, take, drop, length-append, length-drop, length-replicate}
+use lib.ListN.{length, length-replicate, length-append, length-drop, take, drop}
 use lib.Dec.{eqb, ltb}
 use borrow.Author.Tests.{eq-eqb, ne-eqb, eqb-true, ltb-false, le-ltb, lt-ltb}
-use Rattle.words.specs.Words.{Bytes, Row}
-use Rattle.refusals.specs.Verdicts.{_when_, _before_, place, nowhere, badLoan, outputShort}
+use Rattle.words.specs.Words.{Row, Bytes}
+use Rattle.words.proofs.Lists.{and-left, take-seam}
 use Rattle.refusals.specs.declared.Place.{Place}
+use Rattle.refusals.specs.declared.Verdict.the-variants.{Refused, Accepted}
+use Rattle.refusals.specs.Verdicts.{_when_, nowhere, badLoan, place, _before_, outputShort}
 use Rattle.refusals.specs.declared.Verdict.{Verdict}
-use Rattle.refusals.specs.declared.Verdict.the-variants.{Accepted, Refused}
+use Rattle.numbers.specs.Putting.{put}
 use Rattle.rows.specs.Room.{zeros}
-use Rattle.book.specs.Book.{Book, empty}
+use Rattle.book.specs.Book.{empty, Book}
 use Rattle.book.specs.Room.{laid, bookOf}
-use Rattle.book.specs.Keeping.{keepsRule}
-use Rattle.reading.specs.Reading.{Result, leaves, refused, unless, Delivery, reading, Left}
-use Rattle.reading.specs.Calls.{readOutcome, readCall}
+use Rattle.book.specs.Result.{Result, leaves, refused, unless}
+use Rattle.book.proofs.Laying.{sound-laid, orderly-empty, book-laid}
+use Rattle.keeping.specs.Keeping.{keepsRule}
+use Rattle.delivery.specs.Delivery.{Delivery, reading, Left}
+use Rattle.delivery.specs.Calls.{readOutcome, readCall}
+use Rattle.delivery.specs.Calls as reading-is
+use Rattle.slips.specs.Calls.{slipOutcome, workSized, cleared, slipCall, Outcome}
 use Rattle.slips.specs.Slips.{posting, kept, posted}
-use Rattle.slips.specs.Calls.{Outcome, cleared, workSized, slipOutcome, slipCall}
+use Rattle.writer.specs.Calls.{wrote, writeCall}
 use Rattle.writer.specs.Writing.{written}
-use Rattle.writer.specs.Calls.{put, wrote, writeCall}
 use Rattle.writer.specs.Calls as writing
-use Rattle.reading.specs.Calls as reading-is
-use Rattle.book.proofs.Laying.{book-laid, sound-laid, orderly-empty}
-use Rattle.words.proofs.Lists.{take-seam, and-left}
-use Rattle.promises.proofs.BackPromises.{reads-back}
 use Rattle.sheet.specs.Sheet.{sheetText, refusalText}
 use Rattle.sheet.specs.Calls.{shortFor}
 use Rattle.promises.specs.Promises as promises
-use Rattle.promises.proofs.DeliveryLaws.{Standing}
-use Rattle.promises.proofs.RuleLaws.{laid-keeps, standing-orderly}
-use Rattle.promises.proofs.RulePromises.{left-standing, rule-tested}
+use Rattle.promises.proofs.RulePromises.{rule-tested, left-standing}
+use Rattle.promises.proofs.RuleLaws.{standing-orderly, laid-keeps}
 use Rattle.promises.proofs.SlipPromises.{rule-kept, run-reads-afresh}
+use Rattle.promises.proofs.DeliveryLaws.{Standing}
+use Rattle.promises.proofs.BackPromises.{reads-back}
 
 -- a reading --------------------------------------------------------------------------------------------------------------
-
 read-sized : (d : Delivery) (slice : List Row) → length slice ≡ 2560 → readCall d slice ≡ readOutcome (reading d)
 read-sized d slice n = rw (eq-eqb (length slice) 2560 n)
 
@@ -51,7 +52,6 @@ pub wrong-book-stays : promises.WrongBookStays
 wrong-book-stays d slice n = let e : eqb (length slice) 2560 ≡ false = ne-eqb (length slice) 2560 n in (rw e, rw e)
 
 -- a slip -----------------------------------------------------------------------------------------------------------------
-
 keeps : (r : Result) (book work : List Row) (p : Place) → slipOutcome r book work .verdict ≡ Refused p → slipOutcome r book work .book ≡ book
 keeps (refused q) book work p h = refl
 keeps (leaves b) book work p h = let z : _≡_ {A = ℕ} 0 1 = cc in let y : ⊥ = omega arith in absurd y
@@ -84,7 +84,6 @@ wrong-work-stays s book work n =
     )
 
 -- the writer -------------------------------------------------------------------------------------------------------------
-
 untouched : (v : Verdict) (s out : Bytes) (p : Place) → wrote v s out .verdict ≡ Refused p → (wrote v s out .size ≡ 0) × (wrote v s out .out ≡ out)
 untouched Accepted s out p h = let z : _≡_ {A = ℕ} 0 1 = cc in let y : ⊥ = omega arith in absurd y
 untouched (Refused q) s out p h = (refl, refl)
@@ -99,7 +98,6 @@ refused-sheet-keeps Accepted book out p h =
 refused-sheet-keeps (Refused q) book out p h = untouched (shortFor (refusalText q) out) (refusalText q) out p h
 
 -- a book that breaks the rule -------------------------------------------------------------------------------------------
-
 pub bad-book-refused : promises.BadBookRefused
 bad-book-refused book h =
     let e : keepsRule book ≡ false = broken (keepsRule book) refl in
@@ -110,7 +108,6 @@ bad-book-refused book h =
     broken false e = e
 
 -- lengths ----------------------------------------------------------------------------------------------------------------
-
 read-length : (d : Delivery) (slice : List Row) → length (readCall d slice .book) ≡ length slice
 read-length d slice = go (eqb (length slice) 2560) refl
   where
@@ -173,7 +170,6 @@ pub lengths-kept : promises.LengthsKept
 lengths-kept = (read-length, λ s book work. (slip-length s book work, work-length s book work), write-length)
 
 -- what is written by the call --------------------------------------------------------------------------------------------
-
 write-laid : (b : Book) (out : Bytes) → Left b → writeCall (laid b) out ≡ wrote (nowhere (outputShort when ltb (length out) (length (written b)))) (written b) out
 write-laid b out l =
     let st : Standing b = left-standing b l in
@@ -200,7 +196,6 @@ calls-read-back d b book out e m h =
     ∙ rw (eq-eqb (length book) 2560 m, reads-back d b e) (sym (ap readOutcome e))
 
 -- a run of slip calls ----------------------------------------------------------------------------------------------------
-
 pub slip-call-answers : promises.SlipCallAnswers
 slip-call-answers s b work l n =
     let st : Standing b = left-standing b l in

@@ -1,41 +1,44 @@
 -- Demand 2: the question for a cell agrees with the reading. Assumes nothing.
-use Prim.Native.Nat.{ℕ, zero, suc, _+_, _-_, _≤_, _<_}
-use native.Mathlib.Omega.{arith}
-use mathlib.Core.Path.{_≡_, refl, ap, sym, subst, _∙_}
-use mathlib.Core.Bool.{Bool, true, false}
+use mathlib.Core.Path.{_≡_, refl, ap, sym, _∙_, subst}
 use mathlib.Core.List.{List, [], _∷_, map}
+use mathlib.Core.Bool.{false, Bool, true}
+use Prim.Native.Nat.{ℕ, zero, suc, _+_, _<_, _≤_, _-_}
+use native.Mathlib.Omega.{arith}
 use lib.ListN.{length, getD, take, replicate, length-map, List·getD-append, List·getD-map}
-use lib.Seq.{getD-take, length-take-le}
 use lib.Dec.{eqb}
+use lib.Seq.{getD-take, length-take-le}
 use borrow.Author.Tests.{ne-eqb, le-ltb}
 use Rattle.words.specs.Words.{Bytes, Row, if_then_else_}
-use Rattle.refusals.specs.Verdicts.{_⊳_, _when_, _before_, tooManyRows}
 use Rattle.refusals.specs.declared.Check.the-variants.{Passes}
+use Rattle.refusals.specs.Verdicts.{_⊳_, _when_, tooManyRows}
 use Rattle.refusals.specs.declared.Verdict.the-variants.{Accepted}
 use Rattle.refusals.specs.declared.Cell.{Cell}
 use Rattle.refusals.specs.declared.Cell.the-variants.{Number}
-use Rattle.text.specs.Lines.{lines, rowLines}
-use Rattle.text.specs.Numbers.{value, valueFrom}
-use Rattle.text.specs.Cells.{cut, cellsOf, content}
-use Rattle.tables.specs.Columns.{Column, columnsOf, columnAt, noColumn, number, numbered, keyWidth, keptWidth, breaks}
-use Rattle.tables.specs.Values.{cellCheck}
-use Rattle.tables.specs.declared.Table.{Table}
-use Rattle.tables.specs.declared.Table.the-variants.{VehicleType, Depot, Stop, StopPoint, Block}
-use Rattle.tables.specs.declared.Named.{Named}
-use Rattle.tables.specs.declared.Named.the-variants.{Known}
-use Rattle.tables.specs.declared.Rules.{Rules}
-use Rattle.tables.specs.declared.Sort.{Sort}
-use Rattle.tables.specs.declared.Sort.the-variants.{Decimal}
+use Rattle.lines.specs.Lines.{rowLines, lines}
+use Rattle.cells.specs.Cells.{content, cut, cellsOf}
+use Rattle.numbers.specs.Numbers.{value, valueFrom}
 use Rattle.rows.specs.Rows.{column}
 use Rattle.rows.proofs.Rising.{rising-true}
-use Rattle.book.specs.Book.{Book, rows, full}
-use Rattle.book.specs.Rules.{ruled}
-use Rattle.reading.specs.Header.{Header, cutCheck, under, contents, contentsFrom}
-use Rattle.reading.specs.Reading.{leaves, badCell, judged, rowRead, headerOf, topFaults, Delivery, reading}
-use Rattle.reading.specs.CellQuestion.{answered, cellSaid, cellAt, cellVerdict, cellStart, tableCell, askedOf, cellAsked}
+use Rattle.tables.specs.Columns.{number, numbered, Column, noColumn, columnsOf, columnAt, keptWidth, keyWidth}
+use Rattle.tables.specs.declared.Table.{Table}
+use Rattle.tables.specs.declared.Table.the-variants.{VehicleType, Depot, Stop, StopPoint, Block}
+use Rattle.tables.specs.declared.Named.the-variants.{Known}
+use Rattle.tables.specs.declared.Rules.{Rules}
+use Rattle.tables.specs.declared.Named.{Named}
+use Rattle.tables.specs.declared.Sort.{Sort}
+use Rattle.tables.specs.declared.Sort.the-variants.{Decimal}
+use Rattle.tables.proofs.Figures.{kept-columns, kept-decimal, kept-required}
+use Rattle.values.specs.Values.{breaks, cellCheck, badCell}
+use Rattle.book.specs.Book.{Book, full, rows}
+use Rattle.book.specs.Result.{leaves}
+use Rattle.rules.specs.Rules.{ruled}
+use Rattle.header.specs.Header.{Header, under, contentsFrom, cutCheck, contents, headerOf, topFaults}
+use Rattle.row_line.specs.RowLine.{rowRead}
+use Rattle.table_lines.specs.Reading.{judged}
+use Rattle.delivery.specs.Delivery.{Delivery, reading}
+use Rattle.cell_question.specs.CellQuestion.{answered, cellSaid, cellAt, cellVerdict, cellStart, tableCell, askedOf, cellAsked}
 use Rattle.promises.specs.Promises.{rowLinesOf, rowAt, textOf, CellsAccepted, CellsAgree}
 use Rattle.promises.proofs.TestLaws.{both, unfailed}
-use Rattle.tables.proofs.Figures.{kept-columns, kept-decimal, kept-required}
 use Rattle.promises.proofs.DeliveryLaws.{ReadTo, left-by}
 use Rattle.promises.proofs.ExactPromises.{accepted-exactly}
 use Rattle.promises.proofs.RowPromises.{rows-exactly, found-copy, copy-at}
@@ -48,7 +51,6 @@ numbered-known StopPoint = refl
 numbered-known Block = refl
 
 -- the contents of a line, one by one ---------------------------------------------------------------------------------------
-
 contents-at : (k : ℕ) (xs : List Column) (h : Header) (cs : List Bytes) (n : ℕ) → n < length xs → getD (contentsFrom k xs h cs) n [] ≡ content (under (k + n) h cs)
 unfolding contentsFrom
 contents-at k [] h cs n g = absurd (omega arith)
@@ -77,7 +79,6 @@ some-content x s true e r h =
     let z : _≡_ {A = ℕ} 0 1 = cc in let y : ⊥ = omega arith in absurd y
 
 -- the lines --------------------------------------------------------------------------------------------------------------
-
 lines-long : (ls : List Bytes) (i : ℕ) → i < length (rowLines ls) → 2 + i ≤ length ls
 lines-long [] i h = absurd (omega arith)
 lines-long (l ∷ ls) i h = omega arith
@@ -87,7 +88,6 @@ line-at [] i h = absurd (omega arith)
 line-at (l ∷ ls) i h = let m : 2 + i - 1 ≡ suc i = omega arith in rw m
 
 -- a cell of a line that is accepted ----------------------------------------------------------------------------------------
-
 module _ (t : Table) (s : Bytes) (i n : ℕ) (b : Book)
     (top : topFaults t s ≡ Accepted) (on : i < length (rowLinesOf s)) (pass : judged t (headerOf t s) (getD (rowLinesOf s) i []) b ≡ Passes) (known-column : n < length (columnsOf t))
   where

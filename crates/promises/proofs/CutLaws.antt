@@ -1,11 +1,10 @@
 -- What was joined by semicolons is cut as it was. Assumes nothing.
 use mathlib.Core.Path.{_≡_, refl, _∙_}
-use mathlib.Core.List.{List, [], _∷_, _++_, append-nil}
+use mathlib.Core.List.{[], _∷_, List, _++_, append-nil}
 use Rattle.words.specs.Words.{Bytes}
-use Rattle.text.specs.Cells.{Cut, cells, grown, after, kind, cutFrom, cut}
-use Rattle.text.specs.Fields.{parted}
-use Rattle.text.specs.declared.State.the-variants.{Fresh, Plain}
-use Rattle.text.specs.declared.Kind.the-variants.{Other}
+use Rattle.cells.specs.Cells.{kind, Cut, grown, cells, after, cutFrom, cut, parted}
+use Rattle.cells.specs.declared.Kind.the-variants.{Other}
+use Rattle.cells.specs.declared.State.the-variants.{Fresh, Plain}
 
 unfoldable pub AllPlain : Bytes → Type 0
 AllPlain [] = Unit {0}

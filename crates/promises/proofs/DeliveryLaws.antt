@@ -1,29 +1,32 @@
 -- A delivery that is accepted, table by table, and the plainest delivery of a book. Assumes nothing.
-use native.Mathlib.Omega.{arith}
-use Prim.Native.Nat.{ℕ, suc, _≤_, _<_}
-use mathlib.Core.Path.{_≡_, refl, ap, sym, subst, _∙_}
-use mathlib.Core.List.{List, [], _∷_, map}
+use mathlib.Core.Path.{refl, _≡_, ap, sym, _∙_, subst}
+use mathlib.Core.List.{[], List, _∷_, map}
 use mathlib.Core.Bool.{Bool, true, false}
 use mathlib.Core.Logic.{_⊎_, inl, inr, ⊎-elim}
+use Prim.Native.Nat.{ℕ, _≤_, _<_, suc}
+use native.Mathlib.Omega.{arith}
 use lib.ListN.{getD}
 use lib.Dec.{eqb}
 use borrow.Author.Tests.{eqb-true, eqb-false}
 use Rattle.words.specs.Words.{Bytes, Row}
-use Rattle.tables.specs.Columns.{partOf}
+use Rattle.rows.specs.Rows.{rising as rises}
 use Rattle.tables.specs.declared.Table.{Table}
 use Rattle.tables.specs.declared.Table.the-variants.{VehicleType, Depot, Stop, StopPoint, Block}
-use Rattle.book.specs.Book.{Book, empty, rows, with-rows}
-use Rattle.book.specs.Rules.{unknownOf}
-use Rattle.book.proofs.Laying.{rows-empty, rows-apart}
+use Rattle.tables.specs.Parts.{partOf, tables}
 use Rattle.tables.proofs.Figures.{part-below}
-use Rattle.reading.specs.Reading.{leaves, _▹_, tableRead, Delivery, reading}
-use Rattle.writer.specs.Writing.{linesWritten, namesLine, rowLine, written}
+use Rattle.tables.proofs.Parts as parts
+use Rattle.book.specs.Book.{Book, rows, empty, with-rows}
+use Rattle.book.specs.Result.{leaves, _▹_}
+use Rattle.book.proofs.Laying.{rows-empty, rows-apart}
+use Rattle.rules.specs.Rules.{unknownOf}
+use Rattle.rules.proofs.Referring.{unknown-before}
+use Rattle.table_reading.specs.Reading.{tableRead}
+use Rattle.delivery.specs.Delivery.{Delivery, reading}
+use Rattle.writer.specs.Writing.{rowLine, linesWritten, namesLine, written}
 use Rattle.promises.specs.Promises.{InOrder, textOf}
+use Rattle.promises.proofs.HeldLaws.{Held, EachGood, held-moved, held-table, Good, good-eleven, table-back}
 use Rattle.promises.proofs.TestLaws.{came}
-use Rattle.rows.specs.Rows.{rising as rises}
-use Rattle.promises.proofs.PlainLaws.{plainLine, plainText, plain-names-block, plain-line-block}
-use Rattle.book.proofs.Referring.{unknown-before}
-use Rattle.promises.proofs.HeldLaws.{Good, EachGood, Held, good-eleven, held-moved, held-table, table-back}
+use Rattle.promises.proofs.PlainLaws.{plainLine, plain-line-block, plainText, plain-names-block}
 
 -- every table of the book stands by right
 abbrev pub Standing : Book → Type 0
@@ -65,7 +68,6 @@ pub record ReadTo (t : Table) (s : Bytes) (b : Book) : Type 0 where
   pub same : rows t after ≡ rows t b
 
 -- table by table --------------------------------------------------------------------------------------------------------
-
 -- behind the first n tables: each of them stands by right, as its text has it, and the others are empty
 record Behind (n : ℕ) (d : Delivery) (b : Book) : Type 0 where
   held : (t : Table) → partOf t < n → Held t b (rows t b)
@@ -76,18 +78,8 @@ behind-none : (d : Delivery) → Behind 0 d empty
 behind-none d = record { held = λ t l. absurd (omega arith); read = λ t l. absurd (omega arith); bare = λ t l. rows-empty t }
 
 -- a table's part tells it
-abbrev tablesInOrder : List Table
-tablesInOrder = VehicleType ∷ Depot ∷ Stop ∷ StopPoint ∷ Block ∷ []
-
-own-part : (t : Table) → getD tablesInOrder (partOf t) Block ≡ t
-own-part VehicleType = refl
-own-part Depot = refl
-own-part Stop = refl
-own-part StopPoint = refl
-own-part Block = refl
-
 same-part : (t u : Table) → partOf t ≡ partOf u → t ≡ u
-same-part t u e = sym (own-part t) ∙ ap (λ (i : ℕ). getD tablesInOrder i Block) e ∙ own-part u
+same-part t u e = sym (parts.in-order t) ∙ ap (λ (i : ℕ). getD tables i Block) e ∙ parts.in-order u
 
 own-or-before : (t u : Table) → partOf u < suc (partOf t) → (t ≡ u) ⊎ (partOf u < partOf t)
 own-or-before t u l = go (eqb (partOf t) (partOf u)) refl
@@ -151,7 +143,6 @@ left-by d b e =
     }
 
 -- the writer's form ------------------------------------------------------------------------------------------------------
-
 pub lines-plain : (b : Book) (ys : List Row) → EachGood Block b ys → map (plainLine Block) ys ≡ map rowLine ys
 unfolding EachGood
 lines-plain b [] h = refl
@@ -167,7 +158,6 @@ pub blocks-back : (b : Book) (ys : List Row) → Held Block b ys → tableRead B
 blocks-back b ys h = ap (λ (s : Bytes). tableRead Block s (with-rows Block [] b)) (sym (written-plain b ys h)) ∙ table-back Block b ys h
 
 -- the plainest delivery --------------------------------------------------------------------------------------------------
-
 abbrev pub plainDelivery : Book → Delivery
 plainDelivery b = record { types = plainText VehicleType (b .types); depots = plainText Depot (b .depots); stops = plainText Stop (b .stops); points = plainText StopPoint (b .points); blocks = written b }
 

@@ -1,28 +1,33 @@
 -- Demand 2: accepted exactly if no line breaks a rule, else the first fault. Assumes nothing.
-use Prim.Native.Nat.{ℕ, zero, suc, _+_, _<_}
-use native.Mathlib.Omega.{arith}
 use mathlib.Core.Path.{_≡_, refl, ap, sym, _∙_}
-use mathlib.Core.Bool.{Bool, true, false}
 use mathlib.Core.List.{List, [], _∷_}
 use mathlib.Core.Logic.{_⊎_, inl, inr, ⊎-elim}
+use mathlib.Core.Bool.{Bool, true, false}
+use Prim.Native.Nat.{ℕ, zero, suc, _+_, _<_}
+use native.Mathlib.Omega.{arith}
 use lib.ListN.{length}
 use Rattle.words.specs.Words.{Bytes}
-use Rattle.refusals.specs.Verdicts.{_when_, placed, place, inText, textTooLong}
+use Rattle.refusals.specs.Verdicts.{placed, place, _when_, inText, textTooLong}
 use Rattle.refusals.specs.declared.Place.{Place}
 use Rattle.refusals.specs.declared.Check.{Check}
 use Rattle.refusals.specs.declared.Check.the-variants.{Passes, Fails}
+use Rattle.refusals.specs.declared.Verdict.the-variants.{Refused, Accepted}
 use Rattle.refusals.specs.declared.Verdict.{Verdict}
-use Rattle.refusals.specs.declared.Verdict.the-variants.{Accepted, Refused}
-use Rattle.text.specs.Lines.{slipLines, overlong}
+use Rattle.lines.specs.Lines.{slipLines, overlong}
 use Rattle.tables.specs.Columns.{number}
 use Rattle.tables.specs.declared.Table.{Table}
 use Rattle.tables.specs.declared.Table.the-variants.{VehicleType, Depot, Stop, StopPoint, Block}
-use Rattle.book.specs.Book.{Book, empty, entered}
-use Rattle.reading.specs.Header.{Header}
-use Rattle.reading.specs.Reading.{Result, leaves, refused, unless, _▹_, judged, rowRead, rowsRead, headerOf, topFaults, tableRead, Delivery, reading}
-use Rattle.slips.specs.Slips.{slipCheck, slipLeaves, linesPosted, posting}
+use Rattle.book.specs.Book.{Book, entered, empty}
+use Rattle.book.specs.Result.{Result, leaves, refused, unless, _▹_}
+use Rattle.header.specs.Header.{Header, headerOf, topFaults}
+use Rattle.row_line.specs.RowLine.{rowRead}
+use Rattle.table_lines.specs.Reading.{judged, rowsRead}
+use Rattle.table_reading.specs.Reading.{tableRead}
+use Rattle.delivery.specs.Delivery.{reading, Delivery}
+use Rattle.block_change.specs.Change.{slipCheck, slipLeaves}
+use Rattle.slips.specs.Slips.{linesPosted, posting}
 use Rattle.promises.specs.Promises.{onward, checkAt, Faultless, FirstFault, rowLinesOf, rowStep, AcceptedExactly, RefusedAtFirst, SlipAcceptedExactly, SlipRefusedAtFirst, DeliveryInOrder, FaultyTable, in-types, in-depots, in-stops, in-points, in-blocks, DeliveryRefused}
-use Rattle.promises.proofs.TestLaws.{came, going-on, unrefused}
+use Rattle.promises.proofs.TestLaws.{going-on, unrefused, came}
 use Rattle.promises.proofs.DeliveryLaws.{in-order}
 
 -- lines judged in turn, said once for rows and for slip lines
@@ -179,7 +184,6 @@ slip-refused-at-first s b p = (
 )
 
 -- the five tables --------------------------------------------------------------------------------------------------------
-
 pub delivery-in-order : DeliveryInOrder
 unfolding reading
 delivery-in-order d b = (in-order d b, λ o. rw (o .types, o .depots, o .stops, o .points, o .blocks))

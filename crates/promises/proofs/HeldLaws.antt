@@ -1,45 +1,50 @@
 -- What stands in a table by right: a reading leaves nothing else, and whatever so stands is read back from its plain form. Assumes nothing.
-use Prim.Native.Nat.{ℕ, suc, _+_, _-_, _*_, _≤_, _<_}
-use native.Mathlib.Omega.{arith}
-use mathlib.Core.Path.{_≡_, refl, ap, sym, subst, _∙_}
+use mathlib.Core.Path.{_≡_, ap, _∙_, sym, refl, subst}
 use mathlib.Core.Bool.{true, false}
-use mathlib.Core.List.{List, [], _∷_, _++_, map, append-nil}
-use lib.ListN.{length, take, length-append, length-map, length-take, length-replicate, replicate}
+use mathlib.Core.List.{List, [], _∷_, map, _++_, append-nil}
+use Prim.Native.Nat.{_≤_, ℕ, _+_, _-_, _<_, suc, _*_}
+use native.Mathlib.Omega.{arith}
+use lib.ListN.{take, length, length-append, length-take, length-replicate, replicate, length-map}
 use lib.Seq.{take-at, append-snoc}
 use borrow.Author.Tests.{leb-false, lt-leb, le-ltb}
-use Rattle.words.specs.Words.{Bytes, Row}
-use Rattle.refusals.specs.Verdicts.{_⊳_, _when_, placed, place, tooManyRows, endsEarly, keyStands}
-use Rattle.refusals.specs.declared.Check.{Check}
+use Rattle.words.specs.Words.{Row, Bytes}
 use Rattle.refusals.specs.declared.Check.the-variants.{Passes, Fails}
+use Rattle.refusals.specs.Verdicts.{_⊳_, _when_, tooManyRows, endsEarly, keyStands, placed, place}
+use Rattle.refusals.specs.declared.Check.{Check}
 use Rattle.refusals.specs.declared.Verdict.{Verdict}
 use Rattle.refusals.specs.declared.Verdict.the-variants.{Accepted, Refused}
-use Rattle.text.specs.Numbers.{value}
-use Rattle.text.specs.Lines.{lines, rowLines}
-use Rattle.text.specs.Cells.{cut, cellsOf}
-use Rattle.tables.specs.Columns.{columnsOf, number, keyWidth, keptWidth}
-use Rattle.tables.specs.declared.Table.{Table}
-use Rattle.tables.specs.declared.Table.the-variants.{VehicleType, Depot, Stop, StopPoint, Block}
-use Rattle.rows.specs.Rows.{wide, keyOrder, inserted, stands, rising as rises}
+use Rattle.lines.specs.Lines.{lines, rowLines}
+use Rattle.cells.specs.Cells.{cut, cellsOf}
+use Rattle.numbers.specs.Numbers.{value}
+use Rattle.rows.specs.Rows.{wide, rising as rises, keyOrder, inserted, stands}
 use Rattle.rows.specs.declared.Order.{Order}
 use Rattle.rows.specs.declared.Order.the-variants.{Less, Same, More}
-use Rattle.book.specs.Book.{Book, rows, with-rows, entered, full, knows}
-use Rattle.book.specs.Rules.{timeFault, unknown, ruled}
-use Rattle.book.specs.Keeping.{ranged}
-use Rattle.reading.specs.Header.{Header, cutCheck, contents, contentsFrom}
-use Rattle.reading.specs.Reading.{Result, leaves, refused, unless, _▹_, badCell, judged, rowRead, rowsRead, tableRead, headerOf, topFaults}
-use Rattle.writer.specs.Writing.{linesWritten}
-use Rattle.book.proofs.Laying.{rows-with, with-same, with-with, entered-with}
-use Rattle.book.proofs.Referring.{unknown-with}
-use Rattle.promises.proofs.TestLaws.{both, unfailed, going-on}
-use Rattle.rows.proofs.Rising.{rising-true, rising-inserted}
+use Rattle.rows.proofs.Rising.{rising-inserted, rising-true}
 use Rattle.rows.proofs.Changes.{length-inserted}
+use Rattle.tables.specs.Columns.{columnsOf, keptWidth, keyWidth, number}
+use Rattle.tables.specs.declared.Table.{Table}
+use Rattle.tables.specs.Parts.{room as roomOf}
+use Rattle.tables.specs.declared.Table.the-variants.{VehicleType, Depot, Stop, StopPoint, Block}
 use Rattle.tables.proofs.Figures.{kept-few}
-use Rattle.promises.proofs.LastRowLaws.{AboveAll, above-all, inserted-last, stands-not}
-use Rattle.promises.proofs.LineLaws.{Unbroken, EachUnbroken, lines-written}
-use Rattle.promises.proofs.PlainLaws.{plainNames, plainHeader, plainLine, plainText, Eleven, eleven-long, kept-numeric, cells-ranged, row-read, row-judged, unbroken-line, unbroken-plain, names-good, names-read, names-short, line-short}
+use Rattle.tables.proofs.Parts.{room-alike}
+use Rattle.values.specs.Values.{badCell}
+use Rattle.book.specs.Book.{Book, rows, full, knows, with-rows, entered}
+use Rattle.book.specs.Result.{leaves, refused, unless, _▹_, Result}
+use Rattle.book.proofs.Laying.{rows-with, with-same, with-with, entered-with}
+use Rattle.rules.specs.Rules.{timeFault, unknown, ruled}
+use Rattle.rules.proofs.Referring.{unknown-with}
+use Rattle.keeping.specs.Keeping.{ranged}
+use Rattle.header.specs.Header.{Header, contents, contentsFrom, cutCheck, headerOf, topFaults}
+use Rattle.row_line.specs.RowLine.{rowRead}
+use Rattle.table_lines.specs.Reading.{judged, rowsRead}
+use Rattle.table_reading.specs.Reading.{tableRead}
+use Rattle.writer.specs.Writing.{linesWritten}
+use Rattle.promises.proofs.PlainLaws.{Eleven, eleven-long, kept-numeric, cells-ranged, plainHeader, plainLine, row-judged, row-read, plainNames, names-short, names-good, names-read, line-short, plainText, unbroken-plain, unbroken-line}
+use Rattle.promises.proofs.TestLaws.{both, unfailed, going-on}
+use Rattle.promises.proofs.LastRowLaws.{AboveAll, stands-not, above-all, inserted-last}
+use Rattle.promises.proofs.LineLaws.{EachUnbroken, lines-written, Unbroken}
 
 -- rows that stand by right -----------------------------------------------------------------------------------------------
-
 pub record Good (t : Table) (b : Book) (row : Row) : Type 0 where
   pub shape : row ≡ wide (take (keptWidth t) row)
   pub inside : ranged (columnsOf t) (take (keptWidth t) row) ≡ true
@@ -53,7 +58,7 @@ EachGood t b (x ∷ xs) = Good t b x × EachGood t b xs
 pub record Held (t : Table) (b : Book) (xs : List Row) : Type 0 where
   pub rising : rises (keyWidth t) xs ≡ true
   pub good : EachGood t b xs
-  pub size : length xs ≤ 512
+  pub size : length xs ≤ roomOf t
 
 pub good-eleven : (t : Table) (row : Row) → row ≡ wide (take (keptWidth t) row) → Eleven row
 good-eleven t row s =
@@ -84,10 +89,9 @@ good-insert t b k row (x ∷ xs) g h = go (keyOrder k row x) refl (good-insert t
     go More e ih = rw e (h .0, ih)
 
 -- what a check that passes says ------------------------------------------------------------------------------------------
-
 pub record Taken (t : Table) (b : Book) (row : Row) : Type 0 where
   pub good : Good t b row
-  pub room : length (rows t b) < 512
+  pub room : length (rows t b) < roomOf t
   pub fresh : stands (keyWidth t) row (rows t b) ≡ false
 
 contents-long : (t : Table) (h : Header) (cs : List Bytes) → length (map value (take (keptWidth t) (contents t h cs))) ≡ keptWidth t
@@ -119,15 +123,14 @@ judged-taken t b h l p =
             timed = unfailed 11 11 (timeFault t row) (p11 .0);
             known = p9 .1;
           };
-      room = leb-false 512 (length (rows t b)) (unfailed 5 0 (full t b) (p5 .0));
+      room = leb-false (roomOf t) (length (rows t b)) (unfailed 5 0 (full t b) (p5 .0));
       fresh = unfailed 9 0 (knows t row b) (p9 .0);
     }
 
 -- what the rows of a reading leave ---------------------------------------------------------------------------------------
-
 pub held-insert : (t : Table) (b : Book) (row : Row) → Taken t b row → Held t b (rows t b) → Held t b (inserted (keyWidth t) row (rows t b))
 held-insert t b row a h =
-    let small : length (rows t b) < 512 = a .room in
+    let small : length (rows t b) < roomOf t = a .room in
     record {
       rising = rising-inserted (keyWidth t) row (rows t b) (h .rising);
       good = good-insert t b (keyWidth t) row (rows t b) (a .good) (h .good);
@@ -167,19 +170,18 @@ held-table t s b c h e =
     (going-on (topFaults t s) (rowsRead t (headerOf t s) 2 (rowLines (lines s)) b) c e)
 
 -- what so stands is read back from its plain form ------------------------------------------------------------------------
-
-good-judged : (t : Table) (b : Book) (xs : List Row) (row : Row) → Good t b row → length xs < 512 → AboveAll (keyWidth t) row xs →
+good-judged : (t : Table) (b : Book) (xs : List Row) (row : Row) → Good t b row → length xs < roomOf t → AboveAll (keyWidth t) row xs →
     judged t (plainHeader t) (plainLine t row) (with-rows t xs b) ≡ Passes
 good-judged t b xs row g small up =
     row-judged t row (with-rows t xs b) (good-eleven t row (g .shape)) (g .shape) (g .inside)
-    ∙ rw (rows-with t xs b, lt-leb 512 (length xs) small, g .timed, stands-not (keyWidth t) row xs up, unknown-with t row xs b) (g .known)
+    ∙ rw (rows-with t xs b, lt-leb (roomOf t) (length xs) small, g .timed, stands-not (keyWidth t) row xs up, unknown-with t row xs b) (g .known)
 
-rows-back : (t : Table) (b : Book) (i : ℕ) (xs ys : List Row) → rises (keyWidth t) (xs ++ ys) ≡ true → EachGood t b ys → length (xs ++ ys) ≤ 512 →
+rows-back : (t : Table) (b : Book) (i : ℕ) (xs ys : List Row) → rises (keyWidth t) (xs ++ ys) ≡ true → EachGood t b ys → length (xs ++ ys) ≤ roomOf t →
     rowsRead t (plainHeader t) i (map (plainLine t) ys) (with-rows t xs b) ≡ leaves (with-rows t (xs ++ ys) b)
 unfolding rowsRead EachGood
 rows-back t b i xs [] up g n = rw append-nil
 rows-back t b i xs (y ∷ ys) up g n =
-    let small : length xs < 512 = omega (arith, length-append xs (y ∷ ys)) in
+    let small : length xs < roomOf t = omega (arith, length-append xs (y ∷ ys)) in
     let over : AboveAll (keyWidth t) y xs = above-all (keyWidth t) y xs ys (rising-true (keyWidth t) (xs ++ (y ∷ ys)) up) in
     let good : Good t b y = g .0 in
     let on : rowsRead t (plainHeader t) (suc i) (map (plainLine t) ys) (with-rows t (xs ++ (y ∷ [])) b) ≡ leaves (with-rows t (xs ++ (y ∷ ys)) b) =
@@ -218,7 +220,7 @@ rows-short t b [] h = tt
 rows-short t b (y ∷ ys) h = let g : Good t b y = h .0 in (line-short t y (good-eleven t y (g .shape)) (g .inside), rows-short t b ys (h .1))
 
 few-lines : (t : Table) (b : Book) (ys : List Row) → Held t b ys → length (map (plainLine t) ys) ≤ 513
-few-lines t b ys h = omega (arith, length-map ys (plainLine t), h .size)
+few-lines t b ys h = omega (arith, length-map ys (plainLine t), h .size, room-alike t)
 
 pub plain-short : (t : Table) (b : Book) (ys : List Row) → Held t b ys → length (plainText t ys) ≤ 65536
 plain-short t b ys h = text-short t (map (plainLine t) ys) (rows-short t b ys (h .good)) (few-lines t b ys h)
@@ -229,7 +231,6 @@ table-back t b ys h =
     ∙ rows-back t b 2 [] ys (h .rising) (h .good) (h .size)
 
 -- and one more row behind them -------------------------------------------------------------------------------------------
-
 rows-append : (t : Table) (h : Header) (i : ℕ) (ls ms : List Bytes) (b : Book) → rowsRead t h i (ls ++ ms) b ≡ (rowsRead t h i ls b ▹ rowsRead t h (i + length ls) ms)
 unfolding rowsRead
 rows-append t h i [] ms b = let m : i + 0 ≡ i = omega arith in rw m
@@ -260,7 +261,7 @@ unfolding rowsRead
 table-more t b ys row h e r =
     let ls : List Bytes = map (plainLine t) ys in
     let l : Bytes = plainLine t row in
-    let n : length (ls ++ (l ∷ [])) ≤ 513 = omega (arith, length-append ls (l ∷ []), length-map ys (plainLine t), h .size) in
+    let n : length (ls ++ (l ∷ [])) ≤ 513 = omega (arith, room-alike t, length-append ls (l ∷ []), length-map ys (plainLine t), h .size) in
     plain-lines-read t (ls ++ (l ∷ [])) (with-rows t [] b) (unbroken-last (plainNames t ∷ ls) l (unbroken-plain t ys) (unbroken-line t row))
     (short-append ls l (rows-short t b ys (h .good)) (line-short t row e r)) n
     ∙ rows-append t (plainHeader t) 2 ls (l ∷ []) (with-rows t [] b)

@@ -1,13 +1,13 @@
 -- A row whose key is above all others' goes behind them. Assumes nothing.
-use Prim.Native.Nat.{ℕ}
 use mathlib.Core.Path.{_≡_, refl}
-use mathlib.Core.Bool.{false}
 use mathlib.Core.List.{List, [], _∷_, _++_}
+use mathlib.Core.Bool.{false}
+use Prim.Native.Nat.{ℕ}
 use Rattle.words.specs.Words.{Row}
-use Rattle.rows.specs.Rows.{keyOrder, stands, inserted}
-use Rattle.rows.specs.declared.Order.the-variants.{Less, More}
-use Rattle.rows.proofs.Keys.{less-more}
+use Rattle.rows.specs.Rows.{keyOrder, inserted, stands}
+use Rattle.rows.specs.declared.Order.the-variants.{More, Less}
 use Rattle.rows.proofs.Rising.{Above, Rising}
+use Rattle.rows.proofs.Keys.{less-more}
 
 -- the row's key is above each of the others
 unfoldable pub AboveAll : ℕ → Row → List Row → Type 0

@@ -1,3 +1,4 @@
+pub mod Writing
 pub mod TestLaws
 pub mod LastRowLaws
 pub mod CutLaws

@@ -1,13 +1,13 @@
 -- What is written line by line is read line by line. Assumes nothing.
 use mathlib.Core.Path.{_≡_, refl, _∙_}
-use mathlib.Core.List.{List, [], _∷_, _++_}
-use mathlib.Core.Bool.{Bool, true, false, not, _&&_}
+use mathlib.Core.List.{[], _∷_, List, _++_}
+use mathlib.Core.Bool.{false, Bool, true, not, _&&_}
 use lib.Dec.{eqb}
 use borrow.Author.Tests.{not-true}
 use Rattle.words.specs.Words.{Bytes}
-use Rattle.text.specs.Lines.{lines}
-use Rattle.writer.specs.Writing.{linesWritten}
 use Rattle.words.proofs.Lists.{and-left, and-right}
+use Rattle.lines.specs.Lines.{lines}
+use Rattle.writer.specs.Writing.{linesWritten}
 
 -- no line feed, no carriage return
 unfoldable pub Unbroken : Bytes → Type 0

@@ -1,17 +1,19 @@
 -- A number that is written is a plain cell on an unbroken line, and fits a column of its width. Assumes nothing.
-use Prim.Native.Nat.{ℕ, suc, _^_, _≤_, _<_}
-use native.Mathlib.Omega.{arith}
+use mathlib.Core.List.{[], _∷_}
 use mathlib.Core.Path.{_≡_}
 use mathlib.Core.Bool.{true, false}
-use mathlib.Core.List.{[], _∷_}
+use Prim.Native.Nat.{_≤_, ℕ, suc, _^_, _<_}
+use native.Mathlib.Omega.{arith}
 use lib.ListN.{length}
 use borrow.Author.Tests.{ne-eqb}
 use Rattle.words.specs.Words.{Bytes}
-use Rattle.text.specs.Numbers.{decimal}
-use Rattle.text.proofs.Writing.{EachDigit, digit-kind, decimal-some, decimal-is, read-back}
-use Rattle.tables.specs.Columns.{inRange, breaks}
+use Rattle.numbers.specs.Numbers.{decimal}
+use Rattle.numbers.proofs.Writing.{EachDigit, decimal-some, decimal-is, read-back}
+use Rattle.tables.specs.Columns.{inRange}
 use Rattle.tables.specs.declared.Rules.{Rules}
 use Rattle.tables.specs.declared.Sort.the-variants.{Decimal}
+use Rattle.values.specs.Values.{breaks}
+use Rattle.promises.proofs.Writing.{digit-kind}
 use Rattle.promises.proofs.CutLaws.{AllPlain}
 use Rattle.promises.proofs.LineLaws.{Unbroken}
 

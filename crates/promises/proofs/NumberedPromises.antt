@@ -1,35 +1,40 @@
 -- Demand 1: a fault gets one of the paper's numbers, and a place in its own table. Assumes nothing.
-use Prim.Native.Nat.{ℕ, suc, _+_, _≤_}
-use native.Mathlib.Omega.{arith}
-use mathlib.Core.Path.{_≡_, refl, sym, subst}
 use mathlib.Core.Bool.{Bool, true, false, not}
+use mathlib.Core.Path.{_≡_, refl, subst, sym}
 use mathlib.Core.List.{List, [], _∷_}
 use mathlib.Core.Logic.{_⊎_, inl, inr, ⊎-elim}
+use Prim.Native.Nat.{ℕ, _≤_, suc, _+_}
+use native.Mathlib.Omega.{arith}
 use lib.ListN.{length, getD, take}
 use lib.Dec.{eqb, ltb}
 use Rattle.words.specs.Words.{Bytes, Row}
-use Rattle.refusals.specs.Verdicts.{_⊳_, _when_, _before_, placed, place, inText, inHeader, textTooLong, tooManyRows, columnTwice, columnMissing, tooManyCells, cellCount, cellFault, endsEarly, keyStands, noRow}
-use Rattle.refusals.specs.declared.Place.{Place}
 use Rattle.refusals.specs.declared.Check.{Check}
 use Rattle.refusals.specs.declared.Check.the-variants.{Passes, Fails}
+use Rattle.refusals.specs.Verdicts.{_when_, _⊳_, placed, place, tooManyRows, columnTwice, columnMissing, tooManyCells, cellCount, cellFault, endsEarly, keyStands, noRow, _before_, inText, inHeader, textTooLong}
+use Rattle.refusals.specs.declared.Place.{Place}
+use Rattle.refusals.specs.declared.Verdict.the-variants.{Refused, Accepted}
 use Rattle.refusals.specs.declared.Verdict.{Verdict}
-use Rattle.refusals.specs.declared.Verdict.the-variants.{Accepted, Refused}
-use Rattle.text.specs.Lines.{lines, headLine, slipLines, overlong}
-use Rattle.text.specs.Fields.{fields}
-use Rattle.text.specs.Cells.{Cut, cut, faultyCell, cellsOf}
-use Rattle.tables.specs.Columns.{Column, columnsOf, number, references, breaks}
+use Rattle.lines.specs.Lines.{lines, headLine, overlong, slipLines}
+use Rattle.cells.specs.Cells.{Cut, cut, faultyCell, cellsOf}
+use Rattle.fields.specs.Fields.{fields}
+use Rattle.tables.specs.Columns.{Column, columnsOf, references, number}
 use Rattle.tables.specs.declared.Table.{Table}
-use Rattle.tables.specs.declared.Table.the-variants.{VehicleType, Depot, Stop, StopPoint, Block}
 use Rattle.tables.specs.declared.Reference.{Reference}
-use Rattle.book.specs.Book.{Book, empty, knows, full}
-use Rattle.book.specs.Rules.{timeFault, named, unknown, unknownOf, ruled}
-use Rattle.reading.specs.Header.{Header, header, repeated, missing, badCut, cutCheck, headerCheck, contents}
-use Rattle.reading.specs.Reading.{refused, badCell, judged, rowRead, headerOf, tableRead}
-use Rattle.slips.specs.Slips.{numbers, wish, badField, missingBlock, lineJudged, rowIn, slipCheck, slipLeaves}
-use Rattle.slips.specs.declared.Wish.{Wish}
-use Rattle.slips.specs.declared.Wish.the-variants.{Add, Replace, Delete, Unknown}
-use Rattle.promises.specs.Promises.{onward, textOf, FirstFault, FaultyTable, in-types, in-depots, in-stops, in-points, in-blocks, ReadingNumbered, SlipNumbered}
-use Rattle.promises.proofs.ExactPromises.{refused-at-first, slip-refused-at-first, delivery-refused}
+use Rattle.tables.specs.declared.Table.the-variants.{Block, VehicleType, Depot, Stop, StopPoint}
+use Rattle.values.specs.Values.{breaks, badCell}
+use Rattle.book.specs.Book.{Book, knows, full, empty}
+use Rattle.book.specs.Result.{refused}
+use Rattle.rules.specs.Rules.{timeFault, named, unknown, unknownOf, ruled}
+use Rattle.header.specs.Header.{Header, header, repeated, missing, badCut, cutCheck, headerCheck, contents, headerOf}
+use Rattle.row_line.specs.RowLine.{rowRead}
+use Rattle.table_lines.specs.Reading.{judged}
+use Rattle.table_reading.specs.Reading.{tableRead}
+use Rattle.slip_line.specs.SlipLine.{badField, numbers, wish, rowIn}
+use Rattle.slip_line.specs.declared.Wish.{Wish}
+use Rattle.slip_line.specs.declared.Wish.the-variants.{Add, Replace, Delete, Unknown}
+use Rattle.block_change.specs.Change.{missingBlock, lineJudged, slipCheck, slipLeaves}
+use Rattle.promises.specs.Promises.{textOf, FaultyTable, in-types, in-depots, in-stops, in-points, in-blocks, ReadingNumbered, onward, FirstFault, SlipNumbered}
+use Rattle.promises.proofs.ExactPromises.{refused-at-first, delivery-refused, slip-refused-at-first}
 
 -- if the check fails, its number is one from 1 to `top`
 unfoldable Numbered : ℕ → Check → Type 0
@@ -54,7 +59,6 @@ numbered-place top table line (Fails n k) p h e =
     subst (λ (z : Place). (1 ≤ z .number) × (z .number ≤ top) × (z .table ≡ table)) q (h .0, h .1, refl)
 
 -- the checks of rows and of slip lines -------------------------------------------------------------------------------------
-
 module _ (top : ℕ) (enough : 11 ≤ top) where
   numbered-cells : (k : ℕ) (xs : List Column) (ss : List Bytes) → Numbered top (badCell k xs ss)
   unfolding badCell Numbered
@@ -117,7 +121,6 @@ numbered-line Delete fs row b =
     numbered-chain 13 (badField fs) (missingBlock row b) (numbered-cells 13 (omega arith) 1 (columnsOf Block) fs) (numbered-when 13 13 0 (not (knows Block row b)) (omega arith) (omega arith))
 
 -- the tables ---------------------------------------------------------------------------------------------------------------
-
 one-of : (v w : Verdict) (p : Place) → (v before w) ≡ Refused p → (v ≡ Refused p) ⊎ (w ≡ Refused p)
 one-of Accepted w p h = inr h
 one-of (Refused q) w p h = inl h

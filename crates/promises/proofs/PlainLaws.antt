@@ -1,44 +1,45 @@
 -- A table in its plainest form: the required columns alone, numbers with no leading zeros. A row in that form is read as itself, and meets
 -- only 5, 11, 9 and 10. Of the blocks it is the writer's form. Assumes nothing.
-use Prim.Native.Nat.{ℕ, zero, suc, _+_, _^_, _≤_, _<_}
+use mathlib.Core.List.{List, [], _∷_, map, _++_}
+use mathlib.Core.Path.{_≡_, refl, sym, subst, _∙_, ap}
+use mathlib.Core.Bool.{true, Bool, false, not}
+use Prim.Native.Nat.{ℕ, zero, suc, _^_, _<_, _+_, _≤_}
 use native.Mathlib.Omega.{arith}
-use mathlib.Core.Path.{_≡_, refl, ap, sym, subst, _∙_}
-use mathlib.Core.Bool.{Bool, true, false, not}
-use mathlib.Core.List.{List, [], _∷_, _++_, map}
-use lib.ListN.{length, take, drop, length-append, length-map}
-use lib.Seq.{take-at, length-take-le}
-use lib.Dec.{leb, eqb, lit<}
-use borrow.Author.Tests.{leb-true, eq-eqb, not-false}
-use Rattle.words.specs.Words.{Bytes, Row, if_then_else_}
-use Rattle.refusals.specs.Verdicts.{_⊳_, _when_, tooManyRows, cellFault}
+use lib.ListN.{take, length, drop, length-map, length-append}
+use lib.Dec.{lit<, leb, eqb}
+use lib.Seq.{length-take-le, take-at}
+use borrow.Author.Tests.{leb-true, not-false, eq-eqb}
+use Rattle.words.specs.Words.{if_then_else_, Bytes, Row}
+use Rattle.words.proofs.Lists.{and-left, and-right}
 use Rattle.refusals.specs.declared.Check.the-variants.{Passes}
-use Rattle.text.specs.Numbers.{value, decimal, isDecimal}
-use Rattle.text.specs.Cells.{cut, cells, content, cellsOf}
-use Rattle.text.specs.Fields.{parted}
-use Rattle.text.proofs.Writing.{read-back, decimal-digits, digits-content, decimal-width}
-use Rattle.tables.specs.Columns.{Column, columnsOf, keptWidth, inRange, fits, breaks}
+use Rattle.refusals.specs.Verdicts.{_when_, cellFault, _⊳_, tooManyRows}
+use Rattle.cells.specs.Cells.{parted, content, cut, cells, cellsOf}
+use Rattle.numbers.specs.Numbers.{decimal, value, isDecimal}
+use Rattle.numbers.proofs.Writing.{decimal-digits, read-back, decimal-width}
+use Rattle.rows.specs.Rows.{wide}
+use Rattle.tables.specs.Columns.{Column, columnsOf, keptWidth, inRange}
 use Rattle.tables.specs.declared.Table.{Table}
 use Rattle.tables.specs.declared.Table.the-variants.{VehicleType, Depot, Stop, StopPoint, Block}
+use Rattle.tables.specs.declared.Sort.the-variants.{Decimal}
 use Rattle.tables.specs.declared.Rules.{Rules}
 use Rattle.tables.specs.declared.Sort.{Sort}
-use Rattle.tables.specs.declared.Sort.the-variants.{Decimal}
-use Rattle.tables.proofs.Figures.{kept-columns, kept-few, keys-some, keys-kept}
-use Rattle.rows.specs.Rows.{wide}
+use Rattle.tables.proofs.Figures.{kept-few, keys-some, keys-kept, kept-columns}
+use Rattle.values.specs.Values.{badCell, fits, breaks}
 use Rattle.book.specs.Book.{Book, full}
-use Rattle.book.specs.Rules.{ruled}
-use Rattle.book.specs.Keeping.{ranged}
-use Rattle.reading.specs.Header.{Header, header, headerCheck, contents, contentsFrom, under}
-use Rattle.reading.specs.Reading.{badCell, judged, rowRead}
+use Rattle.rules.specs.Rules.{ruled}
+use Rattle.keeping.specs.Keeping.{ranged}
+use Rattle.header.specs.Header.{Header, contents, contentsFrom, under, headerCheck, header}
+use Rattle.row_line.specs.RowLine.{rowRead}
+use Rattle.table_lines.specs.Reading.{judged}
 use Rattle.writer.specs.Writing.{linesWritten, namesLine, rowLine}
 use Rattle.promises.specs.Run.{computed}
-use Rattle.words.proofs.Lists.{and-left, and-right}
+use Rattle.promises.proofs.NumberLaws.{cell-good, digits-plain, digits-unbroken}
 use Rattle.promises.proofs.TestLaws.{both, unfailed}
 use Rattle.promises.proofs.CutLaws.{EachPlain, AllPlain, cut-parted}
+use Rattle.promises.proofs.Writing.{digits-content}
 use Rattle.promises.proofs.LineLaws.{Unbroken, EachUnbroken, unbroken-append, unbrokenTest, tested}
-use Rattle.promises.proofs.NumberLaws.{digits-plain, digits-unbroken, cell-good}
 
 -- the form ----------------------------------------------------------------------------------------------------------------
-
 unfoldable pub requiredOf : List Column → List Column
 requiredOf [] = []
 requiredOf (x ∷ xs) = if x .rules .required then x ∷ requiredOf xs else requiredOf xs
@@ -71,7 +72,6 @@ abbrev pub plainText : Table → List Row → Bytes
 plainText t ys = linesWritten (plainNames t ∷ map (plainLine t) ys)
 
 -- eleven numbers ----------------------------------------------------------------------------------------------------------
-
 pub data Eleven : Row → Type 0 where
   eleven : (a b c d e f g h i j k : ℕ) → Eleven (a ∷ b ∷ c ∷ d ∷ e ∷ f ∷ g ∷ h ∷ i ∷ j ∷ k ∷ [])
 
@@ -102,7 +102,6 @@ pub plain-line-block : (row : Row) → Eleven row → plainLine Block row ≡ ro
 plain-line-block row (eleven a b c d e f g h i j k) = refl
 
 -- the columns that the book keeps ----------------------------------------------------------------------------------------
-
 -- the first n columns are d columns, required, each of whose range is within its width
 unfoldable pub Numeric : ℕ → List Column → Type 0
 Numeric zero xs = Unit {0}
@@ -175,7 +174,6 @@ cells-ranged (suc n) k (x ∷ xs) (s ∷ ss) a h =
     rw (no-fault (x .rules) s (eqb (length s) 0) (a .0 .1) (a .0 .2) (unfailed 8 k (breaks (x .rules) s) (t .0)), cells-ranged n (suc k) xs ss (a .1) (t .1))
 
 -- a row in the plain form ------------------------------------------------------------------------------------------------
-
 plain-decimals : (row : Row) (rest : List Bytes) → EachPlain rest → EachPlain (map decimal row ++ rest)
 unfolding EachPlain
 plain-decimals [] rest h = h
@@ -260,7 +258,6 @@ row-judged t row b e s r =
     rw (cut-plain t row e, cut-counted t row e, eq-eqb (length (plainHeader t)) (length (plainHeader t)) refl, contents-plain t row e, good, kept-values t row e, ← s)
 
 -- no line end in what is written ------------------------------------------------------------------------------------------
-
 unbroken-parted : (cs : List Bytes) → EachUnbroken cs → Unbroken (parted 59 cs)
 unfolding parted Unbroken EachUnbroken
 unbroken-parted [] h = tt
@@ -301,7 +298,6 @@ unfolding EachUnbroken
 unbroken-plain t ys = (tested (plainNames t) (names-tested t), unbroken-rows t ys)
 
 -- the names ---------------------------------------------------------------------------------------------------------------
-
 pub names-good : (t : Table) → headerCheck t (plainNames t) ≡ Passes
 unfolding computed requiredOf
 names-good VehicleType = refl
@@ -319,7 +315,6 @@ names-read StopPoint = refl
 names-read Block = refl
 
 -- the size of what is written ---------------------------------------------------------------------------------------------
-
 -- the room that the first n columns take, with a byte behind each
 unfoldable room : ℕ → List Column → ℕ
 room zero xs = 0

@@ -1,36 +1,41 @@
 -- Demand 2: the book of an accepted delivery holds exactly the rows of its texts, and what is written is never too long. Assumes nothing.
-use Prim.Native.Nat.{ℕ, zero, suc, _+_, _≤_, _<_}
-use native.Mathlib.Omega.{arith}
-use mathlib.Core.Path.{_≡_, refl, ap, sym, subst, _∙_}
-use mathlib.Core.Bool.{Bool, true, false, _||_, not}
+use mathlib.Core.Path.{_≡_, refl, sym, _∙_, ap, subst}
+use mathlib.Core.Bool.{true, false, Bool, _||_, not}
 use mathlib.Core.List.{List, [], _∷_, map}
+use Prim.Native.Nat.{ℕ, _+_, suc, _≤_, zero, _<_}
+use native.Mathlib.Omega.{arith}
 use lib.ListN.{length, getD}
-use Rattle.words.specs.Words.{Bytes, Row, if_then_else_, same}
-use Rattle.words.proofs.Lists.{same-refl, same-true}
-use Rattle.refusals.specs.Verdicts.{_when_, placed, place, nowhere, notThere}
+use Rattle.words.specs.Words.{Row, if_then_else_, Bytes, same}
+use Rattle.words.proofs.Lists.{same-true, same-refl}
+use Rattle.refusals.specs.Verdicts.{placed, place, _when_, nowhere, notThere}
 use Rattle.refusals.specs.declared.Check.{Check}
 use Rattle.refusals.specs.declared.Check.the-variants.{Passes, Fails}
-use Rattle.tables.specs.Columns.{number, keyWidth}
-use Rattle.tables.specs.declared.Table.{Table}
-use Rattle.tables.specs.declared.Table.the-variants.{VehicleType, Block}
-use Rattle.rows.specs.Rows.{keyOrder, sameKey, stands, found, inserted, rising}
+use Rattle.rows.specs.Rows.{keyOrder, stands, inserted, found, sameKey}
 use Rattle.rows.specs.declared.Order.{Order}
 use Rattle.rows.specs.declared.Order.the-variants.{Less, Same, More}
-use Rattle.book.specs.Book.{Book, rows, entered}
-use Rattle.book.specs.Questions.{seconds, secondsOf, countOf, seven, total}
-use Rattle.book.specs.Calls.{typeAnswered, blockAnswered}
-use Rattle.book.specs.declared.TypeAnswer.{TypeAnswer}
-use Rattle.reading.specs.Header.{Header}
-use Rattle.reading.specs.Reading.{leaves, refused, unless, judged, rowRead, rowsRead, headerOf, topFaults, tableRead, Delivery, reading}
-use Rattle.promises.specs.Promises.{copies, rowLinesOf, rowsOf, textOf, RowsExactly, KeysExactly, TotalsExactly, TypesAnswered, BlocksAnswered, WrittenFits}
-use Rattle.promises.proofs.TestLaws.{going-on}
-use Rattle.rows.proofs.Keys.{order-refl, less-more}
-use Rattle.rows.proofs.Rising.{Above, Rising}
 use Rattle.rows.proofs.Changes.{stands-key, found-key, stands-inserted, found-inserted, other-stands-inserted, other-found-inserted, length-inserted}
+use Rattle.rows.proofs.Rising.{Above, Rising}
+use Rattle.rows.proofs.Keys.{order-refl, less-more}
+use Rattle.tables.specs.Columns.{keyWidth, number}
+use Rattle.tables.specs.declared.Table.{Table}
+use Rattle.tables.specs.declared.Table.the-variants.{Block, VehicleType}
+use Rattle.book.specs.Book.{Book, rows, entered}
+use Rattle.book.specs.Result.{leaves, refused, unless}
 use Rattle.book.proofs.Laying.{rows-with}
-use Rattle.promises.proofs.HeldLaws.{Held, Taken, judged-taken, plain-short}
+use Rattle.rules.specs.Rules.{seconds}
+use Rattle.questions.specs.Questions.{total, secondsOf, countOf, seven}
+use Rattle.questions.specs.Calls.{typeAnswered, blockAnswered}
+use Rattle.questions.specs.declared.TypeAnswer.{TypeAnswer}
+use Rattle.header.specs.Header.{Header, headerOf, topFaults}
+use Rattle.row_line.specs.RowLine.{rowRead}
+use Rattle.table_lines.specs.Reading.{judged, rowsRead}
+use Rattle.table_reading.specs.Reading.{tableRead}
+use Rattle.delivery.specs.Delivery.{Delivery, reading}
+use Rattle.promises.specs.Promises.{copies, rowLinesOf, rowsOf, textOf, RowsExactly, KeysExactly, TotalsExactly, TypesAnswered, BlocksAnswered, WrittenFits}
+use Rattle.promises.proofs.HeldLaws.{Taken, judged-taken, Held, plain-short}
+use Rattle.promises.proofs.TestLaws.{going-on}
+use Rattle.promises.proofs.DeliveryLaws.{ReadTo, left-by, Accepted, written-plain}
 use Rattle.promises.proofs.RuleLaws.{type-asked, block-asked}
-use Rattle.promises.proofs.DeliveryLaws.{ReadTo, Accepted, left-by, written-plain}
 
 -- a row that is entered is one more
 copies-fresh : (k : ℕ) (r row : Row) (xs : List Row) → stands k row xs ≡ false → copies r (inserted k row xs) ≡ copies r (row ∷ xs)
@@ -207,7 +212,6 @@ written-fits b l =
     subst (λ (s : Bytes). length s ≤ 65536) (written-plain b (b .blocks) h) (plain-short Block b (b .blocks) h)
 
 -- a row that stands is found by its key ----------------------------------------------------------------------------------
-
 above-copy : (k : ℕ) (x row : Row) (xs : List Row) → Above k x xs → 1 ≤ copies row xs → keyOrder k x row ≡ Less
 unfolding Above copies
 above-copy k x row [] a h = absurd (omega arith)

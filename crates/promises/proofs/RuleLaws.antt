@@ -1,42 +1,42 @@
 -- The test of the book rule, and the book as it is laid out in its slice. Assumes nothing.
-use Prim.Native.Nat.{ℕ, _≤_}
-use native.Mathlib.Omega.{arith}
-use mathlib.Core.Path.{_≡_, refl, ap, sym, subst, _∙_}
-use mathlib.Core.Bool.{Bool, true, not, _&&_}
+use mathlib.Core.Path.{_≡_, refl, subst, sym, ap, _∙_}
+use mathlib.Core.Bool.{true, not, _&&_, Bool}
 use mathlib.Core.List.{List, [], _∷_}
+use Prim.Native.Nat.{_≤_, ℕ}
+use native.Mathlib.Omega.{arith}
 use lib.ListN.{length, take, getD}
-use lib.Seq.{getD-take}
 use lib.Dec.{leb, eqb}
-use borrow.Author.Tests.{leb-true, le-leb, eq-eqb, not-true}
-use Rattle.words.specs.Words.{Row, same}
+use lib.Seq.{getD-take}
+use borrow.Author.Tests.{leb-true, le-leb, not-true, eq-eqb}
+use Rattle.words.specs.Words.{Row, same, all}
 use Rattle.words.proofs.Lists.{same-refl, same-true, and-left, and-right}
-use Rattle.refusals.specs.Verdicts.{_when_, _before_, passes, nowhere, notThere, badLoan}
-use Rattle.tables.specs.Columns.{Column, columnsOf, columnAt, noColumn, keyWidth, keptWidth, inRange}
-use Rattle.tables.specs.declared.Rules.{Rules}
-use Rattle.tables.specs.declared.Table.{Table}
-use Rattle.tables.specs.declared.Table.the-variants.{VehicleType, Depot, Stop, StopPoint, Block}
-use Rattle.rows.specs.Rows.{wide, column, rising, stands, found}
+use Rattle.refusals.specs.Verdicts.{passes, _when_, _before_, nowhere, notThere, badLoan}
+use Rattle.rows.specs.Rows.{wide, rising, column, stands, found}
 use Rattle.rows.specs.Room.{sameRows}
-use Rattle.book.specs.Book.{Book, rows, knows}
-use Rattle.book.specs.Questions.{secondsOf, countOf, seven}
-use Rattle.book.specs.Calls.{typeAnswered, typeCall, blockAnswered, blockCall}
-use Rattle.book.specs.declared.TypeAnswer.{TypeAnswer}
-use Rattle.book.specs.declared.BlockAnswer.{BlockAnswer}
-use Rattle.book.specs.Rules.{timeFault, unknown}
-use Rattle.book.specs.Room.{laid, bookOf}
-use Rattle.book.specs.Keeping.{ranged, all, lawful, lawfulTable, lawfulBook, keepsRule}
-use Rattle.tables.proofs.Figures.{kept-columns, keys-some, keys-kept, version-low}
-use Rattle.book.proofs.Laying.{Orderly, book-laid, sound-laid}
-use Rattle.book.proofs.Referring.{passed}
-use Rattle.book.proofs.Keeping.{tables-lawful}
-use Rattle.promises.proofs.TestLaws.{and-both, and-three, and-four}
 use Rattle.rows.proofs.Room.{Versioned, sameRows-refl}
-use Rattle.promises.proofs.PlainLaws.{Eleven, kept-long}
+use Rattle.tables.specs.Columns.{columnsOf, keyWidth, keptWidth, Column, noColumn, inRange, columnAt}
+use Rattle.tables.specs.Parts.{room}
+use Rattle.tables.specs.declared.Table.{Table}
+use Rattle.tables.specs.declared.Rules.{Rules}
+use Rattle.tables.specs.declared.Table.the-variants.{VehicleType, Block}
+use Rattle.tables.proofs.Figures.{kept-columns, keys-some, keys-kept, version-low}
+use Rattle.book.specs.Book.{Book, rows, knows}
+use Rattle.book.specs.Room.{laid, bookOf}
+use Rattle.book.proofs.Laying.{Orderly, book-laid, sound-laid}
+use Rattle.rules.specs.Rules.{timeFault, unknown}
+use Rattle.rules.proofs.Referring.{passed}
+use Rattle.keeping.specs.Keeping.{ranged, lawful, lawfulTable, lawfulBook, keepsRule}
+use Rattle.keeping.proofs.Keeping.{tables-lawful, lawful-tables}
+use Rattle.questions.specs.Questions.{secondsOf, countOf, seven}
+use Rattle.questions.specs.Calls.{typeAnswered, typeCall, blockAnswered, blockCall}
+use Rattle.questions.specs.declared.TypeAnswer.{TypeAnswer}
+use Rattle.questions.specs.declared.BlockAnswer.{BlockAnswer}
+use Rattle.promises.proofs.TestLaws.{and-both, and-three, and-four}
 use Rattle.promises.proofs.HeldLaws.{Good, EachGood, Held, good-eleven}
 use Rattle.promises.proofs.DeliveryLaws.{Standing}
+use Rattle.promises.proofs.PlainLaws.{Eleven, kept-long}
 
 -- lawful rows stand by right ---------------------------------------------------------------------------------------------
-
 module _ (t : Table) (b : Book) where
   lawful-good : (row : Row) → lawful t b row ≡ true → Good t b row
   lawful-good row h =
@@ -66,23 +66,19 @@ module _ (t : Table) (b : Book) where
   table-held : lawfulTable t b ≡ true → Held t b (rows t b)
   table-held h =
       let xs = rows t b in
-      let k = and-three (leb (length xs) 512) (rising (keyWidth t) xs) (all (lawful t b) xs) h in
-      record { rising = k .1; good = all-good xs (k .2); size = leb-true (length xs) 512 (k .0) }
+      let k = and-three (leb (length xs) (room t)) (rising (keyWidth t) xs) (all (lawful t b) xs) h in
+      record { rising = k .1; good = all-good xs (k .2); size = leb-true (length xs) (room t) (k .0) }
 
   held-table : Held t b (rows t b) → lawfulTable t b ≡ true
-  held-table h = rw (le-leb (length (rows t b)) 512 (h .size), h .rising, good-all (rows t b) (h .good))
+  held-table h = rw (le-leb (length (rows t b)) (room t) (h .size), h .rising, good-all (rows t b) (h .good))
 
 pub lawful-standing : (b : Book) → lawfulBook b ≡ true → Standing b
 lawful-standing b h t = table-held t b (tables-lawful b h t)
 
 pub standing-lawful : (b : Book) → Standing b → lawfulBook b ≡ true
-standing-lawful b h = rw (lawful-all VehicleType, lawful-all Depot, lawful-all Stop, lawful-all StopPoint, lawful-all Block)
-  where
-    lawful-all : (t : Table) → lawfulTable t b ≡ true
-    lawful-all t = held-table t b (h t)
+standing-lawful b h = lawful-tables b (λ t. held-table t b (h t))
 
 -- the slice --------------------------------------------------------------------------------------------------------------
-
 -- VERSION is at least 1
 first-inside : (xs : List Column) (ns : Row) → 1 ≤ length xs → 1 ≤ length ns → ranged xs ns ≡ true → inRange (getD xs 0 noColumn .rules) (getD ns 0 0) ≡ true
 unfolding ranged
@@ -116,7 +112,6 @@ laid-keeps b h =
     (subst (λ (z : Book). sameRows (laid b) (laid z) ≡ true) (sym (book-laid b o)) (sameRows-refl (laid b)))
 
 -- the questions on a book that keeps the rule ------------------------------------------------------------------------------
-
 pub type-asked : (b : Book) → Standing b → (version type : ℕ) →
     typeCall (laid b) version type
     ≡ typeAnswered (nowhere (notThere when not (stands 2 (version ∷ type ∷ []) (b .types)))) (secondsOf version type (b .blocks)) (countOf version type (b .blocks))

@@ -9,11 +9,11 @@ use Rattle.rows.specs.Room.{sameRows}
 use Rattle.rows.proofs.Room.{sameRows-true}
 use Rattle.book.specs.Book.{Book}
 use Rattle.book.specs.Room.{laid, bookOf}
-use Rattle.book.specs.Keeping.{lawfulBook, keepsRule}
-use Rattle.reading.specs.Reading.{Left}
+use Rattle.keeping.specs.Keeping.{lawfulBook, keepsRule}
+use Rattle.delivery.specs.Delivery.{Left}
 use Rattle.promises.specs.Promises.{RuleTested}
-use Rattle.promises.proofs.TestLaws.{and-three}
 use Rattle.promises.proofs.DeliveryLaws.{Standing, left-by, plainDelivery, plain-read}
+use Rattle.promises.proofs.TestLaws.{and-three}
 use Rattle.promises.proofs.RuleLaws.{lawful-standing, laid-keeps}
 
 pub left-standing : (b : Book) → Left b → Standing b

@@ -1,39 +1,41 @@
 -- What a slip's lines leave: blocks that stand by right, on the same other tables. Assumes nothing.
+use mathlib.Core.Path.{_≡_, refl, _∙_, ap, sym, subst}
+use mathlib.Core.List.{List, [], _∷_, map}
+use mathlib.Core.Bool.{Bool, true, false}
 use Prim.Native.Nat.{ℕ, suc}
 use native.Mathlib.Omega.{arith}
-use mathlib.Core.Path.{_≡_, refl, ap, sym, subst, _∙_}
-use mathlib.Core.Bool.{Bool, true, false}
-use mathlib.Core.List.{List, [], _∷_, map}
+use lib.Dec.{eqb}
 use lib.ListN.{length, take, length-map}
 use lib.Seq.{take-all}
-use lib.Dec.{eqb}
-use borrow.Author.Tests.{leb-false, eqb-true}
-use Rattle.words.specs.Words.{Bytes, Row}
-use Rattle.refusals.specs.Verdicts.{_⊳_, _when_, placed, place, inText, textTooLong, tooManyRows, endsEarly, keyStands}
-use Rattle.refusals.specs.declared.Check.{Check}
+use borrow.Author.Tests.{eqb-true, leb-false}
+use Rattle.words.specs.Words.{Row, Bytes}
 use Rattle.refusals.specs.declared.Check.the-variants.{Passes, Fails}
-use Rattle.text.specs.Numbers.{value}
-use Rattle.text.specs.Lines.{slipLines, overlong}
-use Rattle.text.specs.Fields.{fields}
-use Rattle.tables.specs.Columns.{columnsOf}
-use Rattle.tables.specs.declared.Table.the-variants.{Block}
-use Rattle.rows.specs.Rows.{wide, keyOrder, replaced, removed}
+use Rattle.refusals.specs.Verdicts.{_⊳_, _when_, tooManyRows, endsEarly, keyStands, placed, place, inText, textTooLong}
+use Rattle.refusals.specs.declared.Check.{Check}
+use Rattle.lines.specs.Lines.{slipLines, overlong}
+use Rattle.numbers.specs.Numbers.{value}
+use Rattle.fields.specs.Fields.{fields}
+use Rattle.rows.specs.Rows.{keyOrder, replaced, removed, wide}
 use Rattle.rows.specs.declared.Order.{Order}
 use Rattle.rows.specs.declared.Order.the-variants.{Less, Same, More}
+use Rattle.rows.proofs.Rising.{rising-removed, rising-replaced}
+use Rattle.rows.proofs.Changes.{length-removed-most, length-replaced}
+use Rattle.tables.specs.declared.Table.the-variants.{Block}
+use Rattle.tables.specs.Columns.{columnsOf}
 use Rattle.book.specs.Book.{Book, with-rows, full, knows}
-use Rattle.book.specs.Rules.{timeFault, unknown, ruled}
-use Rattle.book.specs.Keeping.{ranged}
-use Rattle.reading.specs.Reading.{Result, leaves, refused, unless}
-use Rattle.slips.specs.Slips.{numbers, letter, counted, wish, badField, missingBlock, lineJudged, granted, slipCheck, slipLeaves, linesPosted, posting, kept, posted}
-use Rattle.slips.specs.declared.Wish.{Wish}
-use Rattle.slips.specs.declared.Wish.the-variants.{Add, Replace, Delete, Unknown}
+use Rattle.book.specs.Result.{leaves, refused, unless, Result}
+use Rattle.rules.specs.Rules.{timeFault, unknown, ruled}
+use Rattle.rules.proofs.Referring.{unknown-with}
+use Rattle.keeping.specs.Keeping.{ranged}
+use Rattle.slip_line.specs.declared.Wish.{Wish}
+use Rattle.slip_line.specs.declared.Wish.the-variants.{Add, Replace, Delete, Unknown}
+use Rattle.slip_line.specs.SlipLine.{counted, numbers, letter, wish, badField}
+use Rattle.block_change.specs.Change.{missingBlock, lineJudged, granted, slipCheck, slipLeaves}
+use Rattle.slips.specs.Slips.{linesPosted, posting, kept, posted}
 use Rattle.promises.specs.Promises.{run}
-use Rattle.promises.proofs.TestLaws.{both, unfailed, going-on}
-use Rattle.rows.proofs.Rising.{rising-replaced, rising-removed}
-use Rattle.rows.proofs.Changes.{length-replaced, length-removed-most}
+use Rattle.promises.proofs.HeldLaws.{Good, EachGood, Held, held-insert, held-moved}
 use Rattle.promises.proofs.PlainLaws.{Eleven, eleven, eleven-long, kept-numeric, cells-ranged}
-use Rattle.book.proofs.Referring.{unknown-with}
-use Rattle.promises.proofs.HeldLaws.{Good, EachGood, Held, held-moved, held-insert}
+use Rattle.promises.proofs.TestLaws.{both, unfailed, going-on}
 
 module _ (b : Book) (row : Row) where
   good-replaced : (xs : List Row) → Good Block b row → EachGood Block b xs → EachGood Block b (replaced 4 row xs)
@@ -61,7 +63,6 @@ held-removed b row xs h =
     record { rising = rising-removed 4 row xs (h .rising); good = good-removed b row xs (h .good); size = omega (arith, length-removed-most 4 row xs, h .size) }
 
 -- eleven fields ------------------------------------------------------------------------------------------------------------
-
 -- a wish to add or to replace
 unfoldable pub elevenWished : Wish → Bool
 elevenWished Add = true
@@ -105,7 +106,6 @@ fielded fs n g =
     record { numbers = e; shape = eleven-wide (map value fs) e; inside = rw all (rw whole at r) }
 
 -- a line ---------------------------------------------------------------------------------------------------------------------
-
 -- what a line leaves of a book: other blocks at most
 pub record Kept (x c : Book) : Type 0 where
   pub apart : c ≡ with-rows Block (c .blocks) x
@@ -167,7 +167,6 @@ kept-line x b l p k =
     }
 
 -- a slip, and a run of slips -------------------------------------------------------------------------------------------------
-
 kept-lines : (x : Book) (i : ℕ) (ls : List Bytes) (b c : Book) → Kept x b → linesPosted i ls b ≡ leaves c → Kept x c
 unfolding linesPosted
 kept-lines x i [] b c k e = let f : b ≡ c = cc in subst (λ (z : Book). Kept x z) f k

@@ -1,44 +1,48 @@
 -- Demand 3: after any run of slips the book is the one read afresh, a slip line is refused exactly where a reading would refuse its row, and
 -- what no accepted slip touches keeps its answers. Assumes nothing.
-use Prim.Native.Nat.{ℕ, suc, _+_, _<_}
-use native.Mathlib.Omega.{arith}
-use mathlib.Core.Path.{_≡_, refl, ap, sym, subst, _∙_}
+use mathlib.Core.Path.{refl, ap, sym, _∙_, _≡_, subst}
+use mathlib.Core.List.{[], _∷_, List, _++_, map}
 use mathlib.Core.Bool.{Bool, true, false, _&&_, not}
-use mathlib.Core.List.{List, [], _∷_, _++_, map}
+use Prim.Native.Nat.{_+_, ℕ, _<_, suc}
+use native.Mathlib.Omega.{arith}
 use lib.ListN.{length}
 use borrow.Author.Tests.{lt-leb}
 use Rattle.words.specs.Words.{Bytes, Row}
-use Rattle.refusals.specs.Verdicts.{_⊳_, _when_, passes, place, placed, nowhere, notThere, inText, textTooLong, tooManyRows, endsEarly, noBlock}
+use Rattle.words.proofs.Lists.{and-left, and-right}
+use Rattle.refusals.specs.Verdicts.{_⊳_, _when_, placed, tooManyRows, passes, endsEarly, noBlock, place, inText, textTooLong, nowhere, notThere}
 use Rattle.refusals.specs.declared.Check.{Check}
 use Rattle.refusals.specs.declared.Check.the-variants.{Passes, Fails}
 use Rattle.refusals.specs.declared.Place.{Place}
-use Rattle.text.specs.Numbers.{value}
-use Rattle.text.specs.Lines.{slipLines, overlong}
-use Rattle.text.specs.Fields.{fields}
-use Rattle.tables.specs.declared.Table.the-variants.{Block}
-use Rattle.rows.specs.Rows.{keyOrder, sameKey, stands, found, inserted, replaced, removed}
+use Rattle.lines.specs.Lines.{slipLines, overlong}
+use Rattle.numbers.specs.Numbers.{value}
+use Rattle.fields.specs.Fields.{fields}
+use Rattle.rows.specs.Rows.{stands, removed, sameKey, found, keyOrder, inserted, replaced}
 use Rattle.rows.specs.declared.Order.{Order}
 use Rattle.rows.specs.declared.Order.the-variants.{Less, Same, More}
+use Rattle.rows.proofs.Changes.{stands-removed, length-removed, stands-replaced, other-stands-inserted, other-stands-removed, other-found-inserted, other-found-replaced, other-found-removed}
+use Rattle.tables.specs.declared.Table.the-variants.{Block}
 use Rattle.book.specs.Book.{Book, with-rows, entered, full}
-use Rattle.book.specs.Rules.{timeFault, unknown, unknownOf, ruled}
-use Rattle.book.specs.Questions.{seconds, ofType, seven, total}
-use Rattle.book.specs.Calls.{typeAnswered, blockAnswered}
-use Rattle.reading.specs.Reading.{Result, leaves, refused, unless, _▹_, tableRead, Delivery, reading, Left}
-use Rattle.slips.specs.Slips.{numbers, wish, badField, lineJudged, granted, rowIn, slipCheck, slipLeaves, linesPosted, posting, kept, posted}
-use Rattle.slips.specs.declared.Wish.{Wish}
-use Rattle.slips.specs.declared.Wish.the-variants.{Add, Replace, Delete, Unknown}
-use Rattle.writer.specs.Writing.{linesWritten, written}
-use Rattle.promises.specs.Promises.{run, with-blocks, writtenWith, readThere, admissible, known, accepted, someLine, someSlip, names, changes, touches, RunReadsAfresh, RuleKept, RefusedExactly, RefusedAlike, BlocksKept, TypesKept, OtherTablesKept}
-use Rattle.words.proofs.Lists.{and-left, and-right}
-use Rattle.book.proofs.Referring.{passed}
-use Rattle.promises.proofs.TestLaws.{or-left, or-right, going-on}
-use Rattle.rows.proofs.Changes.{stands-removed, stands-replaced, length-removed, other-stands-inserted, other-stands-removed, other-found-inserted, other-found-replaced, other-found-removed}
+use Rattle.book.specs.Result.{Result, leaves, _▹_, unless, refused}
+use Rattle.rules.specs.Rules.{ruled, timeFault, unknown, unknownOf, seconds}
+use Rattle.rules.proofs.Referring.{passed}
+use Rattle.questions.specs.Questions.{ofType, total, seven}
+use Rattle.questions.specs.Calls.{blockAnswered, typeAnswered}
+use Rattle.table_reading.specs.Reading.{tableRead}
+use Rattle.delivery.specs.Delivery.{reading, Delivery, Left}
+use Rattle.slip_line.specs.SlipLine.{numbers, wish, badField, rowIn}
+use Rattle.slip_line.specs.declared.Wish.{Wish}
+use Rattle.slip_line.specs.declared.Wish.the-variants.{Add, Replace, Delete, Unknown}
+use Rattle.block_change.specs.Change.{lineJudged, slipCheck, slipLeaves, granted}
+use Rattle.slips.specs.Slips.{posted, linesPosted, posting, kept}
+use Rattle.writer.specs.Writing.{written, linesWritten}
+use Rattle.promises.specs.Promises.{run, RunReadsAfresh, with-blocks, RuleKept, writtenWith, accepted, readThere, admissible, known, RefusedExactly, RefusedAlike, someLine, someSlip, changes, OtherTablesKept, names, BlocksKept, touches, TypesKept}
+use Rattle.promises.proofs.DeliveryLaws.{Accepted, left-by, blocks-back, lines-plain}
+use Rattle.promises.proofs.SlipLaws.{Kept, kept-run, Fielded, fielded, elevenWished, wish-eleven, held-removed}
 use Rattle.promises.proofs.PlainLaws.{plainNames, plainLine, plain-names-block, plain-line-block, row-read, row-judged}
 use Rattle.promises.proofs.HeldLaws.{Held, table-more}
-use Rattle.promises.proofs.DeliveryLaws.{Accepted, left-by, lines-plain, blocks-back}
-use Rattle.promises.proofs.RuleLaws.{type-asked, block-asked}
+use Rattle.promises.proofs.TestLaws.{or-left, or-right, going-on}
+use Rattle.promises.proofs.RuleLaws.{block-asked, type-asked}
 use Rattle.promises.proofs.RulePromises.{left-standing}
-use Rattle.promises.proofs.SlipLaws.{Kept, Fielded, fielded, elevenWished, wish-eleven, held-removed, kept-run}
 
 pub run-reads-afresh : RunReadsAfresh
 unfolding reading
@@ -55,7 +59,6 @@ unfolding run
 rule-kept b s l = (with-blocks (written (posted s b)) (l .0), run-reads-afresh (l .0) b (s ∷ []) (l .1))
 
 -- refused exactly --------------------------------------------------------------------------------------------------------
-
 -- the row behind other blocks meets 5, and the rules of a row
 read-there : (d : Delivery) (b : Book) (ys : List Row) (row : Row) → reading d ≡ leaves b → Held Block b ys → Fielded row →
     reading (with-blocks (writtenWith row ys) d)
@@ -143,7 +146,6 @@ refused-alike d b line p e h f r =
     (slip ∙ q .0, q .1, q .2)
 
 -- what no accepted slip touches --------------------------------------------------------------------------------------------
-
 -- said once of anything about the blocks that a line keeps unless it does this
 module _ {X : Type 0} (f : List Row → X) (does : Bytes → Book → Bool)
     (keeps : (l : Bytes) (b : Book) → does l b ≡ false → f (slipLeaves l b .blocks) ≡ f (b .blocks)) where
@@ -230,7 +232,6 @@ run-left : (b : Book) (ss : List Bytes) → Left b → Left (run ss b)
 run-left b ss l = (with-blocks (written (run ss b)) (l .0), run-reads-afresh (l .0) b ss (l .1))
 
 -- the other tables ---------------------------------------------------------------------------------------------------------
-
 pub other-tables-kept : OtherTablesKept
 other-tables-kept b ss l =
     let c : Book = run ss b in

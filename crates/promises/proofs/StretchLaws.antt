@@ -1,27 +1,26 @@
 -- Where a cell stands in its text, and that the stretch of a text cell is the cell's own bytes. Assumes nothing.
-use Prim.Native.Nat.{ℕ, suc, _+_, _-_, _≤_}
-use native.Mathlib.Omega.{arith}
-use mathlib.Core.Path.{_≡_, refl, ap, sym, _∙_}
+use mathlib.Core.Path.{_≡_, ap, sym, _∙_, refl}
+use mathlib.Core.List.{_++_, [], _∷_, List, append-assoc}
 use mathlib.Core.Bool.{Bool, true, false}
-use mathlib.Core.List.{List, [], _∷_, _++_, append-assoc}
-use lib.ListN.{length, getD, take, drop, take-append-drop}
-use lib.Seq.{drop-drop, take-append-le, drop-append-add}
+use Prim.Native.Nat.{ℕ, suc, _-_, _+_, _≤_}
+use native.Mathlib.Omega.{arith}
+use lib.ListN.{getD, take, drop, take-append-drop, length}
+use lib.Seq.{drop-append-add, drop-drop, take-append-le}
 use lib.Dec.{eqb}
 use Rattle.words.specs.Words.{Bytes}
 use Rattle.words.proofs.Lists.{take-seam}
-use Rattle.text.specs.Lines.{lines, lineLength, lineStart}
-use Rattle.text.specs.Cells.{Cut, faulty, cells, cut, cellsOf, quoted}
-use Rattle.text.specs.Fields.{parted}
-use Rattle.text.proofs.Lining.{line-start}
-use Rattle.text.proofs.Cutting.{cells-parted}
-use Rattle.reading.specs.Header.{Header, under, offset}
+use Rattle.lines.specs.Lines.{lines, lineStart}
+use Rattle.lines.specs.Ends.{lineLength}
+use Rattle.lines.proofs.Lining.{line-start}
+use Rattle.cells.specs.Cells.{parted, Cut, faulty, cells, cut, cellsOf, quoted}
+use Rattle.cells.proofs.Cutting.{cells-parted}
+use Rattle.header.specs.Header.{Header, under, offset}
 
 -- bytes begin with these
 abbrev pub Begins : Bytes → Bytes → Type 0
 Begins s l = (rest : Bytes) × (s ≡ l ++ rest)
 
 -- a line stands where it starts, counted from 0 ---------------------------------------------------------------------------
-
 pub line-stands : (s : Bytes) (i : ℕ) → Begins (drop (lineStart (suc i) s) s) (getD (lines s) i [])
 line-stands s i =
     let at : Bytes = drop (lineStart (suc i) s) s in
@@ -30,7 +29,6 @@ line-stands s i =
     (drop (lineLength at) at, sym (take-append-drop (lineLength at) at) ∙ ap (λ (l : Bytes). l ++ drop (lineLength at) at) (sym line))
 
 -- a cell stands at its offset ----------------------------------------------------------------------------------------------
-
 drop-past : (c : Bytes) (b n : ℕ) (rest : Bytes) → drop (length c + 1 + n) (c ++ (b ∷ rest)) ≡ drop n rest
 drop-past c b n rest =
     let m : length c + 1 + n ≡ length c + suc n = omega arith in
@@ -87,7 +85,6 @@ cell-stands k i h s =
     (c .0, sym (drop-drop (offset k h cs) (lineStart (suc i) s) s) ∙ ap (λ (x : Bytes). drop (offset k h cs) x) (l .1) ∙ c .1)
 
 -- the stretch --------------------------------------------------------------------------------------------------------------
-
 pub plain-stretch : (s cell : Bytes) (at : ℕ) → Begins (drop at s) cell → take (length cell) (drop at s) ≡ cell
 plain-stretch s cell at b = ap (λ (x : Bytes). take (length cell) x) (b .1) ∙ take-seam cell (b .0)
 

@@ -1,28 +1,28 @@
 -- Demand 2: the stretch that a question for a cell hands back is the cell's own. Assumes nothing.
-use Prim.Native.Nat.{ℕ, zero, suc, _-_}
-use native.Mathlib.Omega.{arith}
 use mathlib.Core.Path.{_≡_, refl, ap, sym, _∙_}
-use mathlib.Core.Bool.{Bool, true, false}
+use mathlib.Core.Bool.{false, Bool, true}
 use mathlib.Core.List.{[], _∷_}
+use Prim.Native.Nat.{_-_, ℕ, zero, suc}
+use native.Mathlib.Omega.{arith}
 use lib.ListN.{length, take, drop}
 use lib.Dec.{eqb}
 use borrow.Author.Tests.{eqb-true}
 use Rattle.words.specs.Words.{Bytes, if_then_else_}
+use Rattle.refusals.specs.declared.Cell.the-variants.{Empty}
 use Rattle.refusals.specs.declared.Verdict.{Verdict}
 use Rattle.refusals.specs.declared.Verdict.the-variants.{Accepted, Refused}
 use Rattle.refusals.specs.declared.Cell.{Cell}
-use Rattle.refusals.specs.declared.Cell.the-variants.{Empty}
-use Rattle.text.specs.Lines.{lineStart}
-use Rattle.text.specs.Cells.{quoted, stretch, once, content}
-use Rattle.tables.specs.Columns.{columnAt}
+use Rattle.lines.specs.Lines.{lineStart}
+use Rattle.cells.specs.Cells.{once, quoted, stretch, content}
+use Rattle.tables.specs.declared.Sort.the-variants.{Text}
 use Rattle.tables.specs.declared.Table.{Table}
+use Rattle.tables.specs.Columns.{columnAt}
 use Rattle.tables.specs.declared.Named.{Named}
 use Rattle.tables.specs.declared.Sort.{Sort}
-use Rattle.tables.specs.declared.Sort.the-variants.{Text}
-use Rattle.reading.specs.Reading.{headerOf}
-use Rattle.reading.specs.CellQuestion.{answered, said, cellSaid, cellAt, cellStart, cellVerdict, tableCell, askedOf, cellAsked, stretchOf}
+use Rattle.header.specs.Header.{headerOf}
+use Rattle.cell_question.specs.CellQuestion.{said, cellSaid, stretchOf, cellAt, cellStart, answered, cellVerdict, tableCell, askedOf, cellAsked}
 use Rattle.promises.specs.Promises.{StretchesAgree}
-use Rattle.promises.proofs.StretchLaws.{Begins, cell-stands, plain-stretch, quoted-stretch}
+use Rattle.promises.proofs.StretchLaws.{Begins, plain-stretch, quoted-stretch, cell-stands}
 use Rattle.promises.proofs.CellPromises.{numbered-known}
 
 -- where the content is empty, so is the stretch

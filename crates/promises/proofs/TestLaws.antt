@@ -1,6 +1,6 @@
 -- Tests and checks taken apart. Assumes nothing.
 use mathlib.Core.Path.{_≡_, refl}
-use mathlib.Core.Bool.{Bool, true, false, _&&_, _||_}
+use mathlib.Core.Bool.{Bool, true, _&&_, false, _||_}
 use Prim.Native.Nat.{ℕ}
 use native.Mathlib.Omega.{arith}
 use Rattle.words.proofs.Lists.{and-left, and-right}
@@ -10,7 +10,7 @@ use Rattle.refusals.specs.declared.Check.the-variants.{Passes, Fails}
 use Rattle.refusals.specs.declared.Verdict.{Verdict}
 use Rattle.refusals.specs.declared.Verdict.the-variants.{Accepted, Refused}
 use Rattle.book.specs.Book.{Book}
-use Rattle.reading.specs.Reading.{Result, leaves, refused, unless, _▹_}
+use Rattle.book.specs.Result.{Result, leaves, unless, refused, _▹_}
 
 pub and-both : (p q : Bool) → p ≡ true → q ≡ true → (p && q) ≡ true
 and-both p q h k = rw (h, k)

@@ -1,15 +1,14 @@
 -- "At the edges": the cases marked P, as one table under one claim.
-use mathlib.Core.Path.{_≡_}
 use mathlib.Core.List.{List, [], _∷_}
 use mathlib.Core.Bool.{Bool, true}
+use mathlib.Core.Path.{_≡_}
 use Prim.Native.Nat.{ℕ}
 use Prim.Native.String.{String, _++_}
 use lib.ListN.{length}
 use lib.Dec.{eqb}
-use Rattle.words.specs.Words.{bytes, same}
-use Rattle.text.specs.Cells.{content}
-use Rattle.book.specs.Keeping.{all}
-use Rattle.reading.specs.CellQuestion.{cellAsked, cellPaper}
+use Rattle.words.specs.Words.{bytes, same, all}
+use Rattle.cells.specs.Cells.{content}
+use Rattle.cell_question.specs.CellQuestion.{cellAsked, cellPaper}
 use Rattle.promises.specs.Sheet.{sheet}
 
 -- what is asked, and the answer that the paper names

@@ -1,46 +1,52 @@
 -- The three demands, as statements over the definitions. Each is a type; whoever has an element of it has a proof.
 use mathlib.Core.Path.{_≡_}
-use mathlib.Core.List.{List, [], _∷_, _++_, map}
+use mathlib.Core.List.{List, [], _∷_, map, _++_}
 use mathlib.Core.Logic.{_↔_, _⊎_}
-use mathlib.Core.Bool.{Bool, true, false, _&&_, _||_, not}
-use Prim.Native.Nat.{ℕ, _+_, _-_, _≤_, _<_}
-use lib.ListN.{length, getD, take, drop, replicate}
+use mathlib.Core.Bool.{false, true, not, Bool, _&&_, _||_}
+use Prim.Native.Nat.{_≤_, ℕ, _<_, _+_, _-_}
+use lib.ListN.{length, replicate, getD, take, drop}
 use Rattle.words.specs.Words.{Bytes, Row, if_then_else_, same}
-use Rattle.refusals.specs.Verdicts.{_when_, passes, place, placed, nowhere, notThere}
 use Rattle.refusals.specs.declared.Place.{Place}
+use Rattle.refusals.specs.declared.Verdict.the-variants.{Refused, Accepted}
+use Rattle.refusals.specs.declared.Verdict.{Verdict}
+use Rattle.refusals.specs.Verdicts.{place, placed, _when_, nowhere, notThere, passes}
 use Rattle.refusals.specs.declared.Check.{Check}
 use Rattle.refusals.specs.declared.Check.the-variants.{Passes, Fails}
-use Rattle.refusals.specs.declared.Verdict.{Verdict}
-use Rattle.refusals.specs.declared.Verdict.the-variants.{Accepted, Refused}
 use Rattle.refusals.specs.declared.Cell.the-variants.{Number}
-use Rattle.text.specs.Lines.{lines, rowLines, slipLines, overlong}
-use Rattle.text.specs.Cells.{stretch}
-use Rattle.text.specs.Fields.{fields}
-use Rattle.tables.specs.Columns.{columnsOf, columnAt, number, keyWidth, keptWidth}
-use Rattle.tables.specs.declared.Sort.the-variants as sort-is
+use Rattle.lines.specs.Lines.{lines, rowLines, slipLines, overlong}
+use Rattle.cells.specs.Cells.{stretch}
+use Rattle.fields.specs.Fields.{fields}
+use Rattle.rows.specs.Room.{zeros}
+use Rattle.rows.specs.Rows.{rising, stands, found, column, removed, sameKey}
+use Rattle.tables.specs.Columns.{number, keyWidth, columnsOf, keptWidth, columnAt}
 use Rattle.tables.specs.declared.Table.{Table}
 use Rattle.tables.specs.declared.Table.the-variants.{VehicleType, Depot, Stop, StopPoint, Block}
-use Rattle.rows.specs.Rows.{column, sameKey, stands, found, removed, rising}
-use Rattle.rows.specs.Room.{zeros}
-use Rattle.book.specs.Book.{Book, empty, rows, entered, knows}
-use Rattle.book.specs.Questions.{secondsOf, countOf, seven, ofType}
-use Rattle.book.specs.Calls.{typeAnswered, typeCall, blockAnswered, blockCall}
+use Rattle.tables.specs.declared.Sort.the-variants as sort-is
+use Rattle.book.specs.Result.{refused, leaves, Result}
+use Rattle.book.specs.Book.{Book, empty, entered, rows, knows}
 use Rattle.book.specs.Room.{laid}
-use Rattle.book.specs.Keeping.{keepsRule}
-use Rattle.reading.specs.Reading.{Delivery, Result, leaves, refused, reading, tableRead, judged, rowRead, headerOf, topFaults, Left}
-use Rattle.reading.specs.CellQuestion.{answered, cellAt, cellAsked, stretchOf}
-use Rattle.reading.specs.Calls.{readCall}
-use Rattle.slips.specs.Slips.{wish, numbers, badField, rowIn, slipCheck, slipLeaves, posting, posted}
+use Rattle.keeping.specs.Keeping.{keepsRule}
+use Rattle.questions.specs.Calls.{typeAnswered, typeCall, blockAnswered, blockCall}
+use Rattle.questions.specs.Questions.{secondsOf, countOf, seven, ofType}
+use Rattle.header.specs.Header.{headerOf, topFaults}
+use Rattle.row_line.specs.RowLine.{rowRead}
+use Rattle.table_lines.specs.Reading.{judged}
+use Rattle.table_reading.specs.Reading.{tableRead}
+use Rattle.delivery.specs.Delivery.{Delivery, reading, Left}
+use Rattle.delivery.specs.Calls.{readCall}
+use Rattle.cell_question.specs.CellQuestion.{cellAsked, answered, cellAt, stretchOf}
+use Rattle.slip_line.specs.declared.Wish.{Wish}
+use Rattle.slip_line.specs.declared.Wish.the-variants.{Add, Replace, Delete, Unknown}
+use Rattle.slip_line.specs.SlipLine.{wish, numbers, badField, rowIn}
+use Rattle.block_change.specs.Change.{slipCheck, slipLeaves}
+use Rattle.slips.specs.Slips.{posting, posted}
 use Rattle.slips.specs.Calls.{slipCall, slipOutcome}
-use Rattle.slips.specs.declared.Wish.{Wish}
-use Rattle.slips.specs.declared.Wish.the-variants.{Add, Replace, Delete, Unknown}
-use Rattle.writer.specs.Writing.{linesWritten, namesLine, rowLine, written}
 use Rattle.writer.specs.Calls.{writeCall}
+use Rattle.writer.specs.Writing.{written, linesWritten, namesLine, rowLine}
 use Rattle.writer.specs.Calls as write-call
 use Rattle.sheet.specs.Calls.{sheetCall}
 
 -- Demand 1 ----------------------------------------------------------------------------------------------------------------
-
 -- "Every call takes every input and comes back." Each call's answer, and what all that is lent holds behind it, is a function of what it is
 -- handed: `readCall`, `cellAsked`, `typeCall`, `blockCall`, `slipCall`, `writeCall`, `sheetCall`, with nothing required.
 -- Each public function's contract is one equation with its call, so two outcomes that it permits are the same
@@ -104,10 +110,8 @@ LengthsKept = ((d : Delivery) (slice : List Row) → length (readCall d slice .b
     × ((book : List Row) (out : Bytes) → length (writeCall book out .out) ≡ length out)
 
 -- Demand 2 ----------------------------------------------------------------------------------------------------------------
-
 -- "accepted if no row breaks a rule, else the first fault": said of lines that are judged in turn, each on the book as those above leave it.
 -- `check` is the judgement of a line, `step` what a line leaves
-
 -- the book that lines leave
 unfoldable pub onward : (Bytes → Book → Book) → List Bytes → Book → Book
 onward step [] b = b
@@ -288,7 +292,6 @@ abbrev pub RuleTested : Type 0
 RuleTested = (slice : List Row) → (keepsRule slice ≡ true) ↔ ((b : Book) × Left b × (slice ≡ laid b))
 
 -- Demand 3 ----------------------------------------------------------------------------------------------------------------
-
 -- the book behind a run of slips, accepted or not
 unfoldable pub run : List Bytes → Book → Book
 run [] b = b

@@ -1,18 +1,21 @@
 -- The definitions set to run: under `unfolding computed` antt computes them.
-use Rattle.words.specs.Words.{bytes, same}
-use Rattle.text.specs.Lines.{lines, slipLines, lineStart}
-use Rattle.text.specs.Cells.{cutFrom, once}
-use Rattle.text.specs.Numbers.{allDigits, valueFrom, digits}
-use Rattle.text.specs.Fields.{fields, parted}
-use Rattle.tables.specs.Columns.{columnsOf, columnFrom, columnNumber}
+use Rattle.words.specs.Words.{bytes, same, all}
+use Rattle.lines.specs.Lines.{lines, slipLines, lineStart}
+use Rattle.cells.specs.Cells.{cutFrom, once, parted}
+use Rattle.numbers.specs.Numbers.{allDigits, valueFrom, digits}
+use Rattle.fields.specs.Fields.{fields}
 use Rattle.rows.specs.Rows.{orderFrom, stands, found, inserted, replaced, removed, rising}
 use Rattle.rows.specs.Room.{used, sameRows}
-use Rattle.book.specs.Rules.{unknownOf}
-use Rattle.book.specs.Questions.{total}
-use Rattle.book.specs.Keeping.{ranged, all}
-use Rattle.reading.specs.Header.{member, repeated, missingFrom, headerCheck, under, offset, contentsFrom}
-use Rattle.reading.specs.Reading.{badCell, judged, rowsRead, tableRead, reading}
-use Rattle.reading.specs.CellQuestion.{cellVerdict, tableCell, cellAsked}
+use Rattle.tables.specs.Columns.{columnsOf, columnFrom, columnNumber}
+use Rattle.values.specs.Values.{badCell}
+use Rattle.rules.specs.Rules.{unknownOf}
+use Rattle.keeping.specs.Keeping.{ranged}
+use Rattle.questions.specs.Questions.{total}
+use Rattle.header.specs.Header.{member, repeated, missingFrom, headerCheck, under, offset, contentsFrom}
+use Rattle.table_lines.specs.Reading.{judged, rowsRead}
+use Rattle.table_reading.specs.Reading.{tableRead}
+use Rattle.delivery.specs.Delivery.{reading}
+use Rattle.cell_question.specs.CellQuestion.{cellVerdict, tableCell, cellAsked}
 use Rattle.slips.specs.Slips.{linesPosted, posting}
 use Rattle.writer.specs.Writing.{linesWritten}
 use Rattle.promises.specs.Sheet.{sheet}

@@ -1,6 +1,7 @@
 -- What `daysheet` prints.
 use Rattle.words.specs.Words.{Bytes}
-use Rattle.reading.specs.Reading.{Result, refused, leaves, _▹_, Delivery, reading}
+use Rattle.book.specs.Result.{Result, refused, leaves, _▹_}
+use Rattle.delivery.specs.Delivery.{Delivery, reading}
 use Rattle.slips.specs.Slips.{posting}
 use Rattle.sheet.specs.Sheet.{sheetText, refusalText}
 

@@ -1,8 +1,8 @@
 -- The whole case of document 01, with the points 20/1 and 31/2.
 use mathlib.Core.Path.{_≡_}
 use mathlib.Core.List.{[]}
-use Rattle.words.specs.Words.{Bytes, bytes}
-use Rattle.reading.specs.Reading.{Delivery}
+use Rattle.words.specs.Words.{bytes, Bytes}
+use Rattle.delivery.specs.Delivery.{Delivery}
 use Rattle.promises.specs.Sheet.{sheet}
 
 abbrev pub delivery : Delivery

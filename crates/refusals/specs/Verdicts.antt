@@ -1,18 +1,17 @@
 -- The numbers of refusal, the order of checks, and what an answer is on paper.
-use mathlib.Core.List.{List, [], _∷_}
 use mathlib.Core.Bool.{Bool, true, false}
+use mathlib.Core.List.{List, [], _∷_}
 use Prim.Native.Nat.{ℕ}
-use Rattle.refusals.specs.declared.Place.{Place}
 use Rattle.refusals.specs.declared.Check.{Check}
-use Rattle.refusals.specs.declared.Check.the-variants.{Passes, Fails}
+use Rattle.refusals.specs.declared.Check.the-variants.{Fails, Passes}
 use Rattle.refusals.specs.declared.Verdict.{Verdict}
 use Rattle.refusals.specs.declared.Verdict.the-variants.{Accepted, Refused}
+use Rattle.refusals.specs.declared.Place.{Place}
 use Rattle.refusals.specs.declared.Cell.{Cell}
 use Rattle.refusals.specs.declared.Cell.the-variants.{Number, Text, Empty}
 
 -- "Numbers of refusal": the number and the column of each. What is given is the column, or the cell "counted from 1"; a line and a
 -- table are put on below.
-
 -- "text over 65,536 bytes"
 abbrev pub textTooLong : Check
 textTooLong = Fails 1 0
@@ -78,7 +77,6 @@ abbrev pub badLoan : Check
 badLoan = Fails 16 0
 
 -- the order of checks -------------------------------------------------------------------------------------------------------
-
 infixr 20 _⊳_
 infix 25 _when_
 infixr 15 _before_
@@ -102,7 +100,6 @@ Accepted before v = v
 Refused p before v = Refused p
 
 -- places -----------------------------------------------------------------------------------------------------------------------
-
 abbrev pub place : ℕ → ℕ → ℕ → ℕ → Place
 place number table line column = record { number = number; table = table; line = line; column = column }
 
@@ -124,7 +121,6 @@ abbrev pub nowhere : Check → Verdict
 nowhere c = placed 0 0 c
 
 -- "this paper's number and values" ---------------------------------------------------------------------------------------------
-
 -- a verdict is its number, table, line and column
 abbrev pub paper : Verdict → List ℕ
 paper Accepted = 0 ∷ 0 ∷ 0 ∷ 0 ∷ []

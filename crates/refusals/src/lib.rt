@@ -1,8 +1,6 @@
 // What is answered: a verdict with its place, and what a cell holds.
 ghost use mathlib.Core.Path.{_≡_};
-ghost use Rattle.refusals.specs.Verdicts.{place, placed, _⊳_};
-ghost use Rattle.refusals.specs.Verdicts.{textTooLong, columnMissing, columnTwice, tooManyCells, tooManyRows, quoteFault, cellCount, cellFault};
-ghost use Rattle.refusals.specs.Verdicts.{keyStands, noRow, endsEarly, unknownLine, noBlock, outputShort, notThere, badLoan};
+ghost use Rattle.refusals.specs.Verdicts.{place, placed, _⊳_, textTooLong, columnMissing, columnTwice, tooManyCells, tooManyRows, quoteFault, cellCount, cellFault, keyStands, noRow, endsEarly, unknownLine, noBlock, outputShort, notThere, badLoan};
 
 // Where something is refused: the number of refusal, the table, the line, and the column or the cell, each 0 where it is not named.
 pub struct Place {

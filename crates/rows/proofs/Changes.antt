@@ -1,20 +1,21 @@
 -- What stands, and which row is found, after a row is inserted, replaced or removed. Assumes nothing.
-use mathlib.Core.Path.{_≡_, refl, sym, ap, _∙_}
+use mathlib.Core.Path.{_≡_, refl, _∙_, sym, ap}
 use mathlib.Core.List.{List, [], _∷_}
-use mathlib.Core.Bool.{Bool, true, false, _||_}
-use Prim.Native.Nat.{ℕ, suc, _≤_}
+use mathlib.Core.Bool.{true, Bool, false, _||_}
+use Prim.Native.Nat.{ℕ, _≤_, suc}
 use native.Mathlib.Omega.{arith}
-use lib.ListN.{length, getD}
+use lib.ListN.{getD, length}
 use Rattle.words.specs.Words.{Row, if_then_else_}
+use Rattle.rows.specs.Rows.{sameKey, stands, found, removed, column, rising, byOrder, keyOrder, inserted, replaced}
+use Rattle.rows.specs.Spots.{rowOf, spot}
+use Rattle.rows.specs.declared.Spot.the-variants.{At, Gap}
+use Rattle.rows.specs.Room.{used, zeros}
 use Rattle.rows.specs.declared.Order.{Order}
 use Rattle.rows.specs.declared.Order.the-variants.{Less, Same, More}
-use Rattle.rows.specs.declared.Spot.the-variants.{At, Gap}
-use Rattle.rows.specs.Rows.{byOrder, column, keyOrder, sameKey, stands, found, inserted, replaced, removed, rising}
-use Rattle.rows.specs.Room.{zeros, used, spot, rowOf}
-use Rattle.rows.proofs.Keys.{order-refl, same-number, sameKey-order, sameKey-left, sameKey-right}
-use Rattle.rows.proofs.Rising.{Above, Rising, rising-true}
-use Rattle.rows.proofs.Room.{Versioned, used-versioned, used-row, rowOf-row}
+use Rattle.rows.proofs.Keys.{sameKey-left, order-refl, sameKey-right, same-number, sameKey-order}
+use Rattle.rows.proofs.Room.{Versioned, rowOf-row, used-versioned, used-row}
 use Rattle.rows.proofs.Places.{at-within, at-stands, at-found, gap-missing}
+use Rattle.rows.proofs.Rising.{Above, Rising, rising-true}
 
 -- which of two rows of the same key is asked for makes no difference
 module _ (k : ℕ) (key row : Row) (e : sameKey k key row ≡ true) where
@@ -42,35 +43,6 @@ found-missing k row (x ∷ xs) e = go (sameKey k row x) refl e (found-missing k 
     go : (b : Bool) → sameKey k row x ≡ b → (b || stands k row xs) ≡ false → (stands k row xs ≡ false → found k row xs ≡ []) → found k row (x ∷ xs) ≡ []
     go true f g ih = cc
     go false f g ih = rw f (ih g)
-
-pub replaced-missing : (k : ℕ) (row : Row) (xs : List Row) → stands k row xs ≡ false → replaced k row xs ≡ xs
-unfolding stands replaced
-replaced-missing k row [] e = refl
-replaced-missing k row (x ∷ xs) e = go (sameKey k row x) refl e (replaced-missing k row xs)
-  where
-    go : (b : Bool) → sameKey k row x ≡ b → (b || stands k row xs) ≡ false → (stands k row xs ≡ false → replaced k row xs ≡ xs) → replaced k row (x ∷ xs) ≡ x ∷ xs
-    go true f g ih = cc
-    go false f g ih = rw f (ap (λ (l : List Row). x ∷ l) (ih g))
-
-pub removed-missing : (k : ℕ) (row : Row) (xs : List Row) → stands k row xs ≡ false → removed k row xs ≡ xs
-unfolding stands removed
-removed-missing k row [] e = refl
-removed-missing k row (x ∷ xs) e = go (sameKey k row x) refl e (removed-missing k row xs)
-  where
-    go : (b : Bool) → sameKey k row x ≡ b → (b || stands k row xs) ≡ false → (stands k row xs ≡ false → removed k row xs ≡ xs) → removed k row (x ∷ xs) ≡ x ∷ xs
-    go true f g ih = cc
-    go false f g ih = rw f (ap (λ (l : List Row). x ∷ l) (ih g))
-
--- a key that stands
-pub found-same : (k : ℕ) (row : Row) (xs : List Row) → stands k row xs ≡ true → sameKey k row (found k row xs) ≡ true
-unfolding stands found
-found-same k row [] e = let z : _≡_ {A = ℕ} 0 1 = cc in absurd (omega arith)
-found-same k row (x ∷ xs) e = go (sameKey k row x) refl e (found-same k row xs)
-  where
-    go : (b : Bool) → sameKey k row x ≡ b → (b || stands k row xs) ≡ true → (stands k row xs ≡ true → sameKey k row (found k row xs) ≡ true)
-        → sameKey k row (if b then x else found k row xs) ≡ true
-    go true f g ih = f
-    go false f g ih = ih g
 
 pub found-versioned : (k : ℕ) (row : Row) (xs : List Row) → Versioned xs → stands k row xs ≡ true → 1 ≤ column 1 (found k row xs)
 unfolding stands found Versioned

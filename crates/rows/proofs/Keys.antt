@@ -1,17 +1,17 @@
 -- Laws of the order of keys: number by number, turned round, passed on. Assumes nothing.
-use mathlib.Core.Path.{_≡_, refl, sym, ap, _∙_}
+use mathlib.Core.Path.{_≡_, refl, sym, _∙_, ap}
 use mathlib.Core.Bool.{Bool, true, false}
-use Prim.Native.Nat.{ℕ, zero, suc, _+_, _-_, _≤_, _<_}
+use Prim.Native.Nat.{ℕ, _<_, suc, _≤_, _+_, _-_, zero}
 use native.Mathlib.Omega.{arith}
 use native.Mathlib.Numerals.{add-one}
 use native.Mathlib.Nat.{not-suc-le-zero}
-use lib.ListN.{length, getD, List·getD-eq-default}
 use lib.Dec.{ltb}
+use lib.ListN.{getD, length, List·getD-eq-default}
 use borrow.Author.Tests.{ltb-true, ltb-false, lt-ltb, le-ltb}
 use Rattle.words.specs.Words.{Row}
+use Rattle.rows.specs.declared.Order.the-variants.{Less, More, Same}
+use Rattle.rows.specs.Rows.{orderFrom, keyOrder, sameKey, byOrder}
 use Rattle.rows.specs.declared.Order.{Order}
-use Rattle.rows.specs.declared.Order.the-variants.{Less, Same, More}
-use Rattle.rows.specs.Rows.{byOrder, orderFrom, keyOrder, sameKey}
 
 pub data Tri (x y : ℕ) : Type 0 where
   lt : x < y → Tri x y

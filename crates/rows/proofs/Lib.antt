@@ -3,6 +3,3 @@ pub mod Rising
 pub mod Room
 pub mod Places
 pub mod Changes
-pub mod Shifts
-pub mod Shelving
-pub mod Slots

@@ -1,23 +1,24 @@
 -- Where a key stands among rows: by halving, and in terms of the row that is found. Assumes nothing.
-use mathlib.Core.Path.{_≡_, refl, sym, ap, _∙_}
+use mathlib.Core.Path.{_≡_, ap, _∙_, sym, refl}
 use mathlib.Core.List.{List, [], _∷_, _++_}
-use mathlib.Core.Bool.{Bool, true, false}
+use mathlib.Core.Bool.{true, Bool, false}
 use Prim.Native.Nat.{ℕ, zero, suc, _+_, _≤_, _<_}
 use native.Mathlib.Omega.{arith}
 use native.Mathlib.Nat.{not-suc-le-zero}
-use lib.Dec.{eqb}
 use lib.ListN.{length, getD, take, drop, set}
+use lib.Dec.{eqb}
 use borrow.Author.Tests.{eqb-true, eqb-false}
 use Rattle.words.specs.Words.{Row, if_then_else_}
+use Rattle.rows.specs.declared.Order.the-variants.{Less, More, Same}
+use Rattle.rows.specs.declared.Spot.the-variants.{Gap, At}
+use Rattle.rows.specs.Rows.{keyOrder, rising, column, stands, found, replaced, removed, inserted}
+use Rattle.rows.specs.Spots.{spotFrom, spot, Holds}
 use Rattle.rows.specs.declared.Order.{Order}
-use Rattle.rows.specs.declared.Order.the-variants.{Less, Same, More}
+use Rattle.rows.specs.Room.{used}
 use Rattle.rows.specs.declared.Spot.{Spot}
-use Rattle.rows.specs.declared.Spot.the-variants.{At, Gap}
-use Rattle.rows.specs.Rows.{column, keyOrder, stands, found, inserted, replaced, removed, rising}
-use Rattle.rows.specs.Room.{used, Holds, spotFrom, spot}
 use Rattle.rows.proofs.Keys.{Tri, lt, eq, gt, tri, less-trans, less-more, more-less, same-same, same-right}
+use Rattle.rows.proofs.Rising.{rising-at, rising-true, Above, Rising, above-less}
 use Rattle.rows.proofs.Room.{used-row, used-goes-on, used-stops}
-use Rattle.rows.proofs.Rising.{Above, Rising, above-less, rising-at, rising-true}
 
 -- a place, by what stands before it and at it
 spot-gap : (k i : ℕ) (row : Row) (xs : List Row) (m : ℕ) → m ≤ length xs

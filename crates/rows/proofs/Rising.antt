@@ -1,16 +1,16 @@
 -- Rows by rising key, row by row and by places; and what changes keep of it. Assumes nothing.
 use mathlib.Core.Path.{_≡_, refl, _∙_}
 use mathlib.Core.List.{List, [], _∷_}
-use mathlib.Core.Bool.{Bool, true, false, _&&_}
-use Prim.Native.Nat.{ℕ, zero, suc, _+_, _-_, _≤_, _<_}
+use mathlib.Core.Bool.{true, false, _&&_, Bool}
+use Prim.Native.Nat.{ℕ, zero, suc, _<_, _-_, _≤_, _+_}
 use native.Mathlib.Omega.{arith}
 use native.Mathlib.Nat.{not-suc-le-zero}
-use lib.ListN.{length, getD, take, drop}
+use lib.ListN.{length, getD, drop, take}
 use lib.Seq.{drop-cons, getD-take, length-take-le}
 use Rattle.words.specs.Words.{Row}
-use Rattle.rows.specs.declared.Order.{Order}
 use Rattle.rows.specs.declared.Order.the-variants.{Less, Same, More}
-use Rattle.rows.specs.Rows.{byOrder, keyOrder, sameKey, inserted, replaced, removed, rising}
+use Rattle.rows.specs.Rows.{keyOrder, byOrder, rising, inserted, replaced, sameKey, removed}
+use Rattle.rows.specs.declared.Order.{Order}
 use Rattle.rows.proofs.Keys.{less-trans, more-less, same-left, same-right}
 
 -- each of rows has a larger key than x

@@ -1,18 +1,19 @@
 -- Laws of the used rows of a slice, of the room behind them, and of the test that a slice holds a table. Assumes nothing.
-use mathlib.Core.Path.{_≡_, refl, sym, ap, _∙_}
 use mathlib.Core.List.{List, [], _∷_, _++_}
+use mathlib.Core.Path.{_≡_, refl, ap, _∙_, sym}
 use mathlib.Core.Bool.{Bool, true, false, _&&_}
-use Prim.Native.Nat.{ℕ, zero, suc, _+_, _-_, _≤_, _<_}
+use Prim.Native.Nat.{_≤_, ℕ, zero, suc, _<_, _+_, _-_}
 use native.Mathlib.Omega.{arith}
 use native.Mathlib.Nat.{not-suc-le-zero}
-use lib.ListN.{length, getD, take, drop, replicate, length-append, length-replicate, getD-replicate, drop-of-length-le}
-use lib.Seq.{ext-getD, getD-append-add}
 use lib.Dec.{eqb}
-use borrow.Author.Tests.{ne-eqb, eq-eqb, eqb-false}
+use lib.ListN.{length, drop, length-append, take, getD, drop-of-length-le, replicate, length-replicate, getD-replicate}
+use lib.Seq.{getD-append-add, drop-drop, drop-at, ext-getD}
+use borrow.Author.Tests.{eqb-false, ne-eqb, eq-eqb}
 use Rattle.words.specs.Words.{Row, same}
 use Rattle.words.proofs.Lists.{drop-step, same-refl, same-true}
 use Rattle.rows.specs.Rows.{column, rising}
-use Rattle.rows.specs.Room.{zeros, filled, used, Holds, sameRows, holds, rowOf}
+use Rattle.rows.specs.Room.{used, zeros, filled, sameRows}
+use Rattle.rows.specs.Spots.{Holds, holds, rowOf}
 use Rattle.rows.proofs.Keys.{Tri, lt, eq, gt, tri}
 
 -- each row's VERSION is at least 1
@@ -108,6 +109,26 @@ rest-number xs e i l h =
     getD-append-add (used xs) _ j [] ∙ getD-replicate (length xs - length (used xs)) j zeros [] (omega arith) in
     let z : getD xs i [] ≡ zeros = ap (λ (l : List Row). getD l i []) e ∙ rw f at g in
     rw z
+
+drop-copies : {A : Type 0} (z : A) (k m : ℕ) → drop k (replicate m z) ≡ replicate (m - k) z
+drop-copies z zero m = let e : m - 0 ≡ m = omega arith in rw e
+drop-copies z (suc k) zero = let e : 0 - suc k ≡ 0 = omega arith in rw e
+drop-copies z (suc k) (suc m) = let e : suc m - suc k ≡ m - k = omega arith in rw e (drop-copies z k m)
+
+-- from any place behind the used rows on
+pub rest-zero : (xs : List Row) → xs ≡ filled (length xs) (used xs) → (i : ℕ) → length (used xs) ≤ i → drop i xs ≡ replicate (length xs - i) zeros
+rest-zero xs e i h =
+    let u = used xs in
+    let m = length xs - length u in
+    let k = i - length u in
+    let f : i ≡ length u + k = omega arith in
+    let g : m - k ≡ length xs - i = omega arith in
+    ap (drop i) e
+    ∙ ap (λ (j : ℕ). drop j (u ++ replicate m zeros)) f
+    ∙ sym (drop-drop k (length u) (u ++ replicate m zeros))
+    ∙ ap (drop k) (drop-at u (replicate m zeros) (length u) refl)
+    ∙ drop-copies zeros k m
+    ∙ ap (λ (j : ℕ). replicate j zeros) g
 
 -- whether a row is used tells on which side of it the used rows end
 pub used-goes-on : (xs : List Row) → xs ≡ filled (length xs) (used xs) → (i : ℕ) → i < length xs → (getD (getD xs i []) 0 0 ≡ 0 → ⊥) → i < length (used xs)

@@ -1,3 +1,4 @@
+-- A table's rows in a lent slice, by rising key, to be read in this order.
 pub mod Rows
 pub mod Room
-pub mod Shelf
+pub mod Spots

@@ -1,9 +1,9 @@
 -- Rows, and the order of their keys. A row's key is its first k numbers.
-use mathlib.Core.List.{List, [], _∷_, _++_}
-use mathlib.Core.Bool.{Bool, true, false, _&&_, _||_}
-use Prim.Native.Nat.{ℕ, zero, suc, _+_, _-_}
+use mathlib.Core.List.{List, _++_, [], _∷_}
+use mathlib.Core.Bool.{Bool, true, false, _||_, _&&_}
+use Prim.Native.Nat.{ℕ, _-_, zero, suc}
+use lib.ListN.{length, replicate, getD}
 use lib.Dec.{ltb}
-use lib.ListN.{getD, length, replicate}
 use Rattle.words.specs.Words.{Row, if_then_else_}
 use Rattle.rows.specs.declared.Order.{Order}
 use Rattle.rows.specs.declared.Order.the-variants.{Less, Same, More}

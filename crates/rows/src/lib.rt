@@ -1,21 +1,18 @@
 // A table's rows in a lent slice, by rising key.
 ghost use mathlib.Core.Path.{_≡_};
-ghost use mathlib.Core.List.{[], _∷_, _++_};
+ghost use mathlib.Core.List.{[]};
 ghost use mathlib.Core.Bool.{true, false};
-ghost use Prim.Native.Nat.{suc, _-_, _≤_, _<_};
+ghost use Prim.Native.Nat.{_<_, _≤_, _-_};
+ghost use lib.ListN.{length, getD, take, drop, replicate};
 ghost use lib.Dec.{eqb};
-ghost use lib.ListN.{length, getD, take, drop, replicate, set};
 ghost use Rattle.words.specs.Words.{if_then_else_, same};
+ghost use Rattle.rows.specs.Rows.{keyOrder, stands, found, column, byOrder, rising};
+ghost use Rattle.rows.specs.Room.{filled, used, zeros, sameRows};
+ghost use Rattle.rows.specs.Spots.{Holds, spot, rowOf, holds};
 ghost use Rattle.rows.specs.declared.Order.the-variants.{Less};
-ghost use Rattle.rows.specs.Rows.{column, byOrder, keyOrder, stands, found, rising};
-ghost use Rattle.rows.specs.Room.{zeros, filled, used, Holds, sameRows, holds, spot, rowOf};
-ghost use Rattle.rows.specs.Shelf.{shelved, upFrom, Shelf};
 
 // A row's numbers; its key is the first k of them.
 pub type Row = [u64; 11];
-
-// The room of a table: a list of rows is made as `[[0; 11]; ROWS]` and handed on as a slice.
-pub const ROWS: usize = 512;
 
 pub enum Order {
     Less,
@@ -29,6 +26,11 @@ pub enum Spot {
     Gap(usize),
 }
 
+// The room of a table: a list of rows is made as `[[0; 11]; ROWS]` and handed on as a slice.
+pub const ROWS: usize = 512;
+
+pub const NO_ROW: Row = [0; 11];
+
 // The order of two rows by their first k numbers, for every k: past their end both rows read as 0.
 pub fn compare(a: &Row, b: &Row, k: usize) -> Order
     ensures { λ r. ⌜ r ≡ keyOrder k (now (a .entry)) (now (b .entry)) ⌝ }
@@ -36,22 +38,25 @@ pub fn compare(a: &Row, b: &Row, k: usize) -> Order
     // As slices: a slice of a row is known to have 11 numbers, what a reference to one refers to is not.
     let left = &a[..];
     let right = &b[..];
+    let mut order = Order::Same;
     let mut i = 0;
     'keys: while i < 11 {
         if i == k {
-            return Order::Same;
+            break 'keys;
         }
         let x = left[i];
         let y = right[i];
         if x < y {
-            return Order::Less;
+            order = Order::Less;
+            break 'keys;
         }
         if y < x {
-            return Order::More;
+            order = Order::More;
+            break 'keys;
         }
         i += 1;
     }
-    Order::Same
+    order
 }
 
 // How many rows are used. (By halving: O(log n).)
@@ -170,7 +175,7 @@ fn first_unused(list: &[Row]) -> usize
     let mut i = 0;
     'rows: while i < list.len() {
         if list[i][0] == 0 {
-            return i;
+            break 'rows;
         }
         i += 1;
     }
@@ -193,14 +198,16 @@ fn rises(list: &[Row], n: usize, k: usize) -> bool
     requires { ⌜ n ≤ length (now list) ⌝ }
     ensures { λ r. ⌜ r ≡ rising k (take n (now (list .entry))) ⌝ }
 {
+    let mut up = true;
     let mut i = 1;
     'rows: while i < n {
         if !below(&list[i - 1], &list[i], k) {
-            return false;
+            up = false;
+            break 'rows;
         }
         i += 1;
     }
-    true
+    up
 }
 
 fn blank(row: &Row) -> bool
@@ -208,14 +215,16 @@ fn blank(row: &Row) -> bool
 {
     // As a slice, for its length, as in `compare`.
     let numbers = &row[..];
+    let mut zero = true;
     let mut i = 0;
     'columns: while i < 11 {
         if numbers[i] != 0 {
-            return false;
+            zero = false;
+            break 'columns;
         }
         i += 1;
     }
-    true
+    zero
 }
 
 // Whether every row from place n on is zero.
@@ -223,108 +232,14 @@ fn blank_from(list: &[Row], n: usize) -> bool
     requires { ⌜ n ≤ length (now list) ⌝ }
     ensures { λ r. ⌜ r ≡ sameRows (drop n (now (list .entry))) (replicate (length (now (list .entry)) - n) zeros) ⌝ }
 {
+    let mut zero = true;
     let mut i = n;
     'rows: while i < list.len() {
         if !blank(&list[i]) {
-            return false;
+            zero = false;
+            break 'rows;
         }
         i += 1;
     }
-    true
-}
-
-// The order of a shelf on which nothing has moved.
-pub fn number_slots(order: &mut [u16])
-    requires { ⌜ length (now order) ≤ 65536 ⌝ }
-    ensures { λ _. ⌜ now (order .exit) ≡ upFrom 0 (length (now (order .entry))) ⌝ }
-{
-    let mut i = 0;
-    'slots: while i < order.len() {
-        order[i] = i as u16;
-        i += 1;
-    }
-}
-
-// Where a key stands on a shelf, or would stand. (By halving; rows mostly come by rising or falling key, so the last and the first one are looked at
-// before.)
-pub fn seek_slot(slots: &[Row], order: &[u16], n: usize, k: usize, row: &Row) -> Spot
-    requires { ⌜ Shelf (now slots) (now order) n × (rising k (shelved (now slots) (now order) n) ≡ true) ⌝ }
-    ensures { λ r. ⌜ r ≡ spot k (now (row .entry)) (shelved (now (slots .entry)) (now (order .entry)) n) ⌝ }
-{
-    let mut low = 0;
-    let mut high = n;
-    let mut probe = if 0 < n { n - 1 } else { 0 };
-    let mut ends = true;
-    'slots: while low < high {
-        let slot = order[probe] as usize;
-        match compare(row, &slots[slot], k) {
-            Order::Less => {
-                high = probe;
-            }
-            Order::Same => {
-                return Spot::At(probe);
-            }
-            Order::More => {
-                low = probe + 1;
-            }
-        }
-        probe = if ends { low } else { low + ((high - low) >> 1) };
-        ends = false;
-    }
-    Spot::Gap(low)
-}
-
-// A row into the first free slot, which comes to place `at` of the order: the later ones move one further.
-pub fn put_slot(slots: &mut [Row], order: &mut [u16], n: usize, at: usize, row: Row)
-    requires { ⌜ Shelf (now slots) (now order) n × (n < length (now slots)) × (at ≤ n) ⌝ }
-    ensures { λ _. ⌜ (now (slots .exit) ≡ set (now (slots .entry)) (getD (now (order .entry)) n 0) row) × (now (order .exit) ≡ take at (now (order .entry)) ++ (getD (now (order .entry)) n 0 ∷ (take (n - at) (drop at (now (order .entry))) ++ drop (suc n) (now (order .entry))))) ⌝ }
-{
-    let slot = order[n];
-    slots[slot as usize] = row;
-    let mut i = n;
-    'slots: while at < i {
-        let before = order[i - 1];
-        order[i] = before;
-        i -= 1;
-    }
-    order[at] = slot;
-}
-
-// Another row into the slot at a place of the order.
-pub fn set_slot(slots: &mut [Row], order: &[u16], n: usize, at: usize, row: Row)
-    requires { ⌜ Shelf (now slots) (now order) n × (at < n) ⌝ }
-    ensures { λ _. ⌜ now (slots .exit) ≡ set (now (slots .entry)) (getD (now (order .entry)) at 0) row ⌝ }
-{
-    let slot = order[at] as usize;
-    slots[slot] = row;
-}
-
-// The slot at a place of the order is free: the later ones move one back, and it comes behind the used ones.
-pub fn free_slot(order: &mut [u16], n: usize, at: usize)
-    requires { ⌜ (at < n) × (n ≤ length (now order)) ⌝ }
-    ensures { λ _. ⌜ now (order .exit) ≡ take at (now (order .entry)) ++ (take (n - suc at) (drop (suc at) (now (order .entry))) ++ (getD (now (order .entry)) at 0 ∷ drop n (now (order .entry)))) ⌝ }
-{
-    let slot = order[at];
-    let mut i = at + 1;
-    'slots: while i < n {
-        let next = order[i];
-        order[i - 1] = next;
-        i += 1;
-    }
-    order[n - 1] = slot;
-}
-
-// The rows of a shelf by rising key into a list of its size, and zeros behind them.
-pub fn lay_out(slots: &[Row], order: &[u16], n: usize, list: &mut [Row])
-    requires { ⌜ Shelf (now slots) (now order) n × (length (now list) ≡ length (now slots)) ⌝ }
-    ensures { λ _. ⌜ now (list .exit) ≡ filled (length (now (list .entry))) (shelved (now (slots .entry)) (now (order .entry)) n) ⌝ }
-{
-    let mut i = 0;
-    'slots: while i < n {
-        let slot = order[i] as usize;
-        let next = slots[slot];
-        list[i] = next;
-        i += 1;
-    }
-    clear(&mut list[n..]);
+    zero
 }

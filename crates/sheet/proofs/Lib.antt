@@ -1,2 +1,1 @@
--- What the proofs of the day sheet cite.
 pub mod Lines

@@ -1,24 +1,24 @@
 -- The lines of the day sheet: a letter and a tab before the numbers, a line for each type, and the sums behind them. Assumes nothing.
+use mathlib.Core.Path.{_≡_, refl, ap, _∙_}
+use mathlib.Core.List.{List, [], _∷_, _++_, map, append-assoc}
+use mathlib.Core.Bool.{true}
 use Prim.Native.Nat.{ℕ, _+_, _≤_}
 use native.Mathlib.Omega.{arith}
-use mathlib.Core.Path.{_≡_, refl, ap, sym, _∙_}
-use mathlib.Core.List.{List, [], _∷_, _++_, append-assoc, map}
-use mathlib.Core.Bool.{true}
 use lib.ListN.{length, set, length-append}
 use Rattle.words.specs.Words.{Bytes, Row, bytes}
-use Rattle.text.specs.Numbers.{decimal}
-use Rattle.text.specs.Fields.{parted}
-use Rattle.tables.specs.declared.Table.the-variants.{VehicleType}
+use Rattle.cells.specs.Cells.{parted}
+use Rattle.numbers.specs.Numbers.{decimal}
+use Rattle.numbers.specs.Putting.{put}
+use Rattle.numbers.proofs.Putting.{put-byte, rest, back, lent}
 use Rattle.rows.specs.Rows.{column}
+use Rattle.tables.specs.declared.Table.the-variants.{VehicleType}
 use Rattle.book.specs.Book.{Book}
-use Rattle.book.specs.Questions.{secondsOf, countOf}
 use Rattle.book.specs.Room.{bookOf}
-use Rattle.book.specs.Keeping.{keepsRule}
-use Rattle.book.proofs.Keeping.{keeps-sound}
 use Rattle.book.proofs.Laying.{orderly-book}
+use Rattle.keeping.specs.Keeping.{keepsRule}
+use Rattle.keeping.proofs.Keeping.{keeps-sound}
+use Rattle.questions.specs.Questions.{secondsOf, countOf}
 use Rattle.writer.specs.Writing.{linesWritten}
-use Rattle.writer.specs.Calls.{put}
-use Rattle.writer.proofs.Putting.{put-byte, rest, back, lent}
 use Rattle.sheet.specs.Sheet.{sheetLine, typeLine, sumLine, sheetText}
 
 -- a line of a letter and numbers

@@ -1,14 +1,14 @@
 -- What the sheet call answers, and what the lent output holds behind it.
 use mathlib.Core.List.{List}
-use mathlib.Core.Bool.{Bool, true, false, not}
+use mathlib.Core.Bool.{not}
 use lib.Dec.{ltb}
 use lib.ListN.{length}
 use Rattle.words.specs.Words.{Bytes, Row}
-use Rattle.refusals.specs.Verdicts.{_when_, _before_, nowhere, badLoan, outputShort}
+use Rattle.refusals.specs.Verdicts.{_when_, nowhere, outputShort, _before_, badLoan}
 use Rattle.refusals.specs.declared.Verdict.{Verdict}
 use Rattle.refusals.specs.declared.Verdict.the-variants.{Accepted, Refused}
 use Rattle.book.specs.Room.{bookOf}
-use Rattle.book.specs.Keeping.{keepsRule}
+use Rattle.keeping.specs.Keeping.{keepsRule}
 use Rattle.writer.specs.Calls.{Outcome, wrote}
 use Rattle.sheet.specs.Sheet.{sheetText, refusalText}
 

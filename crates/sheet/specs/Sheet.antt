@@ -1,14 +1,14 @@
 -- The day sheet.
-use mathlib.Core.List.{List, [], _∷_, _++_, map}
+use mathlib.Core.List.{List, _∷_, map, [], _++_}
 use Prim.Native.Nat.{ℕ}
 use lib.ListN.{length}
 use Rattle.words.specs.Words.{Bytes, Row, bytes}
 use Rattle.refusals.specs.declared.Place.{Place}
-use Rattle.text.specs.Numbers.{decimal}
-use Rattle.text.specs.Fields.{parted}
+use Rattle.cells.specs.Cells.{parted}
+use Rattle.numbers.specs.Numbers.{decimal}
 use Rattle.rows.specs.Rows.{column}
 use Rattle.book.specs.Book.{Book}
-use Rattle.book.specs.Questions.{secondsOf, countOf}
+use Rattle.questions.specs.Questions.{secondsOf, countOf}
 use Rattle.writer.specs.Writing.{linesWritten}
 
 -- "Fields are parted by tabs"

@@ -2,13 +2,14 @@
 ghost use mathlib.Core.Path.{_≡_};
 ghost use mathlib.Core.List.{[], _∷_, _++_, map};
 ghost use mathlib.Core.Bool.{true};
-ghost use Prim.Native.Nat.{ℕ, _+_, _*_, _≤_, _<_};
+ghost use Prim.Native.Nat.{ℕ, _+_, _≤_, _<_, _*_};
 ghost use lib.ListN.{length, getD};
 ghost use Rattle.words.specs.Words.{bytes};
+ghost use Rattle.numbers.specs.Putting.{put};
 ghost use Rattle.book.specs.Room.{bookOf};
-ghost use Rattle.book.specs.Keeping.{keepsRule};
+ghost use Rattle.keeping.specs.Keeping.{keepsRule};
 ghost use Rattle.writer.specs.Writing.{linesWritten};
-ghost use Rattle.writer.specs.Calls.{put, outcome, wrote};
+ghost use Rattle.writer.specs.Calls.{outcome, wrote};
 ghost use Rattle.sheet.specs.Sheet.{sheetLine, typeLine, sheetText, refusalText};
 ghost use Rattle.sheet.specs.Calls.{shortFor, sheetCall};
 use refusals::Check;
@@ -32,7 +33,7 @@ fn line_length(numbers: &[u64]) -> usize
     requires { ⌜ (1 ≤ length (now numbers)) × (length (now numbers) ≤ 4) ⌝ }
     ensures { λ r. ⌜ ((letter : ℕ) → r ≡ length (sheetLine (letter ∷ []) (now (numbers .entry))) + 1) × (r ≤ 86) ⌝ }
 {
-    2 + writer::numbers_length(numbers)
+    2 + number_lines::numbers_length(numbers)
 }
 
 fn write_line(out: &mut [u8], letter: u8, numbers: &[u64]) -> usize
@@ -41,7 +42,7 @@ fn write_line(out: &mut [u8], letter: u8, numbers: &[u64]) -> usize
 {
     out[0] = letter;
     out[1] = TAB;
-    2 + writer::write_numbers(&mut out[2..], numbers, TAB)
+    2 + number_lines::write_numbers(&mut out[2..], numbers, TAB)
 }
 
 // What the line of the type at place i says: version, number, seconds, count.
@@ -52,7 +53,7 @@ fn type_numbers(book: &[Row], i: usize) -> [u64; 4]
     let row = book::row_at(book, Table::VehicleType, i);
     let version = row[0];
     let number = row[1];
-    let sums = book::blocks_summed(book, version, number);
+    let sums = questions::blocks_summed(book, version, number);
     [version, number, sums.seconds, sums.count]
 }
 
@@ -127,7 +128,7 @@ pub fn day_sheet(verdict: Verdict, book: &[Row], out: &mut [u8]) -> Written
 {
     match verdict {
         Verdict::Accepted => {
-            if !book::keeps_rule(book) {
+            if !keeping::keeps_rule(book) {
                 return writer::unwritten(Check::bad_loan());
             }
             write_sheet(book, out)

@@ -1,5 +1,1 @@
-pub mod Asking
-pub mod Numbers
-pub mod Granting
 pub mod Posting
-pub mod Days

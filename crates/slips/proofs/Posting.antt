@@ -1,29 +1,30 @@
 -- The lines of a slip one behind the other, and the slip as a whole: all of it, or the book as it was. Assumes nothing.
-use mathlib.Core.Path.{_≡_, refl, sym, ap, _∙_}
+use mathlib.Core.Path.{_≡_, sym, ap, _∙_, refl}
 use mathlib.Core.List.{List, []}
 use mathlib.Core.Bool.{Bool, true, false, _&&_, not}
 use Prim.Native.Nat.{ℕ, _+_, _-_, _≤_, _<_}
-use native.Mathlib.Numerals.{add-one}
 use native.Mathlib.Omega.{arith}
-use lib.ListN.{length, take, drop}
+use native.Mathlib.Numerals.{add-one}
+use lib.ListN.{take, drop, length}
 use borrow.Author.Tests.{eq-eqb, ne-eqb, lt-ltb, le-ltb}
 use Rattle.words.specs.Words.{Bytes, Row}
-use Rattle.refusals.specs.Verdicts.{_when_, placed, nowhere, textTooLong, badLoan}
+use Rattle.refusals.specs.Verdicts.{placed, _when_, nowhere, textTooLong, badLoan}
 use Rattle.refusals.specs.declared.Place.{Place}
 use Rattle.refusals.specs.declared.Check.{Check}
 use Rattle.refusals.specs.declared.Check.the-variants.{Passes, Fails}
+use Rattle.refusals.specs.declared.Verdict.the-variants.{Refused, Accepted}
 use Rattle.refusals.specs.declared.Verdict.{Verdict}
-use Rattle.refusals.specs.declared.Verdict.the-variants.{Accepted, Refused}
-use Rattle.text.specs.Lines.{slipLines}
-use Rattle.text.specs.declared.Line.{Line}
-use Rattle.text.proofs.Lining.{LineFrom, slip-lines-none}
+use Rattle.refusals.proofs.Placing.{placed-passes}
+use Rattle.lines.specs.Lines.{slipLines}
+use Rattle.lines.specs.declared.Line.{Line}
+use Rattle.lines.proofs.Lining.{LineFrom, slip-lines-none}
 use Rattle.rows.specs.Room.{filled}
 use Rattle.book.specs.Book.{Book}
+use Rattle.book.specs.Result.{refused, unless, leaves, Result}
 use Rattle.book.specs.Room.{bookOf}
-use Rattle.book.specs.Keeping.{keepsRule}
-use Rattle.reading.specs.Reading.{Result, refused, leaves, unless}
-use Rattle.reading.proofs.Taking.{placed-passes}
-use Rattle.slips.specs.Slips.{slipCheck, slipLeaves, linesPosted, posting}
+use Rattle.keeping.specs.Keeping.{keepsRule}
+use Rattle.block_change.specs.Change.{slipCheck, slipLeaves}
+use Rattle.slips.specs.Slips.{linesPosted, posting}
 use Rattle.slips.specs.Taking.{behind}
 use Rattle.slips.specs.Calls.{outcome, workSized, cleared, slipOutcome, slipCall}
 
@@ -33,7 +34,6 @@ placed-refused t i Passes p e f = let z : _≡_ {A = ℕ} 0 1 = cc in omega arit
 placed-refused t i (Fails n k) p e f = let z : _≡_ {A = ℕ} 0 1 = cc in omega arith
 
 -- line by line --------------------------------------------------------------------------------------------------------------------
-
 module _ (s : Bytes) (at : ℕ) (here : Line) (from : LineFrom slipLines s at here) (i : ℕ) (b : Book) where
   abbrev lineHere : Bytes
   lineHere = take (here .end - at) (drop at s)
@@ -65,7 +65,6 @@ unfolding linesPosted
 lines-end s at i b h = ap (λ (ls : List Bytes). linesPosted i ls b) (slip-lines-none s at h)
 
 -- the whole slip --------------------------------------------------------------------------------------------------------------------
-
 module _ (s : Bytes) (xs work : List Row) where
   -- all lines, or the book as it was
   pub whole : (b b′ : Book) (v : Verdict) (ys : List Row) → b ≡ bookOf xs → unless v (leaves b′) ≡ linesPosted 1 (slipLines s) b → ys ≡ behind v b′ xs

@@ -1,4 +1,4 @@
--- Correction slips, to be read in this order.
+-- Correction slips, each taken whole or not at all, to be read in this order.
 pub mod Slips
 pub mod Taking
 pub mod Calls

@@ -1,36 +1,28 @@
 -- The figures of the tables: what the constant tables hold is what the definition lists, and the bounds that callers need. Assumes nothing.
 use mathlib.Core.Path.{_≡_, refl, ap, sym, _∙_}
-use mathlib.Core.List.{List, [], _∷_}
 use mathlib.Core.Bool.{Bool, true, false, _&&_}
-use Prim.Native.Nat.{ℕ, zero, suc, _+_, _≤_, _<_}
+use mathlib.Core.List.{List, [], _∷_}
+use Prim.Native.Nat.{_<_, ℕ, zero, suc, _≤_}
 use native.Mathlib.Omega.{arith}
-use lib.Dec.{leb, lit≤}
-use lib.ListN.{length, take, getD, List·getD-eq-default}
+use lib.Dec.{lit≤, leb}
+use lib.ListN.{length, getD, take}
 use lib.Seq.{getD-take}
 use borrow.Author.Tests.{leb-true}
 use Rattle.words.proofs.Lists.{every, every-at, and-left, and-right}
 use Rattle.tables.specs.declared.Table.{Table}
 use Rattle.tables.specs.declared.Table.the-variants.{VehicleType, Depot, Stop, StopPoint, Block}
+use Rattle.tables.specs.Parts.{partOf}
+use Rattle.tables.specs.Columns.{references, ref, columnsOf, keyWidth, keptWidth, columnAt, version, Column, noColumn}
 use Rattle.tables.specs.declared.Sort.{Sort}
 use Rattle.tables.specs.declared.Sort.the-variants.{Decimal, Text}
-use Rattle.tables.specs.Columns.{Column, columnsOf, columnAt, noColumn, version, keyWidth, keptWidth, partOf, references, ref}
 
 -- the code's tables -----------------------------------------------------------------------------------------------------------
-
 pub part-below : (t : Table) → partOf t < 5
 part-below VehicleType = lit≤ tt
 part-below Depot = lit≤ tt
 part-below Stop = lit≤ tt
 part-below StopPoint = lit≤ tt
 part-below Block = lit≤ tt
-
--- a table's figure stands in its part
-pub figured : (f : Table → ℕ) (t : Table) → getD (f VehicleType ∷ f Depot ∷ f Stop ∷ f StopPoint ∷ f Block ∷ []) (partOf t) 0 ≡ f t
-figured f VehicleType = refl
-figured f Depot = refl
-figured f Stop = refl
-figured f StopPoint = refl
-figured f Block = refl
 
 -- only stop points and blocks have references
 pub reference-of-point : (t : Table) (i : ℕ) → (t ≡ Block → ⊥) → i < length (references t) → getD (references StopPoint) 0 (ref 0 VehicleType) ≡ getD (references t) i (ref 0 VehicleType)
@@ -41,12 +33,7 @@ reference-of-point StopPoint zero n h = refl
 reference-of-point StopPoint (suc i) n h = absurd (omega arith)
 reference-of-point Block i n h = absurd (n refl)
 
--- past the last column there is none
-pub past-the-last : (t : Table) (i : ℕ) → length (columnsOf t) ≤ i → noColumn .rules ≡ columnAt t i .rules
-past-the-last t i h = ap (λ (x : Column). x .rules) (sym (List·getD-eq-default (columnsOf t) noColumn {n = i} h))
-
 -- bounds ----------------------------------------------------------------------------------------------------------------------
-
 pub columns-few : (t : Table) → length (columnsOf t) ≤ 11
 unfolding columnsOf
 columns-few VehicleType = lit≤ tt
@@ -80,11 +67,7 @@ kept-columns Block = lit≤ tt
 pub kept-few : (t : Table) → keptWidth t ≤ 11
 kept-few t = omega (arith, kept-columns t, columns-few t)
 
-pub keys-columns : (t : Table) → keyWidth t ≤ length (columnsOf t)
-keys-columns t = omega (arith, keys-kept t, kept-columns t)
-
 -- the columns' rules ------------------------------------------------------------------------------------------------------------
-
 -- VERSION comes first, from 1 on
 pub first-version : (t : Table) → columnAt t 0 ≡ version
 unfolding columnsOf

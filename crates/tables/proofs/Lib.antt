@@ -1,3 +1,5 @@
 pub mod Figures
+pub mod Listing
 pub mod Names
-pub mod Values
+pub mod Parts
+pub mod References

@@ -1,19 +1,17 @@
 -- The tables of columns.
-use mathlib.Core.List.{List, [], _∷_, _++_}
-use mathlib.Core.Bool.{Bool, true, false, _&&_, _||_, not}
-use Prim.Native.Nat.{ℕ, zero, suc, _+_, _-_, _^_}
+use mathlib.Core.Bool.{false, true, _||_, Bool, _&&_}
+use mathlib.Core.List.{List, [], _∷_}
+use Prim.Native.Nat.{ℕ, _-_, _^_, suc}
 use Prim.Native.String.{String}
-use lib.Dec.{leb, eqb}
-use lib.ListN.{length, getD}
-use Rattle.words.specs.Words.{Bytes, if_then_else_, bytes, same}
-use Rattle.text.specs.Numbers.{isDecimal, value}
+use lib.Dec.{eqb, leb}
+use lib.ListN.{getD}
+use Rattle.words.specs.Words.{Bytes, bytes, if_then_else_, same}
+use Rattle.tables.specs.declared.Rules.{Rules}
+use Rattle.tables.specs.declared.Sort.the-variants.{Decimal, Text}
 use Rattle.tables.specs.declared.Table.{Table}
 use Rattle.tables.specs.declared.Table.the-variants.{VehicleType, Depot, Stop, StopPoint, Block}
 use Rattle.tables.specs.declared.Named.{Named}
 use Rattle.tables.specs.declared.Named.the-variants.{Known, Unknown}
-use Rattle.tables.specs.declared.Sort.{Sort}
-use Rattle.tables.specs.declared.Sort.the-variants.{Decimal, Text}
-use Rattle.tables.specs.declared.Rules.{Rules}
 use Rattle.tables.specs.declared.Reference.{Reference}
 
 -- a column's names, and what its cells must keep to
@@ -124,14 +122,6 @@ keptWidth Stop = 2
 keptWidth StopPoint = 3
 keptWidth Block = 11
 
--- which part of the book is the table's, counted from 0
-abbrev pub partOf : Table → ℕ
-partOf VehicleType = 0
-partOf Depot = 1
-partOf Stop = 2
-partOf StopPoint = 3
-partOf Block = 4
-
 -- a column and the table in which its number stands, "each together with VERSION"
 abbrev pub ref : ℕ → Table → Reference
 ref k t = record { column = k; to = t }
@@ -146,7 +136,6 @@ references StopPoint = ref 2 Stop ∷ []
 references Block = ref 3 Depot ∷ ref 5 VehicleType ∷ ref 6 Stop ∷ ref 7 StopPoint ∷ ref 9 Stop ∷ ref 10 StopPoint ∷ []
 
 -- names --------------------------------------------------------------------------------------------------------------------
-
 -- the number of the column of that name, the first of the list being number k; 0 for an unknown one
 unfoldable pub columnFrom : ℕ → List Column → Bytes → ℕ
 columnFrom k [] name = 0
@@ -157,21 +146,10 @@ unfoldable pub columnNumber : Table → Bytes → ℕ
 columnNumber t name = columnFrom 1 (columnsOf t) name
 
 -- contents -----------------------------------------------------------------------------------------------------------------
-
 abbrev pub inRange : Rules → ℕ → Bool
 inRange x n = leb (x .low) n && leb n (x .high)
 
--- content that is not empty, by the column's sort
-abbrev pub fits : Sort → Rules → Bytes → Bool
-fits Decimal x s = isDecimal (x .width) s && inRange x (value s)
-fits Text x s = leb (length s) (x .width)
-
--- 8: "cell empty where required, not digits, too long, out of range"
-abbrev pub breaks : Rules → Bytes → Bool
-breaks x s = if eqb (length s) 0 then x .required else not (fits (x .sort) x s)
-
 -- asked by number ----------------------------------------------------------------------------------------------------------
-
 -- the column at place i, counted from 0; past the last there is none
 abbrev pub noColumn : Column
 noColumn = c 0 ""

@@ -1,2 +1,4 @@
+-- The tables of a delivery, their figures and their columns, to be read in this order.
 pub mod Columns
-pub mod Values
+pub mod Parts
+pub mod Listing

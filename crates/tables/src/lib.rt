@@ -1,18 +1,20 @@
-// The tables of a delivery and their columns.
+// The tables of a delivery, their figures and their columns.
 ghost use mathlib.Core.Path.{_≡_};
-ghost use mathlib.Core.Bool.{Bool, true, false};
-ghost use mathlib.Core.List.{List};
-ghost use Prim.Native.Nat.{ℕ, _+_, _≤_, _<_};
+ghost use Prim.Native.Nat.{_<_};
+ghost use lib.ListN.{getD, length};
 ghost use lib.Dec.{eqb};
-ghost use lib.ListN.{length, getD};
-ghost use Rattle.words.specs.Words.{if_then_else_, same};
-ghost use Rattle.text.specs.Cells.{content};
-ghost use Rattle.text.specs.Numbers.{decimalOf};
-ghost use Rattle.tables.specs.Columns.{columnsOf, columnAt, columnNumber, number, keyWidth, keptWidth, partOf, numbered, references, ref, inRange};
-ghost use Rattle.tables.specs.Values.{valueOf, checkOf};
-use refusals::Check;
+ghost use Rattle.words.specs.Words.{if_then_else_};
+ghost use Rattle.tables.specs.Columns.{columnAt, references, ref, columnsOf, number, keyWidth, keptWidth, numbered};
+ghost use Rattle.tables.specs.Listing.{listed, figuresOf};
+ghost use Rattle.tables.specs.Parts.{tables, room, begin};
 use refusals::Place;
-use text::Digits;
+use rows::ROWS;
+
+// A column as six numbers.
+pub type Column = [u64; 6];
+
+// The columns of a table, with room for twelve: handed out once for a table, and lent on.
+pub type Columns = [Column; 12];
 
 pub enum Table {
     VehicleType,
@@ -44,6 +46,16 @@ pub struct Rules {
     pub required: bool,
 }
 
+// What a table is counted by: its number in places, how many columns it has, how many of them are its key, how many numbers of a row the book
+// keeps, and how many references a row has.
+pub struct TableFigures {
+    pub number: u64,
+    pub columns: usize,
+    pub keys: usize,
+    pub kept: usize,
+    pub references: usize,
+}
+
 // A column whose number, together with VERSION, is the key of a row in another table; of a stop point together with its stop's number, one
 // column before.
 pub struct Reference {
@@ -51,200 +63,90 @@ pub struct Reference {
     pub to: Table,
 }
 
-// What content is to a column: a number, a text, nothing, or against its rules.
-pub enum Value {
-    Number(u64),
-    Text,
-    Empty,
-    Bad,
-}
+// The columns of the tables. Each line is a column: its sort (0 decimal, 1 text), its width, the lowest and the highest number it takes, then 1 for a
+// key and 1 for a required column.
+pub const VERSION: Column = [0, 2, 1, 99, 1, 1];
 
-// The names of the columns, as the header of a text has them.
-pub const VERSION: [u8; 7] = *b"VERSION";
+// Of a stop and of a stop point.
+pub const STOP_NR: Column = [0, 5, 1, 99999, 1, 1];
 
-pub const VEH_TYPE_NR: [u8; 11] = *b"VEH_TYPE_NR";
+// Behind a table's last column.
+const NO_COLUMN: Column = [1, 0, 0, 0, 0, 0];
 
-pub const VEH_TYPE_SEATS: [u8; 14] = *b"VEH_TYPE_SEATS";
+const VEHICLE_TYPE_COLUMNS: Columns = [
+    VERSION,
+    [0, 8, 0, 99999999, 1, 1], // VEH_TYPE_NR
+    [0, 3, 0, 999, 0, 0], // VEH_TYPE_SEATS
+    [0, 3, 0, 999, 0, 0], // VEH_TYPE_STRAPS
+    [0, 3, 0, 999, 0, 0], // PLACES_FOR_DISABLED_PERSONS
+    [1, 40, 0, 0, 0, 0], // VEH_TYPE_TEXT
+    [1, 4, 0, 0, 0, 0], // STR_VEH_TYPE
+    [0, 4, 0, 9999, 0, 0], // VEH_TYPE_DOOR_WIDTH
+    [0, 4, 0, 9999, 0, 0], // VEH_TYPE_WIDTH
+    [0, 4, 0, 9999, 0, 0], // VEH_TYPE_HEIGHT
+    [0, 1, 0, 2, 0, 0], // VEH_TYPE_ACCESS_EQUIP
+    NO_COLUMN,
+];
 
-pub const VEH_TYPE_STRAPS: [u8; 15] = *b"VEH_TYPE_STRAPS";
+const DEPOT_COLUMNS: Columns = [
+    VERSION,
+    [0, 5, 0, 99999, 1, 1], // DEPOT_NR
+    NO_COLUMN,
+    NO_COLUMN,
+    NO_COLUMN,
+    NO_COLUMN,
+    NO_COLUMN,
+    NO_COLUMN,
+    NO_COLUMN,
+    NO_COLUMN,
+    NO_COLUMN,
+    NO_COLUMN,
+];
 
-pub const PLACES_FOR_DISABLED_PERSONS: [u8; 27] = *b"PLACES_FOR_DISABLED_PERSONS";
+const STOP_COLUMNS: Columns = [
+    VERSION,
+    STOP_NR,
+    [1, 50, 0, 0, 0, 1], // STOP_NAME
+    NO_COLUMN,
+    NO_COLUMN,
+    NO_COLUMN,
+    NO_COLUMN,
+    NO_COLUMN,
+    NO_COLUMN,
+    NO_COLUMN,
+    NO_COLUMN,
+    NO_COLUMN,
+];
 
-pub const HANDICAP_PLACES: [u8; 15] = *b"HANDICAP_PLACES";
+const STOP_POINT_COLUMNS: Columns = [
+    VERSION,
+    STOP_NR,
+    [0, 2, 0, 99, 1, 1], // STOPPING_POINT_NR
+    NO_COLUMN,
+    NO_COLUMN,
+    NO_COLUMN,
+    NO_COLUMN,
+    NO_COLUMN,
+    NO_COLUMN,
+    NO_COLUMN,
+    NO_COLUMN,
+    NO_COLUMN,
+];
 
-pub const VEH_TYPE_TEXT: [u8; 13] = *b"VEH_TYPE_TEXT";
-
-pub const STR_VEH_TYPE: [u8; 12] = *b"STR_VEH_TYPE";
-
-pub const VEH_TYPE_DOOR_WIDTH: [u8; 19] = *b"VEH_TYPE_DOOR_WIDTH";
-
-pub const VEH_TYPE_WIDTH: [u8; 14] = *b"VEH_TYPE_WIDTH";
-
-pub const VEH_TYPE_HEIGHT: [u8; 15] = *b"VEH_TYPE_HEIGHT";
-
-pub const VEH_TYPE_ACCESS_EQUIP: [u8; 21] = *b"VEH_TYPE_ACCESS_EQUIP";
-
-pub const DEPOT_NR: [u8; 8] = *b"DEPOT_NR";
-
-pub const STOP_NR: [u8; 7] = *b"STOP_NR";
-
-pub const STOP_NAME: [u8; 9] = *b"STOP_NAME";
-
-pub const STOPPING_POINT_NR: [u8; 17] = *b"STOPPING_POINT_NR";
-
-pub const DAY_TYPE_NR: [u8; 11] = *b"DAY_TYPE_NR";
-
-pub const BLOCK_NR: [u8; 8] = *b"BLOCK_NR";
-
-pub const VEH_TYP_NR: [u8; 10] = *b"VEH_TYP_NR";
-
-pub const DEP_STOP_NR: [u8; 11] = *b"DEP_STOP_NR";
-
-pub const DEP_STOPPING_POINT_NR: [u8; 21] = *b"DEP_STOPPING_POINT_NR";
-
-pub const BEGIN_OF_BLOCK: [u8; 14] = *b"BEGIN_OF_BLOCK";
-
-pub const ARR_STOP_NR: [u8; 11] = *b"ARR_STOP_NR";
-
-pub const ARR_STOPPING_POINT_NR: [u8; 21] = *b"ARR_STOPPING_POINT_NR";
-
-pub const END_OF_BLOCK: [u8; 12] = *b"END_OF_BLOCK";
-
-// What columns must keep to: D decimal or C text, and its width; KEY, as which it is required too; REQUIRED.
-const VERSION_KEY: Rules = Rules {
-    sort: Sort::Decimal,
-    width: 2,
-    low: 1,
-    high: 99,
-    key: true,
-    required: true,
-};
-
-const STOP_KEY: Rules = Rules {
-    sort: Sort::Decimal,
-    width: 5,
-    low: 1,
-    high: 99999,
-    key: true,
-    required: true,
-};
-
-const D2_KEY: Rules = Rules {
-    sort: Sort::Decimal,
-    width: 2,
-    low: 0,
-    high: 99,
-    key: true,
-    required: true,
-};
-
-const D5_KEY: Rules = Rules {
-    sort: Sort::Decimal,
-    width: 5,
-    low: 0,
-    high: 99999,
-    key: true,
-    required: true,
-};
-
-const D8_KEY: Rules = Rules {
-    sort: Sort::Decimal,
-    width: 8,
-    low: 0,
-    high: 99999999,
-    key: true,
-    required: true,
-};
-
-const D9_KEY: Rules = Rules {
-    sort: Sort::Decimal,
-    width: 9,
-    low: 0,
-    high: 999999999,
-    key: true,
-    required: true,
-};
-
-const D2_REQUIRED: Rules = Rules {
-    sort: Sort::Decimal,
-    width: 2,
-    low: 0,
-    high: 99,
-    key: false,
-    required: true,
-};
-
-const D6_REQUIRED: Rules = Rules {
-    sort: Sort::Decimal,
-    width: 6,
-    low: 0,
-    high: 999999,
-    key: false,
-    required: true,
-};
-
-const D3: Rules = Rules {
-    sort: Sort::Decimal,
-    width: 3,
-    low: 0,
-    high: 999,
-    key: false,
-    required: false,
-};
-
-const D4: Rules = Rules {
-    sort: Sort::Decimal,
-    width: 4,
-    low: 0,
-    high: 9999,
-    key: false,
-    required: false,
-};
-
-const ACCESS_EQUIP: Rules = Rules {
-    sort: Sort::Decimal,
-    width: 1,
-    low: 0,
-    high: 2,
-    key: false,
-    required: false,
-};
-
-const C4: Rules = Rules {
-    sort: Sort::Text,
-    width: 4,
-    low: 0,
-    high: 0,
-    key: false,
-    required: false,
-};
-
-const C40: Rules = Rules {
-    sort: Sort::Text,
-    width: 40,
-    low: 0,
-    high: 0,
-    key: false,
-    required: false,
-};
-
-const C50_REQUIRED: Rules = Rules {
-    sort: Sort::Text,
-    width: 50,
-    low: 0,
-    high: 0,
-    key: false,
-    required: true,
-};
-
-const NO_COLUMN: Rules = Rules {
-    sort: Sort::Text,
-    width: 0,
-    low: 0,
-    high: 0,
-    key: false,
-    required: false,
-};
+const BLOCK_COLUMNS: Columns = [
+    VERSION,
+    [0, 9, 0, 999999999, 1, 1], // DAY_TYPE_NR
+    [0, 5, 0, 99999, 1, 1], // DEPOT_NR
+    [0, 8, 0, 99999999, 1, 1], // BLOCK_NR
+    [0, 2, 0, 99, 0, 1], // VEH_TYP_NR
+    [0, 6, 0, 999999, 0, 1], // DEP_STOP_NR
+    [0, 2, 0, 99, 0, 1], // DEP_STOPPING_POINT_NR
+    [0, 6, 0, 999999, 0, 1], // BEGIN_OF_BLOCK
+    [0, 6, 0, 999999, 0, 1], // ARR_STOP_NR
+    [0, 2, 0, 99, 0, 1], // ARR_STOPPING_POINT_NR
+    [0, 6, 0, 999999, 0, 1], // END_OF_BLOCK
+    NO_COLUMN,
+];
 
 // The references: the column, counted from 1, and the table in which its number stands.
 const STOP_POINT_REFERENCES: [Reference; 1] = [Reference {
@@ -279,74 +181,22 @@ const BLOCK_REFERENCES: [Reference; 6] = [
     },
 ];
 
-// The columns of the tables. No array holds them: read at a variable place, a constant array is laid out anew each time.
-fn type_rules(i: usize) -> Rules
-    ensures { λ r. ⌜ r ≡ columnAt Table.VehicleType i .rules ⌝ }
-{
-    match i {
-        0 => VERSION_KEY,
-        1 => D8_KEY,
-        2 => D3,
-        3 => D3,
-        4 => D3,
-        5 => C40,
-        6 => C4,
-        7 => D4,
-        8 => D4,
-        9 => D4,
-        10 => ACCESS_EQUIP,
-        _ => NO_COLUMN,
-    }
-}
+// How many rows a lent book has: the rooms of all tables.
+pub const BOOK_ROWS: usize = 5 * ROWS;
 
-fn depot_rules(i: usize) -> Rules
-    ensures { λ r. ⌜ r ≡ columnAt Table.Depot i .rules ⌝ }
+// What the cells of the column at place i, counted from 0, must keep to, of the columns that a table handed out.
+pub fn rules_at(columns: &Columns, i: usize) -> Rules
+    requires { ⌜ i < 12 ⌝ }
+    ensures { λ r. ⌜ ((t : Table) → now (columns .entry) ≡ listed t → r ≡ columnAt t i .rules) ⌝ }
 {
-    match i {
-        0 => VERSION_KEY,
-        1 => D5_KEY,
-        _ => NO_COLUMN,
-    }
-}
-
-fn stop_rules(i: usize) -> Rules
-    ensures { λ r. ⌜ r ≡ columnAt Table.Stop i .rules ⌝ }
-{
-    match i {
-        0 => VERSION_KEY,
-        1 => STOP_KEY,
-        2 => C50_REQUIRED,
-        _ => NO_COLUMN,
-    }
-}
-
-fn stop_point_rules(i: usize) -> Rules
-    ensures { λ r. ⌜ r ≡ columnAt Table.StopPoint i .rules ⌝ }
-{
-    match i {
-        0 => VERSION_KEY,
-        1 => STOP_KEY,
-        2 => D2_KEY,
-        _ => NO_COLUMN,
-    }
-}
-
-fn block_rules(i: usize) -> Rules
-    ensures { λ r. ⌜ r ≡ columnAt Table.Block i .rules ⌝ }
-{
-    match i {
-        0 => VERSION_KEY,
-        1 => D9_KEY,
-        2 => D5_KEY,
-        3 => D8_KEY,
-        4 => D2_REQUIRED,
-        5 => D6_REQUIRED,
-        6 => D2_REQUIRED,
-        7 => D6_REQUIRED,
-        8 => D6_REQUIRED,
-        9 => D2_REQUIRED,
-        10 => D6_REQUIRED,
-        _ => NO_COLUMN,
+    let column = columns[i];
+    Rules {
+        sort: Sort::of(column[0]),
+        width: column[1] as usize,
+        low: column[2],
+        high: column[3],
+        key: column[4] == 1,
+        required: column[5] == 1,
     }
 }
 
@@ -364,117 +214,53 @@ fn block_reference(i: usize) -> Reference
     }
 }
 
-fn same_bytes(a: &[u8], b: &[u8]) -> bool
-    ensures { λ r. ⌜ r ≡ same (now (a .entry)) (now (b .entry)) ⌝ }
-{
-    if a.len() != b.len() {
-        return false;
-    }
-    let mut i = 0;
-    'bytes: while i < a.len() {
-        if a[i] != b[i] {
-            return false;
-        }
-        i += 1;
-    }
-    true
-}
-
-// The column's number where the name is its text, else the other number.
-fn or(name: &[u8], text: &[u8], column: usize, other: usize) -> usize
-    ensures { λ r. ⌜ r ≡ (if same (now (name .entry)) (now (text .entry)) then column else other) ⌝ }
-{
-    if same_bytes(name, text) {
-        column
-    } else {
-        other
-    }
-}
-
-fn type_column(name: &[u8]) -> usize
-    ensures { λ r. ⌜ r ≡ columnNumber Table.VehicleType (now (name .entry)) ⌝ }
-{
-    let mut r = 0;
-    r = or(name, &VEH_TYPE_ACCESS_EQUIP, 11, r);
-    r = or(name, &VEH_TYPE_HEIGHT, 10, r);
-    r = or(name, &VEH_TYPE_WIDTH, 9, r);
-    r = or(name, &VEH_TYPE_DOOR_WIDTH, 8, r);
-    r = or(name, &STR_VEH_TYPE, 7, r);
-    r = or(name, &VEH_TYPE_TEXT, 6, r);
-    r = or(name, &HANDICAP_PLACES, 5, r);
-    r = or(name, &PLACES_FOR_DISABLED_PERSONS, 5, r);
-    r = or(name, &VEH_TYPE_STRAPS, 4, r);
-    r = or(name, &VEH_TYPE_SEATS, 3, r);
-    r = or(name, &VEH_TYPE_NR, 2, r);
-    r = or(name, &VERSION, 1, r);
-    r
-}
-
-fn depot_column(name: &[u8]) -> usize
-    ensures { λ r. ⌜ r ≡ columnNumber Table.Depot (now (name .entry)) ⌝ }
-{
-    let mut r = 0;
-    r = or(name, &DEPOT_NR, 2, r);
-    r = or(name, &VERSION, 1, r);
-    r
-}
-
-fn stop_column(name: &[u8]) -> usize
-    ensures { λ r. ⌜ r ≡ columnNumber Table.Stop (now (name .entry)) ⌝ }
-{
-    let mut r = 0;
-    r = or(name, &STOP_NAME, 3, r);
-    r = or(name, &STOP_NR, 2, r);
-    r = or(name, &VERSION, 1, r);
-    r
-}
-
-fn stop_point_column(name: &[u8]) -> usize
-    ensures { λ r. ⌜ r ≡ columnNumber Table.StopPoint (now (name .entry)) ⌝ }
-{
-    let mut r = 0;
-    r = or(name, &STOPPING_POINT_NR, 3, r);
-    r = or(name, &STOP_NR, 2, r);
-    r = or(name, &VERSION, 1, r);
-    r
-}
-
-fn block_column(name: &[u8]) -> usize
-    ensures { λ r. ⌜ r ≡ columnNumber Table.Block (now (name .entry)) ⌝ }
-{
-    let mut r = 0;
-    r = or(name, &END_OF_BLOCK, 11, r);
-    r = or(name, &ARR_STOPPING_POINT_NR, 10, r);
-    r = or(name, &ARR_STOP_NR, 9, r);
-    r = or(name, &BEGIN_OF_BLOCK, 8, r);
-    r = or(name, &DEP_STOPPING_POINT_NR, 7, r);
-    r = or(name, &DEP_STOP_NR, 6, r);
-    r = or(name, &VEH_TYPE_NR, 5, r);
-    r = or(name, &VEH_TYP_NR, 5, r);
-    r = or(name, &BLOCK_NR, 4, r);
-    r = or(name, &DEPOT_NR, 3, r);
-    r = or(name, &DAY_TYPE_NR, 2, r);
-    r = or(name, &VERSION, 1, r);
-    r
-}
-
 impl Table {
-    // The figures of each table, by the table's part in the book.
-    pub const NUMBER: [u64; 5] = [
-        Place::VEHICLE_TYPE,
-        Place::DEPOT,
-        Place::STOP,
-        Place::STOP_POINT,
-        Place::VEHICLE_BLOCK,
-    ];
+    // How many numbers a key has: VERSION and the number of a type, depot or stop; of a stop point its stop's too; of a block four.
+    pub const PAIR_KEY: usize = 2;
 
-    pub const COLUMNS: [usize; 5] = [11, 2, 3, 3, 11];
+    pub const POINT_KEY: usize = 3;
 
-    pub const KEYS: [usize; 5] = [2, 2, 2, 3, 4];
+    pub const BLOCK_KEY: usize = 4;
 
-    pub const KEPT: [usize; 5] = [2, 2, 2, 3, 11];
+    pub const VEHICLE_TYPE: TableFigures = TableFigures {
+        number: Place::VEHICLE_TYPE,
+        columns: 11,
+        keys: Table::PAIR_KEY,
+        kept: Table::PAIR_KEY,
+        references: 0,
+    };
 
-    pub const REFERENCES: [usize; 5] = [0, 0, 0, 1, 6];
+    pub const DEPOT: TableFigures = TableFigures {
+        number: Place::DEPOT,
+        columns: 2,
+        keys: Table::PAIR_KEY,
+        kept: Table::PAIR_KEY,
+        references: 0,
+    };
+
+    pub const STOP: TableFigures = TableFigures {
+        number: Place::STOP,
+        columns: 3,
+        keys: Table::PAIR_KEY,
+        kept: Table::PAIR_KEY,
+        references: 0,
+    };
+
+    pub const STOP_POINT: TableFigures = TableFigures {
+        number: Place::STOP_POINT,
+        columns: 3,
+        keys: Table::POINT_KEY,
+        kept: Table::POINT_KEY,
+        references: 1,
+    };
+
+    pub const BLOCK: TableFigures = TableFigures {
+        number: Place::VEHICLE_BLOCK,
+        columns: 11,
+        keys: Table::BLOCK_KEY,
+        kept: 11,
+        references: 6,
+    };
 
     // The constructor by number.
     pub fn numbered(n: u64) -> Named
@@ -490,91 +276,59 @@ impl Table {
         }
     }
 
-    pub fn part(self) -> usize
-        ensures { λ r. ⌜ r ≡ partOf self ⌝ }
+    pub fn figures(self) -> TableFigures
+        ensures { λ r. ⌜ r ≡ figuresOf self ⌝ }
     {
         match self {
-            Table::VehicleType => 0,
-            Table::Depot => 1,
-            Table::Stop => 2,
-            Table::StopPoint => 3,
-            Table::Block => 4,
-        }
-    }
-
-    // Of the figures, one for each part of the book, the table's own.
-    fn figure(self, figures: [usize; 5]) -> usize
-        ensures { λ r. ⌜ r ≡ getD figures (partOf self) 0 ⌝ }
-    {
-        match self {
-            Table::VehicleType => figures[0],
-            Table::Depot => figures[1],
-            Table::Stop => figures[2],
-            Table::StopPoint => figures[3],
-            Table::Block => figures[4],
+            Table::VehicleType => Table::VEHICLE_TYPE,
+            Table::Depot => Table::DEPOT,
+            Table::Stop => Table::STOP,
+            Table::StopPoint => Table::STOP_POINT,
+            Table::Block => Table::BLOCK,
         }
     }
 
     pub fn number(self) -> u64
         ensures { λ r. ⌜ r ≡ number self ⌝ }
     {
-        match self {
-            Table::VehicleType => Table::NUMBER[0],
-            Table::Depot => Table::NUMBER[1],
-            Table::Stop => Table::NUMBER[2],
-            Table::StopPoint => Table::NUMBER[3],
-            Table::Block => Table::NUMBER[4],
-        }
+        self.figures().number
     }
 
     pub fn columns(self) -> usize
         ensures { λ r. ⌜ r ≡ length (columnsOf self) ⌝ }
     {
-        self.figure(Table::COLUMNS)
+        self.figures().columns
     }
 
     pub fn keys(self) -> usize
         ensures { λ r. ⌜ r ≡ keyWidth self ⌝ }
     {
-        self.figure(Table::KEYS)
+        self.figures().keys
     }
 
     pub fn kept(self) -> usize
         ensures { λ r. ⌜ r ≡ keptWidth self ⌝ }
     {
-        self.figure(Table::KEPT)
-    }
-
-    // What the cells of the column at place i, counted from 0, must keep to; past the last column nothing is asked of them.
-    pub fn rules(self, i: usize) -> Rules
-        ensures { λ r. ⌜ r ≡ columnAt self i .rules ⌝ }
-    {
-        match self {
-            Table::VehicleType => type_rules(i),
-            Table::Depot => depot_rules(i),
-            Table::Stop => stop_rules(i),
-            Table::StopPoint => stop_point_rules(i),
-            Table::Block => block_rules(i),
-        }
-    }
-
-    // The number of the column of that name, counted from 1, or 0.
-    pub fn column_of(self, name: &[u8]) -> usize
-        ensures { λ r. ⌜ r ≡ columnNumber self (now (name .entry)) ⌝ }
-    {
-        match self {
-            Table::VehicleType => type_column(name),
-            Table::Depot => depot_column(name),
-            Table::Stop => stop_column(name),
-            Table::StopPoint => stop_point_column(name),
-            Table::Block => block_column(name),
-        }
+        self.figures().kept
     }
 
     pub fn references(self) -> usize
         ensures { λ r. ⌜ r ≡ length (references self) ⌝ }
     {
-        self.figure(Table::REFERENCES)
+        self.figures().references
+    }
+
+    // What the cells of each column must keep to. A constant is laid out where it is named: this is asked once for a table.
+    pub fn column_rules(self) -> Columns
+        ensures { λ r. ⌜ r ≡ listed self ⌝ }
+    {
+        match self {
+            Table::VehicleType => VEHICLE_TYPE_COLUMNS,
+            Table::Depot => DEPOT_COLUMNS,
+            Table::Stop => STOP_COLUMNS,
+            Table::StopPoint => STOP_POINT_COLUMNS,
+            Table::Block => BLOCK_COLUMNS,
+        }
     }
 
     pub fn reference(self, i: usize) -> Reference
@@ -588,93 +342,58 @@ impl Table {
     }
 }
 
-impl Rules {
-    // Empty content is nothing, unless the column is required.
-    fn of_nothing(self) -> Value
-        ensures { λ r. ⌜ r ≡ (if self .required then Value.Bad else Value.Empty) ⌝ }
+impl Sort {
+    // The sort of a column, by its first number.
+    fn of(n: u64) -> Sort
+        ensures { λ r. ⌜ r ≡ (if eqb n 0 then Sort.Decimal else Sort.Text) ⌝ }
     {
-        if self.required {
-            Value::Bad
-        } else {
-            Value::Empty
-        }
-    }
-
-    fn of_number(self, n: u64) -> Value
-        ensures { λ r. ⌜ r ≡ (if inRange self n then Value.Number n else Value.Bad) ⌝ }
-    {
-        if n < self.low {
-            return Value::Bad;
-        }
-        if self.high < n {
-            return Value::Bad;
-        }
-        Value::Number(n)
-    }
-
-    // What content is to a decimal column, by its length and by what it is read as.
-    fn of_digits(self, count: usize, digits: Digits) -> Value
-        ensures { λ r. ⌜ ((s : List ℕ) → self .sort ≡ Sort.Decimal → count ≡ length s → digits ≡ decimalOf (self .width) s → r ≡ valueOf self s) ⌝ }
-    {
-        if count == 0 {
-            return self.of_nothing();
-        }
-        match digits {
-            Digits::Other => Value::Bad,
-            Digits::Value(n) => self.of_number(n),
-        }
-    }
-
-    // What content is to a text column, by its length.
-    fn of_text(self, count: usize) -> Value
-        ensures { λ r. ⌜ ((s : List ℕ) → self .sort ≡ Sort.Text → count ≡ length s → r ≡ valueOf self s) ⌝ }
-    {
-        if count == 0 {
-            return self.of_nothing();
-        }
-        if self.width < count {
-            return Value::Bad;
-        }
-        Value::Text
-    }
-
-    // What a cell of the column holds, by its content.
-    pub fn of_cell(self, cell: &[u8]) -> Value
-        requires { ⌜ (self .sort ≡ Sort.Decimal → self .width ≤ 19) ⌝ }
-        ensures { λ r. ⌜ r ≡ valueOf self (content (now (cell .entry))) ⌝ }
-    {
-        let count = text::content_length(cell);
-        let sort = self.sort;
-        match sort {
-            Sort::Decimal => self.of_digits(count, text::number_in(cell, self.width)),
-            Sort::Text => self.of_text(count),
-        }
-    }
-
-    // What a field of a slip line holds: bytes that are never quoted.
-    pub fn of_field(self, field: &[u8]) -> Value
-        requires { ⌜ (self .sort ≡ Sort.Decimal → self .width ≤ 19) ⌝ }
-        ensures { λ r. ⌜ r ≡ valueOf self (now (field .entry)) ⌝ }
-    {
-        let count = field.len();
-        let sort = self.sort;
-        match sort {
-            Sort::Decimal => self.of_digits(count, text::number_of(field, self.width)),
-            Sort::Text => self.of_text(count),
-        }
+        if n == 0 { Sort::Decimal } else { Sort::Text }
     }
 }
 
-impl Value {
-    // The check of a value at a column.
-    pub fn check(self, column: u64) -> Check
-        ensures { λ r. ⌜ r ≡ checkOf column self ⌝ }
+impl Table {
+    // How many tables there are.
+    pub const COUNT: usize = 5;
+
+    // How many rows each table has room for, and where its part of the book begins: behind the rooms of the tables before it.
+    pub const ROOM: [usize; 5] = [ROWS, ROWS, ROWS, ROWS, ROWS];
+
+    pub const BEGIN: [usize; 5] = [0, ROWS, 2 * ROWS, 3 * ROWS, 4 * ROWS];
+
+    pub fn room(self) -> usize
+        ensures { λ r. ⌜ r ≡ room self ⌝ }
     {
         match self {
-            Value::Number(_) => Check::Passes,
-            Value::Text => Check::Passes,
-            Value::Empty => Check::Passes,
-            Value::Bad => Check::cell_fault(column),
+            Table::VehicleType => Table::ROOM[0],
+            Table::Depot => Table::ROOM[1],
+            Table::Stop => Table::ROOM[2],
+            Table::StopPoint => Table::ROOM[3],
+            Table::Block => Table::ROOM[4],
+        }
+    }
+
+    pub fn begin(self) -> usize
+        ensures { λ r. ⌜ r ≡ begin self ⌝ }
+    {
+        match self {
+            Table::VehicleType => Table::BEGIN[0],
+            Table::Depot => Table::BEGIN[1],
+            Table::Stop => Table::BEGIN[2],
+            Table::StopPoint => Table::BEGIN[3],
+            Table::Block => Table::BEGIN[4],
+        }
+    }
+
+    // The table at place i of the order of reading, counted from 0; past the last one it is the last.
+    pub fn in_order(i: usize) -> Table
+        ensures { λ r. ⌜ r ≡ getD tables i Table.Block ⌝ }
+    {
+        match i {
+            0 => Table::VehicleType,
+            1 => Table::Depot,
+            2 => Table::Stop,
+            3 => Table::StopPoint,
+            _ => Table::Block,
         }
     }
 }

@@ -1,16 +1,15 @@
 -- Laws on lists that more than one crate cites. Assumes nothing.
-use mathlib.Core.Path.{_≡_, refl, ap, sym, _∙_}
-use mathlib.Core.List.{List, [], _∷_, _++_, map, map-append, append-assoc, append-nil}
-use mathlib.Core.Bool.{Bool, true, false, _&&_}
-use Prim.Native.Nat.{ℕ, zero, suc, _+_, _-_, _≤_, _<_}
+use mathlib.Core.Path.{_≡_, refl, ap, _∙_}
+use mathlib.Core.List.{List, _∷_, [], _++_, append-nil, append-assoc, map, map-append}
+use mathlib.Core.Bool.{true, Bool, false, _&&_}
+use Prim.Native.Nat.{ℕ, _+_, _<_, suc, zero, _-_, _≤_}
 use native.Mathlib.Numerals.{add-one}
 use native.Mathlib.Omega.{arith}
+use lib.ListN.{length, drop, getD, take, replicate, set, length-replicate, drop-of-length-le, length-map, length-take, length-drop}
+use lib.Seq.{drop-cons, set-at, take-suc, length-take-le, take-all}
 use lib.Dec.{eqb}
-use lib.ListN.{length, take, drop, getD, set, replicate, length-map, length-replicate, drop-of-length-le}
-use lib.Seq.{drop-cons, set-at, take-suc, take-all, length-take-le}
-use borrow.Author.Tests.{eq-eqb, ne-eqb, eqb-true}
-use native.Mathlib.Nat.{add-zero, add-suc, suc-add}
-use Rattle.words.specs.Words.{same, if_then_else_}
+use borrow.Author.Tests.{eq-eqb, eqb-true, ne-eqb}
+use Rattle.words.specs.Words.{same, Bytes}
 
 -- one step along a list
 pub drop-step : {A : Type 0} (d : A) (s : List A) (i : ℕ) → i < length s → drop i s ≡ getD s i d ∷ drop (i + 1) s
@@ -20,10 +19,6 @@ drop-step d s i h = rw (add-one, drop-cons s i d)
 pub take-seam : {A : Type 0} (c r : List A) → take (length c) (c ++ r) ≡ c
 take-seam [] r = refl
 take-seam (x ∷ xs) r = ap (λ (l : List _). x ∷ l) (take-seam xs r)
-
-pub drop-seam : {A : Type 0} (p r : List A) → drop (length p) (p ++ r) ≡ r
-drop-seam [] r = refl
-drop-seam (x ∷ xs) r = drop-seam xs r
 
 -- `same` is equality
 pub same-refl : (xs : List ℕ) → same xs xs ≡ true
@@ -81,16 +76,6 @@ every-at f d [] h e i = h
 every-at f d (x ∷ xs) h e zero = and-left (f x) (every f xs) e
 every-at f d (x ∷ xs) h e (suc i) = every-at f d xs h (and-right (f x) (every f xs) e) i
 
--- the values of a function at n places, from place i on
-abbrev pub listed : {A : Type 0} → (ℕ → A) → ℕ → ℕ → List A
-listed f i zero = []
-listed f i (suc n) = f i ∷ listed f (suc i) n
-
-pub getD-listed : {A : Type 0} (f : ℕ → A) (d : A) (n i k : ℕ) → k < n → getD (listed f i n) k d ≡ f (i + k)
-getD-listed f d zero i k h = absurd (omega arith)
-getD-listed f d (suc n) i zero h = rw add-zero
-getD-listed f d (suc n) i (suc k) h = rw (getD-listed f d n (suc i) k (omega arith), suc-add, add-suc)
-
 -- a list that is overwritten from its front: by one element, and from another list
 replicate-snoc : {A : Type 0} (z : A) (i : ℕ) (ys : List A) → replicate i z ++ (z ∷ ys) ≡ z ∷ (replicate i z ++ ys)
 replicate-snoc z zero ys = refl
@@ -127,3 +112,22 @@ map-set f a z xs m i h g =
     let e : m - i ≡ suc (m - (i + 1)) = omega arith in
     let s : length (map f (take i xs)) ≡ i = length-map (take i xs) f ∙ length-take-le i xs l in
     rw (e, set-at (map f (take i xs)) z (replicate (m - (i + 1)) z) (f (getD xs i a)) i s, add-one i, take-suc xs i a h, map-append f (take i xs) (getD xs i a ∷ []), append-assoc)
+
+-- cells, each with a byte behind it ----------------------------------------------------------------------------------------
+unfoldable pub ended : ℕ → List Bytes → Bytes
+ended sep [] = []
+ended sep (c ∷ cs) = c ++ (sep ∷ ended sep cs)
+
+-- zeros behind the numbers: past their end a list reads as 0 too
+getD-zeros : (n i : ℕ) → _≡_ {A = ℕ} (getD (replicate n 0) i 0) 0
+getD-zeros zero i = refl
+getD-zeros (suc n) zero = refl
+getD-zeros (suc n) (suc i) = getD-zeros n i
+
+pub getD-padded : (xs : List ℕ) (n i : ℕ) → getD (xs ++ replicate n 0) i 0 ≡ getD xs i 0
+getD-padded [] n i = getD-zeros n i
+getD-padded (x ∷ xs) n zero = refl
+getD-padded (x ∷ xs) n (suc i) = getD-padded xs n i
+
+pub part-length : (s : Bytes) (a e : ℕ) → e ≤ length s → length (take (e - a) (drop a s)) ≡ e - a
+part-length s a e l = simp (length-take, length-drop) (omega arith)

@@ -1,25 +1,25 @@
 -- What a call that writes a text answers: 16, 14, or the text at the head of the output. Assumes nothing.
-use Prim.Native.Nat.{ℕ, _+_, _*_, _-_, _≤_, _<_}
-use native.Mathlib.Omega.{arith}
-use mathlib.Core.Path.{_≡_, refl, ap, sym, _∙_}
+use mathlib.Core.Path.{_≡_, sym, refl, ap, _∙_}
 use mathlib.Core.Bool.{Bool, true, false, not}
 use mathlib.Core.List.{List, [], _∷_, _++_, append-assoc, map}
+use Prim.Native.Nat.{ℕ, _≤_, _<_, _+_}
+use native.Mathlib.Omega.{arith}
 use lib.Dec.{ltb}
-use lib.ListN.{length, take, drop, length-append}
+use lib.ListN.{length, length-append, take}
 use borrow.Author.Tests.{lt-ltb, le-ltb}
-use Rattle.words.specs.Words.{Bytes, Row, bytes}
-use Rattle.refusals.specs.Verdicts.{_when_, _before_, nowhere, badLoan, outputShort}
+use Rattle.words.specs.Words.{Bytes, bytes, Row}
+use Rattle.refusals.specs.Verdicts.{_when_, nowhere, outputShort, _before_, badLoan}
 use Rattle.refusals.specs.declared.Verdict.{Verdict}
 use Rattle.refusals.specs.declared.Verdict.the-variants.{Accepted}
-use Rattle.text.specs.Fields.{parted}
-use Rattle.tables.specs.Columns.{columnsOf, partOf}
-use Rattle.tables.specs.declared.Table.the-variants.{Block}
+use Rattle.cells.specs.Cells.{parted}
+use Rattle.numbers.specs.Putting.{put}
 use Rattle.rows.proofs.Room.{used-take}
+use Rattle.tables.specs.Columns.{columnsOf}
+use Rattle.tables.specs.declared.Table.the-variants.{Block}
 use Rattle.book.specs.Room.{part, bookOf}
-use Rattle.book.specs.Keeping.{keepsRule}
-use Rattle.book.proofs.Laying.{part-lent}
+use Rattle.keeping.specs.Keeping.{keepsRule}
+use Rattle.writer.specs.Calls.{outcome, wrote, Outcome, writeCall}
 use Rattle.writer.specs.Writing.{linesWritten, namesLine, rowLine, written}
-use Rattle.writer.specs.Calls.{Outcome, outcome, put, wrote, writeCall}
 
 module _ (s out : Bytes) (size : ℕ) (long : size ≡ length s) where
   -- 14
@@ -53,17 +53,15 @@ unfolding columnsOf parted bytes
 header-length = refl
 
 -- the blocks are the first rows of their part
-blocks-lent : (xs : List Row) (from n : ℕ) → from ≡ partOf Block * 512 → n ≡ length (bookOf xs .blocks)
-    → take n (take (from + 512 - from) (drop from xs)) ≡ bookOf xs .blocks
-blocks-lent xs from n e en = rw (part-lent Block xs from e, en) (used-take (part 4 xs))
+blocks-lent : (xs lent : List Row) (n : ℕ) → lent ≡ part Block xs → n ≡ length (bookOf xs .blocks) → take n lent ≡ bookOf xs .blocks
+blocks-lent xs lent n e en = rw (e, en) (used-take (part Block xs))
 
 -- so what is written of their part is what the call answers
 abbrev answered : List Row → Bytes → Outcome
 answered ls out =
     wrote (nowhere (outputShort when ltb (length out) (length (linesWritten (namesLine ∷ map rowLine ls))))) (linesWritten (namesLine ∷ map rowLine ls)) out
 
-pub blocks-written : (xs : List Row) (out : Bytes) (from n : ℕ) → from ≡ partOf Block * 512 → n ≡ length (bookOf xs .blocks) → keepsRule xs ≡ true
-    → answered (take n (take (from + 512 - from) (drop from xs))) out ≡ writeCall xs out
-blocks-written xs out from n e en k =
-    ap (λ (ls : List Row). answered ls out) (blocks-lent xs from n e en)
+pub blocks-written : (xs lent : List Row) (out : Bytes) (n : ℕ) → lent ≡ part Block xs → n ≡ length (bookOf xs .blocks) → keepsRule xs ≡ true → answered (take n lent) out ≡ writeCall xs out
+blocks-written xs lent out n e en k =
+    ap (λ (ls : List Row). answered ls out) (blocks-lent xs lent n e en)
     ∙ good-book (keepsRule xs) (nowhere (outputShort when ltb (length out) (length (written (bookOf xs))))) (written (bookOf xs)) out k

@@ -1,15 +1,16 @@
 -- What the write call answers, and what the lent output holds behind it.
-use mathlib.Core.List.{List, _++_}
-use mathlib.Core.Bool.{Bool, true, false, not}
+use mathlib.Core.List.{List}
+use mathlib.Core.Bool.{not}
 use Prim.Native.Nat.{ℕ}
+use lib.ListN.{length}
 use lib.Dec.{ltb}
-use lib.ListN.{length, drop}
 use Rattle.words.specs.Words.{Bytes, Row}
-use Rattle.refusals.specs.Verdicts.{_when_, _before_, nowhere, badLoan, outputShort}
 use Rattle.refusals.specs.declared.Verdict.{Verdict}
 use Rattle.refusals.specs.declared.Verdict.the-variants.{Accepted, Refused}
+use Rattle.refusals.specs.Verdicts.{_when_, _before_, nowhere, badLoan, outputShort}
+use Rattle.numbers.specs.Putting.{put}
 use Rattle.book.specs.Room.{bookOf}
-use Rattle.book.specs.Keeping.{keepsRule}
+use Rattle.keeping.specs.Keeping.{keepsRule}
 use Rattle.writer.specs.Writing.{written}
 
 -- a verdict, the text's length, and what the lent output holds
@@ -20,10 +21,6 @@ pub record Outcome : Type 0 where
 
 abbrev pub outcome : Verdict → ℕ → Bytes → Outcome
 outcome v n out = record { verdict = v; size = n; out = out }
-
--- a text at the head of a buffer: "Bytes behind the text stay."
-abbrev pub put : Bytes → Bytes → Bytes
-put s out = s ++ drop (length s) out
 
 -- "The answer is the text's length, 0 if refused."
 abbrev pub wrote : Verdict → Bytes → Bytes → Outcome

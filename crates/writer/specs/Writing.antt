@@ -1,9 +1,8 @@
 -- The vehicle_block writer.
 use mathlib.Core.List.{List, [], _∷_, _++_, map}
-use Prim.Native.Nat.{ℕ}
 use Rattle.words.specs.Words.{Bytes, Row}
-use Rattle.text.specs.Numbers.{decimal}
-use Rattle.text.specs.Fields.{parted}
+use Rattle.cells.specs.Cells.{parted}
+use Rattle.numbers.specs.Numbers.{decimal}
 use Rattle.tables.specs.Columns.{columnsOf}
 use Rattle.tables.specs.declared.Table.the-variants.{Block}
 use Rattle.book.specs.Book.{Book}

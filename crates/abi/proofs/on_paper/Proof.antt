@@ -1,5 +1,5 @@
 -- A verdict on paper. Assumes nothing.
-use mathlib.Core.Path.{_≡_, sym, ap}
+use mathlib.Core.Path.{sym, ap}
 use borrow.Author.Needs.{needs}
 use Rattle.refusals.specs.Verdicts.{paper}
 use Rattle.abi.proofs.on_paper.Statement.{statement}

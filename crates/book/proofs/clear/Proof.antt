@@ -1,7 +1,7 @@
 -- `book::clear` meets its contract: every row is zero, in four parts as in one. Assumes nothing.
-use Rattle.book.proofs.Laying as laying
 use mathlib.Core.Path.{_∙_}
 use borrow.Author.Needs.{needs}
+use Rattle.book.proofs.Laying as laying
 use Rattle.book.proofs.clear.Statement.{statement}
 use Rattle.book.proofs.clear.Tie as tie
 

@@ -4,10 +4,10 @@ use mathlib.Core.List.{List, _++_}
 use Prim.Native.Nat.{_-_, _≤_}
 use native.Mathlib.Omega.{arith}
 use lib.ListN.{length, drop, set, replicate, length-set}
-use Rattle.words.specs.Words.{Row}
-use Rattle.rows.specs.Room.{zeros}
-use Rattle.words.proofs.Lists as lists
 use borrow.Author.Needs.{needs}
+use Rattle.words.specs.Words.{Row}
+use Rattle.words.proofs.Lists as lists
+use Rattle.rows.specs.Room.{zeros}
 use Rattle.rows.proofs.clear.Statement.{statement}
 use Rattle.rows.proofs.clear.Tie as tie
 

@@ -1,26 +1,22 @@
 -- `rows::compare` meets its contract: from place i on the order is still to be told. Assumes nothing.
-use mathlib.Core.Path.{_≡_, sym, _∙_}
+use mathlib.Core.Path.{_≡_, refl, sym, _∙_}
 use Prim.Native.Nat.{_-_, _≤_}
 use native.Mathlib.Omega.{arith}
-use Rattle.rows.specs.Rows.{keyOrder, orderFrom}
-use Rattle.rows.proofs.Keys as keys
 use borrow.Author.Needs.{needs}
+use Rattle.rows.specs.Rows.{keyOrder, orderFrom}
+use Rattle.rows.specs.declared.Order.the-variants.{Same}
+use Rattle.rows.proofs.Keys as keys
 use Rattle.rows.proofs.compare.Statement.{statement}
 use Rattle.rows.proofs.compare.Tie as tie
 
 abbrev Inv-keys : tie.InvT-keys
-Inv-keys a b k left right i₀ i = (i ≤ k) × (i ≤ 11) × (keyOrder k a b ≡ orderFrom (k - i) i a b)
+Inv-keys a b k left right order₀ i₀ order i = (i ≤ k) × (i ≤ 11) × (keyOrder k a b ≡ orderFrom (k - i) i a b) × (order ≡ Same)
 
 abbrev μ-keys : tie.MeasureT-keys
-μ-keys a b k left right i₀ i = 11 - i
+μ-keys a b k left right order₀ i₀ order i = 11 - i
 
 keys-holds : tie.Need-keys-holds Inv-keys μ-keys
-keys-holds c = (search needs, search needs, (let k = c .before .before .args .k in let e : k - 0 ≡ k = omega arith in rw e))
-
-returns : tie.Need-returns Inv-keys μ-keys
-returns c =
-    let at = c .before .before in
-    sym (at .keys .inv .2 ∙ keys.order-none _ _ _ _ (omega arith))
+keys-holds c = (search needs, search needs, (let k = c .before .before .args .k in let e : k - 0 ≡ k = omega arith in rw e), refl)
 
 mul-x : tie.Need-mul-x Inv-keys μ-keys
 mul-x c = search needs
@@ -34,16 +30,6 @@ mul-y c = search needs
 shared-slice-read-y : tie.Need-shared-slice-read-y Inv-keys μ-keys
 shared-slice-read-y c = search needs
 
-returns-2 : tie.Need-returns-2 Inv-keys μ-keys
-returns-2 c =
-    let at = c .before .before .before .before .before in
-    sym (at .keys .inv .2 ∙ keys.next-lt _ _ _ _ (omega arith) (c .if2 .taken))
-
-returns-3 : tie.Need-returns-3 Inv-keys μ-keys
-returns-3 c =
-    let at = c .before .before .before .before .before .before in
-    sym (at .keys .inv .2 ∙ keys.next-gt _ _ _ _ (omega arith) (c .if3 .taken))
-
 add-i : tie.Need-add-i Inv-keys μ-keys
 add-i c = search needs
 
@@ -53,12 +39,27 @@ keys-less c = search needs
 keys-again : tie.Need-keys-again Inv-keys μ-keys
 keys-again c =
     let at = c .before .before .before .before .before .before in
-    (search needs, search needs, at .keys .inv .2 ∙ keys.next-eq _ _ _ _ (omega arith) (omega arith))
+    (search needs, search needs, at .keys .inv .2 ∙ keys.next-eq _ _ _ _ (omega arith) (omega arith), at .keys .inv .3)
+
+returns : tie.Need-returns Inv-keys μ-keys
+returns c =
+    let at = c .before in
+    at .keys .inv .3 ∙ sym (at .keys .inv .2 ∙ keys.order-end _ _ _ _ (omega (arith, c .before .before .before .left .given .0)) (omega (arith, c .before .before .right .given .0)))
+
+returns-2 : tie.Need-returns-2 Inv-keys μ-keys
+returns-2 c =
+    let at = c .before .before in
+    at .keys .inv .3 ∙ sym (at .keys .inv .2 ∙ keys.order-none _ _ _ _ (omega arith))
+
+returns-3 : tie.Need-returns-3 Inv-keys μ-keys
+returns-3 c =
+    let at = c .before .before .before .before .before in
+    sym (at .keys .inv .2 ∙ keys.next-lt _ _ _ _ (omega arith) (c .if2 .taken))
 
 returns-4 : tie.Need-returns-4 Inv-keys μ-keys
 returns-4 c =
-    let at = c .before in
-    sym (at .keys .inv .2 ∙ keys.order-end _ _ _ _ (omega (arith, c .before .before .before .left .given .0)) (omega (arith, c .before .before .right .given .0)))
+    let at = c .before .before .before .before .before .before in
+    sym (at .keys .inv .2 ∙ keys.next-gt _ _ _ _ (omega arith) (c .if3 .taken))
 
 pub compare-spec : {M : Type 1} → statement M
 compare-spec =
@@ -67,14 +68,14 @@ compare-spec =
     Inv-keys
     μ-keys
     keys-holds
-    returns
     mul-x
     shared-slice-read-x
     mul-y
     shared-slice-read-y
-    returns-2
-    returns-3
     add-i
     keys-less
     keys-again
+    returns
+    returns-2
+    returns-3
     returns-4)

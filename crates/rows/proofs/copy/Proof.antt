@@ -4,9 +4,9 @@ use mathlib.Core.List.{List, [], _++_}
 use Prim.Native.Nat.{_-_, _≤_}
 use native.Mathlib.Omega.{arith}
 use lib.ListN.{length, getD, take, drop, set, length-set}
+use borrow.Author.Needs.{needs}
 use Rattle.words.specs.Words.{Row}
 use Rattle.words.proofs.Lists as lists
-use borrow.Author.Needs.{needs}
 use Rattle.rows.proofs.copy.Statement.{statement}
 use Rattle.rows.proofs.copy.Tie as tie
 

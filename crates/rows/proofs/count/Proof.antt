@@ -2,9 +2,9 @@
 use Prim.Native.Nat.{_+_, _-_, _/_, _≤_, _<_}
 use native.Mathlib.Omega.{arith}
 use lib.ListN.{length}
+use borrow.Author.Needs.{needs}
 use Rattle.rows.specs.Room.{used}
 use Rattle.rows.proofs.Room as room
-use borrow.Author.Needs.{needs}
 use Rattle.rows.proofs.count.Statement.{statement}
 use Rattle.rows.proofs.count.Tie as tie
 

@@ -3,9 +3,9 @@ use mathlib.Core.Path.{_≡_}
 use Prim.Native.Nat.{_+_, _-_, _≤_}
 use native.Mathlib.Omega.{arith}
 use lib.ListN.{length, drop}
+use borrow.Author.Needs.{needs}
 use Rattle.rows.specs.Room.{used}
 use Rattle.rows.proofs.Room as room
-use borrow.Author.Needs.{needs}
 use Rattle.rows.proofs.first_unused.Statement.{statement}
 use Rattle.rows.proofs.first_unused.Tie as tie
 
@@ -27,12 +27,6 @@ index-1-if1 c = search needs
 index-2-if1 : tie.Need-index-2-if1 Inv-rows μ-rows
 index-2-if1 c = search needs
 
-returns : tie.Need-returns Inv-rows μ-rows
-returns c =
-    let at = c .before .before .before in
-    let xs = at .before .args .list .now in
-    omega (arith, at .rows .inv .1, room.used-stop xs (at .rows .i) (search needs) (c .if1 .taken))
-
 add-i : tie.Need-add-i Inv-rows μ-rows
 add-i c = search needs
 
@@ -45,11 +39,17 @@ rows-again c =
     let xs = at .before .args .list .now in
     (search needs, omega (arith, at .rows .inv .1, room.used-more xs (at .rows .i) (search needs) (c .if1 .left)))
 
-returns-2 : tie.Need-returns-2 Inv-rows μ-rows
-returns-2 c =
+returns : tie.Need-returns Inv-rows μ-rows
+returns c =
     let at = c .before in
     let xs = at .before .args .list .now in
     omega (arith, at .rows .inv .1, room.used-end xs (at .rows .i) (search needs))
+
+returns-2 : tie.Need-returns-2 Inv-rows μ-rows
+returns-2 c =
+    let at = c .before .before .before in
+    let xs = at .before .args .list .now in
+    omega (arith, at .rows .inv .1, room.used-stop xs (at .rows .i) (search needs) (c .if1 .taken))
 
 pub first-unused-spec : {M : Type 1} → statement M
 first-unused-spec =
@@ -61,8 +61,8 @@ first-unused-spec =
     mul-if1
     index-1-if1
     index-2-if1
-    returns
     add-i
     rows-less
     rows-again
+    returns
     returns-2)

@@ -2,8 +2,8 @@
 use mathlib.Core.Path.{sym, _∙_}
 use native.Mathlib.Omega.{arith}
 use borrow.Author.Tests.{not-true, not-false}
-use Rattle.rows.proofs.Room as room
 use borrow.Author.Needs.{needs}
+use Rattle.rows.proofs.Room as room
 use Rattle.rows.proofs.holding.Statement.{statement}
 use Rattle.rows.proofs.holding.Tie as tie
 

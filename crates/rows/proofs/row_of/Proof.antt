@@ -2,12 +2,13 @@
 use mathlib.Core.Path.{_≡_, sym, _∙_}
 use Prim.Native.Nat.{_<_}
 use lib.ListN.{length}
+use borrow.Author.Needs.{needs}
 use Rattle.rows.specs.declared.Spot.the-variants.{At}
-use Rattle.rows.specs.Room.{used, spot}
+use Rattle.rows.specs.Room.{used}
+use Rattle.rows.specs.Spots.{spot}
 use Rattle.rows.proofs.Room.{used-within}
 use Rattle.rows.proofs.Places as places
 use Rattle.rows.proofs.Changes as changes
-use borrow.Author.Needs.{needs}
 use Rattle.rows.proofs.row_of.Statement.{statement}
 use Rattle.rows.proofs.row_of.Tie as tie
 

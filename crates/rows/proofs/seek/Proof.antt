@@ -1,12 +1,11 @@
 -- `rows::seek` meets its contract: low and high bracket the place among the used rows. Assumes nothing.
 use mathlib.Core.Path.{_≡_, sym, _∙_}
 use Prim.Native.Nat.{_+_, _-_, _/_, _≤_}
-use native.Mathlib.Omega.{arith}
 use lib.ListN.{length}
+use borrow.Author.Needs.{needs}
 use Rattle.rows.specs.Room.{used}
 use Rattle.rows.proofs.Room.{used-within}
 use Rattle.rows.proofs.Places as places
-use borrow.Author.Needs.{needs}
 use Rattle.rows.proofs.seek.Statement.{statement}
 use Rattle.rows.proofs.seek.Tie as tie
 

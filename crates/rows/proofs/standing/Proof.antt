@@ -1,8 +1,8 @@
 -- `rows::standing` meets its contract: a key stands where its place is taken. Assumes nothing.
 use mathlib.Core.Path.{sym, ap, _∙_}
+use borrow.Author.Needs.{needs}
 use Rattle.rows.specs.Room.{used}
 use Rattle.rows.proofs.Places as places
-use borrow.Author.Needs.{needs}
 use Rattle.rows.proofs.standing.Statement.{statement}
 use Rattle.rows.proofs.standing.Tie as tie
 

@@ -7,7 +7,7 @@ use Rattle.refusals.specs.Verdicts.{nowhere}
 use Rattle.refusals.specs.declared.Check.{Check}
 use Rattle.refusals.specs.declared.Verdict.{Verdict}
 use Rattle.book.specs.Room.{bookOf}
-use Rattle.book.specs.Keeping.{keepsRule}
+use Rattle.keeping.specs.Keeping.{keepsRule}
 use Rattle.writer.proofs.Answers.{bad-book, good-book}
 use Rattle.sheet.specs.Sheet.{sheetText}
 use Rattle.sheet.specs.Calls.{shortFor, sheetCall}

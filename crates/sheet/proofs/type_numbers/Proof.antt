@@ -1,9 +1,9 @@
 -- `sheet::type_numbers` meets its contract: the type's row, and the sums of its blocks. Assumes nothing.
-use borrow.Author.Needs.{needs}
-use lib.ListN.{getD}
 use mathlib.Core.List.{[]}
+use lib.ListN.{getD}
+use borrow.Author.Needs.{needs}
 use Rattle.book.specs.Room.{bookOf}
-use Rattle.book.proofs.Keeping.{keeps-sound}
+use Rattle.keeping.proofs.Keeping.{keeps-sound}
 use Rattle.sheet.proofs.Lines.{type-line-is}
 use Rattle.sheet.proofs.type_numbers.Statement.{statement}
 use Rattle.sheet.proofs.type_numbers.Tie as tie

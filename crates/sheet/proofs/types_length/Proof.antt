@@ -1,13 +1,14 @@
 -- `sheet::types_length` meets its contract. The invariant: the lines of the types passed, each with its line feed. Assumes nothing.
-use Prim.Native.Nat.{_*_, _-_, _≤_}
 use mathlib.Core.Path.{_≡_, refl, sym, ap, _∙_}
-use mathlib.Core.List.{List, [], map}
+use mathlib.Core.List.{[], map}
+use Prim.Native.Nat.{_*_, _-_, _≤_}
 use native.Mathlib.Omega.{arith}
-use borrow.Author.Needs.{needs}
 use lib.ListN.{length, take}
 use lib.Seq.{take-all}
-use Rattle.words.specs.Words.{Row, bytes}
-use Rattle.text.proofs.Writing.{ended, ended-more-length}
+use borrow.Author.Needs.{needs}
+use Rattle.words.specs.Words.{bytes}
+use Rattle.words.proofs.Lists.{ended}
+use Rattle.cells.proofs.Joining.{ended-more-length}
 use Rattle.book.specs.Room.{bookOf}
 use Rattle.writer.proofs.RowLines.{lines-ended}
 use Rattle.sheet.specs.Sheet.{typeLine}

@@ -1,10 +1,10 @@
 -- `sheet::write_line` meets its contract: a letter, a tab, and the numbers in the rest that is lent. Assumes nothing.
-use Prim.Native.Nat.{_+_, _≤_}
 use mathlib.Core.Path.{_∙_}
+use Prim.Native.Nat.{_≤_}
 use native.Mathlib.Omega.{arith}
-use borrow.Author.Needs.{needs}
 use lib.ListN.{length, set, length-set}
-use Rattle.writer.proofs.Putting.{length-rest, length-back}
+use borrow.Author.Needs.{needs}
+use Rattle.numbers.proofs.Putting.{length-rest, length-back}
 use Rattle.sheet.proofs.Lines.{line-length-is, line-written}
 use Rattle.sheet.proofs.write_line.Statement.{statement}
 use Rattle.sheet.proofs.write_line.Tie as tie

@@ -1,15 +1,14 @@
 -- `sheet::write_refusal` meets its contract: one line. Assumes nothing.
-use Prim.Native.Nat.{_+_}
 use mathlib.Core.Path.{_≡_, sym, ap, _∙_}
 use mathlib.Core.List.{[], _∷_}
 use native.Mathlib.Omega.{arith}
-use borrow.Author.Needs.{needs}
 use lib.ListN.{length, length-append}
+use borrow.Author.Needs.{needs}
 use Rattle.words.specs.Words.{Bytes, bytes}
 use Rattle.refusals.specs.Verdicts.{nowhere}
 use Rattle.refusals.specs.declared.Check.{Check}
 use Rattle.refusals.specs.declared.Place.{Place}
-use Rattle.writer.specs.Calls.{put}
+use Rattle.numbers.specs.Putting.{put}
 use Rattle.writer.proofs.Answers.{too-short, all-written}
 use Rattle.sheet.specs.Sheet.{sheetLine, refusalText}
 use Rattle.sheet.proofs.Lines.{line-alone}

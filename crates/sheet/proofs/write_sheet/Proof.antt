@@ -1,19 +1,19 @@
 -- `sheet::write_sheet` meets its contract: the lines of the types, and behind them the sums. Assumes nothing.
-use Prim.Native.Nat.{_+_}
 use mathlib.Core.Path.{_≡_, sym, ap, _∙_}
 use mathlib.Core.List.{[], _∷_, _++_, map}
+use Prim.Native.Nat.{_+_}
 use native.Mathlib.Omega.{arith}
-use borrow.Author.Needs.{needs}
 use lib.ListN.{length}
+use borrow.Author.Needs.{needs}
 use Rattle.words.specs.Words.{Bytes, bytes}
 use Rattle.refusals.specs.Verdicts.{nowhere}
 use Rattle.refusals.specs.declared.Check.{Check}
+use Rattle.numbers.specs.Putting.{put}
+use Rattle.numbers.proofs.Putting.{rest, lent, length-rest}
 use Rattle.book.specs.Book.{Book}
 use Rattle.book.specs.Room.{bookOf}
-use Rattle.book.proofs.Keeping.{keeps-sound}
+use Rattle.keeping.proofs.Keeping.{keeps-sound}
 use Rattle.writer.specs.Writing.{linesWritten}
-use Rattle.writer.specs.Calls.{put}
-use Rattle.writer.proofs.Putting.{rest, lent, length-rest}
 use Rattle.writer.proofs.Answers.{too-short, all-written}
 use Rattle.sheet.specs.Sheet.{sheetLine, typeLine, sumLine, sheetText}
 use Rattle.sheet.proofs.Lines.{sum-line-is, sheet-is, sheet-length}

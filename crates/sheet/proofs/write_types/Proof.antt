@@ -1,17 +1,19 @@
 -- `sheet::write_types` meets its contract. The invariant: the lines of the types passed, each with its line feed, are put at the head. Assumes nothing.
-use Prim.Native.Nat.{_+_, _-_, _≤_}
 use mathlib.Core.Path.{_≡_, refl, sym, ap, _∙_}
 use mathlib.Core.List.{List, [], _∷_, _++_, map}
+use Prim.Native.Nat.{_+_, _-_, _≤_}
 use native.Mathlib.Omega.{arith}
-use borrow.Author.Needs.{needs}
 use lib.ListN.{length, take, getD}
 use lib.Seq.{take-all}
+use borrow.Author.Needs.{needs}
 use Rattle.words.specs.Words.{Bytes, bytes}
-use Rattle.text.proofs.Writing.{ended, ended-more-length, ended-room}
+use Rattle.words.proofs.Lists.{ended}
+use Rattle.cells.proofs.Joining.{ended-more-length, ended-room}
+use Rattle.numbers.specs.Putting.{put}
+use Rattle.numbers.proofs.Putting.{rest, length-rest, length-back}
 use Rattle.book.specs.Room.{bookOf}
-use Rattle.writer.specs.Calls.{put}
-use Rattle.writer.proofs.Putting.{rest, length-rest, length-back}
-use Rattle.writer.proofs.RowLines.{lent-more, lines-ended}
+use Rattle.number_lines.proofs.RowLines.{lent-more}
+use Rattle.writer.proofs.RowLines.{lines-ended}
 use Rattle.sheet.specs.Sheet.{typeLine, sheetLine}
 use Rattle.sheet.proofs.write_types.Statement.{statement}
 use Rattle.sheet.proofs.write_types.Tie as tie

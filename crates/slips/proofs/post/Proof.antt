@@ -5,8 +5,8 @@ use borrow.Author.Needs.{needs}
 use Rattle.refusals.specs.Verdicts.{placed}
 use Rattle.tables.specs.declared.Table.the-variants.{StopPoint}
 use Rattle.book.specs.Room.{bookOf}
-use Rattle.book.proofs.Keeping.{keeps-sound, keeps-rows}
-use Rattle.book.proofs.Points.{points-named}
+use Rattle.keeping.proofs.Keeping.{keeps-sound, keeps-rows}
+use Rattle.keeping.proofs.Points.{points-named}
 use Rattle.slips.proofs.Posting.{call-unruled, call-long, call-lines}
 use Rattle.slips.proofs.post.Statement.{statement}
 use Rattle.slips.proofs.post.Tie as tie

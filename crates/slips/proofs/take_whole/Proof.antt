@@ -4,6 +4,9 @@ use Rattle.slips.proofs.Posting.{whole}
 use Rattle.slips.proofs.take_whole.Statement.{statement}
 use Rattle.slips.proofs.take_whole.Tie as tie
 
+column-rules-requires : tie.Need-column-rules-requires
+column-rules-requires c κs = search needs
+
 slice-aggregate-shelve : tie.Need-slice-aggregate-shelve
 slice-aggregate-shelve c = search needs
 
@@ -30,14 +33,15 @@ same-length-2 c = search needs
 
 returns : tie.Need-returns
 returns c =
-    let st = c .before .before .before .before .before .before .before .before .before .before .before .before .before .before .before .before .before .before in
+    let st = c .before .before .before .before .before .before .before .before .before .before .before .before .before .before .before .before .before .before .before .before in
     let t = c .before .before .before .before .before .before .before .take-lines in
-    whole (st .args .slip .now) (st .args .book .now) (st .args .work .now) _ _ (t .result .verdict) _ (c .before .before .before .before .before .before .before .before .before .before .before .before .before .shelve .ensures .1) (t .ensures .result) (c .before .lay-accepted .ensures)
+    whole (st .args .slip .now) (st .args .book .now) (st .args .work .now) _ _ (t .result .verdict) _ (c .before .before .before .before .before .before .before .before .before .before .before .before .before .before .shelve .ensures .1) (t .ensures .result) (c .before .lay-accepted .ensures)
 
 pub take-whole-spec : {M : Type 1} → statement M
 take-whole-spec =
     tie.close
     (tie.spec
+    column-rules-requires
     slice-aggregate-shelve
     shelve-requires
     slice-aggregate-take-lines

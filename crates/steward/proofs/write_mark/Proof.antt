@@ -1,6 +1,6 @@
 -- `steward::write_mark` is safe and ends. Assumes nothing.
-use Prim.Native.Nat.{_-_}
 use mathlib.Core.Path.{_≡_}
+use Prim.Native.Nat.{_-_}
 use lib.ListN.{length}
 use borrow.Author.Needs.{needs}
 use Rattle.steward.proofs.write_mark.Statement.{statement}

@@ -1,11 +1,12 @@
 -- `writer::lines_length` meets its contract. The invariant: the lines of the rows passed, each with its line feed. Assumes nothing.
-use Prim.Native.Nat.{_*_, _-_, _≤_}
 use mathlib.Core.Path.{_≡_, refl, sym, ap, _∙_}
 use mathlib.Core.List.{[], map}
+use Prim.Native.Nat.{_*_, _-_, _≤_}
 use native.Mathlib.Omega.{arith}
-use borrow.Author.Needs.{needs}
 use lib.ListN.{length, take}
-use Rattle.text.proofs.Writing.{ended, ended-more-length}
+use borrow.Author.Needs.{needs}
+use Rattle.words.proofs.Lists.{ended}
+use Rattle.cells.proofs.Joining.{ended-more-length}
 use Rattle.writer.specs.Writing.{rowLine}
 use Rattle.writer.proofs.RowLines.{lines-ended}
 use Rattle.writer.proofs.lines_length.Statement.{statement}

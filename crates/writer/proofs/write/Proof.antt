@@ -2,17 +2,18 @@
 use mathlib.Core.Path.{_≡_, sym, ap, _∙_}
 use mathlib.Core.Bool.{true}
 use native.Mathlib.Omega.{arith}
-use borrow.Author.Needs.{needs}
-use borrow.Author.Tests.{not-true, not-false}
 use lib.Dec.{ltb}
 use lib.ListN.{length}
+use borrow.Author.Needs.{needs}
+use borrow.Author.Tests.{not-true, not-false}
 use Rattle.refusals.specs.Verdicts.{_when_, nowhere, outputShort}
 use Rattle.refusals.specs.declared.Check.{Check}
 use Rattle.tables.specs.declared.Table.the-variants.{Block}
-use Rattle.book.specs.Room.{bookOf, Sound}
-use Rattle.book.specs.Keeping.{keepsRule}
-use Rattle.book.proofs.Keeping.{keeps-sound}
+use Rattle.book.specs.Room.{bookOf}
+use Rattle.book.specs.Holding.{Sound}
 use Rattle.book.proofs.Laying.{lent-length}
+use Rattle.keeping.specs.Keeping.{keepsRule}
+use Rattle.keeping.proofs.Keeping.{keeps-sound}
 use Rattle.writer.specs.Writing.{written}
 use Rattle.writer.proofs.Answers.{bad-book, blocks-written}
 use Rattle.writer.proofs.write.Statement.{statement}
@@ -45,30 +46,14 @@ returns c =
 count-rows-requires : tie.Need-count-rows-requires
 count-rows-requires c κs = sound c
 
-first-row-requires : tie.Need-first-row-requires
-first-row-requires c κs = search needs
-
-add-to : tie.Need-add-to
-add-to c = search needs
-
-mul-write-table : tie.Need-mul-write-table
-mul-write-table c = search needs
-
-sub-write-table : tie.Need-sub-write-table
-sub-write-table c = search needs
-
-part-write-table-start : tie.Need-part-write-table-start
-part-write-table-start c = search needs
-
-part-write-table-end : tie.Need-part-write-table-end
-part-write-table-end c = omega (arith, sound (c .before .before) .long, c .first-row .ensures .1)
+table-of-requires : tie.Need-table-of-requires
+table-of-requires c κs = sound (c .before) .long
 
 write-table-requires : tie.Need-write-table-requires
 write-table-requires c κs =
-    let e = c .before .before .before .before in
-    let at = c .before .before .first-row in
-    let long = lent-length Block (e .before .before .before .args .book .now) (sound e) (at .result) (at .ensures .0) in
-    (omega (arith, long, c .before .before .before .count-rows .ensures .1), omega (arith, long))
+    let e = c .before .before .before in
+    let long = lent-length Block (e .before .before .before .args .book .now) (sound e) _ (c .before .table-of .ensures) in
+    (omega (arith, long, c .before .before .count-rows .ensures .1), omega (arith, long))
 
 same-length : tie.Need-same-length
 same-length c = search needs
@@ -76,12 +61,12 @@ same-length c = search needs
 returns-2 : tie.Need-returns-2
 returns-2 c =
     let w = c .before .before .write-table in
-    let n = c .before .before .before .before .before .before .count-rows in
-    let at = c .before .before .before .before .before .first-row in
-    let e = c .before .before .before .before .before .before .before in
+    let blocks = c .before .before .before .before .table-of in
+    let n = c .before .before .before .before .before .count-rows in
+    let e = c .before .before .before .before .before .before in
     let b = e .before .before .before .args .book .now in
     let o = e .before .before .before .args .out .now in
-    w .ensures ∙ blocks-written b o (at .result) (n .result) (at .ensures .0) (n .ensures .0) (keeps e)
+    w .ensures ∙ blocks-written b _ o (n .result) (blocks .ensures) (n .ensures .0) (keeps e)
 
 pub write-spec : {M : Type 1} → statement M
 write-spec =
@@ -92,12 +77,7 @@ write-spec =
     unwritten-requires
     returns
     count-rows-requires
-    first-row-requires
-    add-to
-    mul-write-table
-    sub-write-table
-    part-write-table-start
-    part-write-table-end
+    table-of-requires
     write-table-requires
     same-length
     returns-2)

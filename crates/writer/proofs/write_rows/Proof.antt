@@ -1,16 +1,18 @@
 -- `writer::write_rows` meets its contract. The invariant: the lines of the rows passed, each with its line feed, are put at the head. Assumes nothing.
-use Prim.Native.Nat.{_+_, _-_, _≤_}
 use mathlib.Core.Path.{_≡_, refl, sym, ap, _∙_}
 use mathlib.Core.List.{[], map}
+use Prim.Native.Nat.{_+_, _-_, _≤_}
 use native.Mathlib.Omega.{arith}
-use borrow.Author.Needs.{needs}
 use lib.ListN.{length, take, getD}
+use borrow.Author.Needs.{needs}
 use Rattle.words.specs.Words.{Bytes}
-use Rattle.text.proofs.Writing.{ended, ended-more-length, ended-room}
+use Rattle.words.proofs.Lists.{ended}
+use Rattle.cells.proofs.Joining.{ended-more-length, ended-room}
+use Rattle.numbers.specs.Putting.{put}
+use Rattle.numbers.proofs.Putting.{length-rest, length-back}
+use Rattle.number_lines.proofs.RowLines.{lent-more}
 use Rattle.writer.specs.Writing.{rowLine}
-use Rattle.writer.specs.Calls.{put}
-use Rattle.writer.proofs.Putting.{length-rest, length-back}
-use Rattle.writer.proofs.RowLines.{lent-more, lines-ended}
+use Rattle.writer.proofs.RowLines.{lines-ended}
 use Rattle.writer.proofs.write_rows.Statement.{statement}
 use Rattle.writer.proofs.write_rows.Tie as tie
 

@@ -1,16 +1,16 @@
 -- `writer::write_table` meets its contract: the header line, and behind it the lines of the rows. Assumes nothing.
-use Prim.Native.Nat.{_+_}
 use mathlib.Core.Path.{_≡_, sym, ap, _∙_}
 use mathlib.Core.List.{[], _∷_, _++_, map}
+use Prim.Native.Nat.{_+_}
 use native.Mathlib.Omega.{arith}
-use borrow.Author.Needs.{needs}
 use lib.ListN.{length, take, length-append}
+use borrow.Author.Needs.{needs}
 use Rattle.words.specs.Words.{Bytes}
 use Rattle.refusals.specs.Verdicts.{nowhere}
 use Rattle.refusals.specs.declared.Check.{Check}
+use Rattle.numbers.specs.Putting.{put}
+use Rattle.numbers.proofs.Putting.{lent, length-rest, length-back}
 use Rattle.writer.specs.Writing.{linesWritten, namesLine, rowLine}
-use Rattle.writer.specs.Calls.{put}
-use Rattle.writer.proofs.Putting.{lent, length-rest, length-back}
 use Rattle.writer.proofs.Answers.{too-short, all-written, line-first, line-first-length, header-length}
 use Rattle.writer.proofs.write_table.Statement.{statement}
 use Rattle.writer.proofs.write_table.Tie as tie

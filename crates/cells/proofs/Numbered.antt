@@ -1,0 +1,32 @@
+-- The cell of a number on a line: where its bounds are, and that there is none behind the last. Assumes nothing.
+use mathlib.Core.Path.{_≡_}
+use mathlib.Core.List.{List, []}
+use Prim.Native.Nat.{ℕ, _-_, _≤_, _<_, suc}
+use native.Mathlib.Omega.{arith}
+use lib.ListN.{length, List·getD-eq-default, getD}
+use borrow.Author.Tests.{ne-eqb}
+use Rattle.words.specs.Words.{Bytes}
+use Rattle.cells.specs.Numbered.{cellNumbered, MarksOf}
+use Rattle.cells.specs.Cells.{cells, cut, cellsOf}
+use Rattle.cells.specs.Marks.{BoundsOf, answerOf}
+use Rattle.cells.specs.declared.Answer.{Answer}
+use Rattle.cells.specs.declared.Answer.the-variants.{Good}
+use Rattle.cells.proofs.Marking.{Stands, cell-stands, good-cells, good-count}
+
+-- marks ----------------------------------------------------------------------------------------------------------------------
+-- a number behind the last cell is no cell's
+pub behind-last : (n : ℕ) (cs : List Bytes) → 1 ≤ n → length cs < n → cellNumbered n cs ≡ []
+behind-last n cs h l = rw (ne-eqb n 0 (λ e. omega arith), List·getD-eq-default cs [] {n = n - 1} (omega arith))
+
+module _ (line : Bytes) (bounds : List ℕ) (count : ℕ) where
+  -- a cell stands between its bounds
+  pub cell-bounded : (n : ℕ) → MarksOf line bounds count → 1 ≤ n → n ≤ count → Stands line (getD bounds (n - 1) 0) (getD bounds n 0) (cellNumbered n (cellsOf (cut line)))
+  cell-bounded n m h l =
+      let e : suc (n - 1) ≡ n = omega arith in
+      rw (ne-eqb n 0 (λ z. omega arith)) (rw e at (cell-stands line (cellsOf (cut line)) (length bounds) bounds (n - 1) (m .parted) (m .kept) (omega (arith, m .counted, m .room)) (omega (arith, m .counted))))
+
+  -- the bounds of a line whose cells are counted
+  pub marks-of : (r : Answer) → r ≡ answerOf (cut line) → ((cs : List Bytes) → cut line ≡ cells cs → BoundsOf cs (length bounds) bounds) → r ≡ Good count → count < length bounds → MarksOf line bounds count
+  marks-of r e b g l =
+      let p : cut line ≡ cells (cellsOf (cut line)) = good-cells (cut line) r count e g in
+      record { parted = p; counted = good-count (cut line) r count e g; room = l; kept = b (cellsOf (cut line)) p }

@@ -1,0 +1,34 @@
+-- What the read call answers, and what the lent book holds behind it.
+use mathlib.Core.List.{List}
+use lib.Dec.{eqb}
+use lib.ListN.{length}
+use Rattle.words.specs.Words.{Row, if_then_else_, Bytes}
+use Rattle.refusals.specs.declared.Verdict.{Verdict}
+use Rattle.refusals.specs.declared.Verdict.the-variants.{Accepted, Refused}
+use Rattle.refusals.specs.Verdicts.{nowhere, badLoan}
+use Rattle.tables.specs.Parts.{bookRows}
+use Rattle.book.specs.Book.{empty}
+use Rattle.book.specs.Room.{laid}
+use Rattle.book.specs.Result.{Result, refused, leaves}
+use Rattle.delivery.specs.Delivery.{Delivery, reading}
+
+-- a verdict, and what the lent book holds
+pub record Outcome : Type 0 where
+  pub verdict : Verdict
+  pub book : List Row
+
+abbrev pub outcome : Verdict → List Row → Outcome
+outcome v slice = record { verdict = v; book = slice }
+
+-- "A refused reading leaves an empty book"
+abbrev pub readOutcome : Result → Outcome
+readOutcome (refused p) = outcome (Refused p) (laid empty)
+readOutcome (leaves b) = outcome Accepted (laid b)
+
+-- "Book and working area each have one fixed size; one lent at another length is 16, before all else: that one stays as it came"
+abbrev pub readCall : Delivery → List Row → Outcome
+readCall d slice =
+    if eqb (length slice) bookRows then readOutcome (reading d) else outcome (nowhere badLoan) slice
+
+abbrev pub delivery : Bytes → Bytes → Bytes → Bytes → Bytes → Delivery
+delivery a b c d e = record { types = a; depots = b; stops = c; points = d; blocks = e }

@@ -1,0 +1,29 @@
+-- The reading of a delivery.
+use mathlib.Core.Path.{_≡_}
+use Rattle.words.specs.Words.{Bytes}
+use Rattle.tables.specs.declared.Table.the-variants.{VehicleType, Depot, Stop, StopPoint, Block}
+use Rattle.book.specs.Book.{empty, Book}
+use Rattle.book.specs.Result.{Result, leaves, _▹_}
+use Rattle.table_reading.specs.Reading.{tableRead}
+
+-- the five texts
+pub record Delivery : Type 0 where
+  pub types : Bytes
+  pub depots : Bytes
+  pub stops : Bytes
+  pub points : Bytes
+  pub blocks : Bytes
+
+-- "in this order: tables 1 to 4", stop_point "between stop and vehicle_block"
+unfoldable pub reading : Delivery → Result
+reading d =
+    leaves empty
+    ▹ tableRead VehicleType (d .types)
+    ▹ tableRead Depot (d .depots)
+    ▹ tableRead Stop (d .stops)
+    ▹ tableRead StopPoint (d .points)
+    ▹ tableRead Block (d .blocks)
+
+-- "The book rule: it is a book that some accepted delivery leaves."
+abbrev pub Left : Book → Type 0
+Left b = (d : Delivery) × (reading d ≡ leaves b)

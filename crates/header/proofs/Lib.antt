@@ -1,0 +1,3 @@
+pub mod Quoting
+pub mod Names
+pub mod Kept

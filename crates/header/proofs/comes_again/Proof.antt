@@ -1,0 +1,20 @@
+-- `header::comes_again` meets its contract. Assumes nothing.
+use borrow.Author.Tests.{eq-eqb, ne-eqb}
+use borrow.Author.Needs.{needs}
+use Rattle.header.proofs.comes_again.Statement.{statement}
+use Rattle.header.proofs.comes_again.Tie as tie
+
+returns : tie.Need-returns
+returns c = rw (eq-eqb _ _ (c .if1 .taken))
+
+mul-result : tie.Need-mul-result
+mul-result c = search needs
+
+element-copy-out-result : tie.Need-element-copy-out-result
+element-copy-out-result c = search needs
+
+returns-2 : tie.Need-returns-2
+returns-2 c = rw (ne-eqb _ _ (c .before .if1 .left))
+
+pub comes-again-spec : {M : Type 1} → statement M
+comes-again-spec = tie.close (tie.spec returns mul-result element-copy-out-result returns-2)

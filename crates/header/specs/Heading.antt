@@ -1,0 +1,47 @@
+-- What the code keeps of a header.
+-- Inner: no promise and no contract of a public function speaks of it.
+use mathlib.Core.List.{List, [], _∷_}
+use mathlib.Core.Path.{_≡_}
+use Prim.Native.Nat.{ℕ, zero, suc}
+use lib.ListN.{length, getD, replicate}
+use lib.Dec.{ltb}
+use Rattle.words.specs.Words.{Bytes}
+use Rattle.refusals.specs.declared.Check.{Check}
+use Rattle.refusals.specs.declared.Check.the-variants.{Passes, Fails}
+use Rattle.refusals.specs.Verdicts.{_⊳_, _when_, columnMissing, columnTwice}
+use Rattle.cells.specs.Cells.{cut, cellsOf}
+use Rattle.tables.specs.declared.Table.{Table}
+use Rattle.header.specs.Header.{Header, placeFrom, header, headerCheck, repeated, missing}
+use Rattle.header.specs.declared.Heading.{Heading}
+use Rattle.header.specs.declared.Noted.{Noted}
+
+-- the cells of n columns from k on
+unfoldable pub placesFrom : ℕ → ℕ → Header → List ℕ
+placesFrom zero k h = []
+placesFrom (suc n) k h = placeFrom 0 k h ∷ placesFrom n (suc k) h
+
+-- at place 0, which is no column's, how many cells a header has; then the cells of the columns 1 to 11
+abbrev pub places : Header → List ℕ
+places h = length h ∷ placesFrom 11 1 h
+
+abbrev pub cellsKept : List ℕ → ℕ
+cellsKept at = getD at 0 0
+
+-- a header that passes is kept as its places
+abbrev pub headed : Check → Header → Heading
+headed Passes h = record { check = Passes; at = places h }
+headed (Fails n k) h = record { check = Fails n k; at = replicate 12 0 }
+
+abbrev pub heading : Table → Bytes → Heading
+heading t line = headed (headerCheck t line) (header t (cellsOf (cut line)))
+
+-- the names of a header: the column that comes twice, and the places where none does
+pub record NamesOf (h : Header) (names : Noted) : Type 0 where
+  pub twice : names .twice ≡ repeated [] h
+  pub noted : names .twice ≡ 0 → names .at ≡ places h
+
+-- 3, then 2, of a header's names
+abbrev pub namesCheck : Table → Header → Check
+namesCheck t h =
+    columnTwice (repeated [] h) when ltb 0 (repeated [] h)
+    ⊳ columnMissing (missing t h) when ltb 0 (missing t h)

@@ -1,0 +1,3 @@
+-- The lines of a text, to be read in this order.
+pub mod Lines
+pub mod Ends

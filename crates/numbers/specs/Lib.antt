@@ -1,0 +1,4 @@
+-- Decimal numbers, read and written, to be read in this order.
+pub mod Numbers
+pub mod Putting
+pub mod Decimals

@@ -1,0 +1,40 @@
+-- What the code reads a line by, and what it finds there.
+-- Inner: no promise and no contract of a public function speaks of it.
+use mathlib.Core.List.{List}
+use mathlib.Core.Path.{_≡_}
+use Prim.Native.Nat.{ℕ, _≤_}
+use lib.ListN.{length}
+use Rattle.words.specs.Words.{Bytes}
+use Rattle.refusals.specs.declared.Check.{Check}
+use Rattle.refusals.specs.declared.Check.the-variants.{Passes}
+use Rattle.refusals.specs.Verdicts.{_⊳_}
+use Rattle.cells.specs.Cells.{cut, cellsOf}
+use Rattle.cells.specs.Numbered.{MarksOf}
+use Rattle.tables.specs.Columns.{columnsOf}
+use Rattle.tables.specs.declared.Table.{Table}
+use Rattle.tables.specs.Listing.{listed}
+use Rattle.values.specs.Values.{badCell}
+use Rattle.values.specs.declared.Judged.{Judged}
+use Rattle.values.specs.Judged.{rowed}
+use Rattle.header.specs.Header.{Header, cutCheck, contents}
+use Rattle.header.specs.Heading.{places, cellsKept}
+use Rattle.row_line.specs.RowLine.{rowRead}
+
+-- 6 and 7 of a row under a header of so many cells; where it passes, the bounds of its cells are kept
+pub record CutOf (line : Bytes) (count : ℕ) (bounds : List ℕ) (c : Check) : Type 0 where
+  pub is : (h : Header) → count ≡ length h → c ≡ cutCheck h (cut line)
+  pub marks : c ≡ Passes → MarksOf line bounds count
+
+-- 8 of a line's cells
+abbrev pub cellsCheck : Table → Header → Bytes → Check
+cellsCheck t h line = badCell 1 (columnsOf t) (contents t h (cellsOf (cut line)))
+
+-- 6, 7, 8, without a look at the book
+abbrev pub read : Table → Header → Bytes → Judged
+read t h line = rowed (cutCheck h (cut line) ⊳ cellsCheck t h line) (rowRead t h line)
+
+-- rows are read by their table's columns and by the places of a header, which has at most 32 cells
+pub record Guided (t : Table) (columns : List (List ℕ)) (at : List ℕ) : Type 0 where
+  pub rules : columns ≡ listed t
+  pub few : cellsKept at ≤ 32
+  pub headed : (h : Header) × (at ≡ places h)

@@ -1,0 +1,85 @@
+// A line behind the header, and its row.
+ghost use mathlib.Core.Path.{_≡_};
+ghost use mathlib.Core.List.{List};
+ghost use Prim.Native.Nat.{ℕ, _<_};
+ghost use lib.ListN.{length};
+ghost use Rattle.cells.specs.Numbered.{MarksOf};
+ghost use Rattle.tables.specs.Listing.{listed};
+ghost use Rattle.values.specs.Judged.{rowed};
+ghost use Rattle.header.specs.Heading.{places, cellsKept};
+ghost use Rattle.row_line.specs.RowLine.{rowRead};
+ghost use Rattle.row_line.specs.Judging.{cellsCheck, CutOf, read};
+use cells::Answer;
+use header::Places;
+use refusals::Check;
+use rows::NO_ROW;
+use tables::Columns;
+use tables::Table;
+use values::Judged;
+use values::Value;
+
+// 8 by column number: the cells of a line, and its row.
+fn read_columns(line: &[u8], bounds: &[usize], t: Table, columns: &Columns, at: &Places) -> Judged
+    requires { ⌜ MarksOf (now line) (now bounds) (cellsKept (now at)) × (now columns ≡ listed t) ⌝ }
+    ensures { λ r. ⌜ ((h : List ℕ) → now (at .entry) ≡ places h → r ≡ rowed (cellsCheck t h (now (line .entry))) (rowRead t h (now (line .entry)))) ⌝ }
+{
+    let cells = at[0];
+    let count = t.columns();
+    let kept = t.kept();
+    let mut check = Check::Passes;
+    let mut row = NO_ROW;
+    let mut k = 0;
+    'columns: while k < count {
+        let rules = tables::rules_at(columns, k);
+        let value = Value::of_cell(rules, cells::cell_of(line, bounds, cells, at[k + 1]));
+        match value.check(header::wide(k + 1)) {
+            Check::Passes => {}
+            Check::Fails { number, column } => {
+                check = Check::Fails { number, column };
+                row = NO_ROW;
+                break 'columns;
+            }
+        }
+        row[k] = values::kept_number(value, k < kept);
+        k += 1;
+    }
+    Judged { check, row }
+}
+
+// 6 and 7: the cells of a row, as many as its header has. Their bounds are kept where the caller has room for them.
+pub fn cut_row(line: &[u8], cells: usize, bounds: &mut [usize]) -> Check
+    requires { ⌜ cells < length (now bounds) ⌝ }
+    ensures { λ r. ⌜ CutOf (now (line .entry)) cells (now (bounds .exit)) r ⌝ }
+{
+    let answer = cells::cells_of(line, bounds);
+    match answer {
+        Answer::Bad(cell) => Check::quote_fault(header::wide(cell)),
+        Answer::Good(count) => {
+            if count != cells {
+                return Check::cell_count();
+            }
+            Check::Passes
+        }
+    }
+}
+
+// 6, 7, 8 and the row of a line, without looking at a book.
+pub fn read_row(
+    line: &[u8],
+    t: Table,
+    columns: &Columns,
+    at: &Places,
+    bounds: &mut [usize],
+) -> Judged
+    requires { ⌜ (now columns ≡ listed t) × (cellsKept (now at) < length (now bounds)) ⌝ }
+    ensures { λ r. ⌜ ((h : List ℕ) → now (at .entry) ≡ places h → r ≡ read t h (now (line .entry))) ⌝ }
+{
+    let check = cut_row(line, at[0], bounds);
+    match check {
+        Check::Passes => read_columns(line, &bounds[..], t, columns, at),
+        Check::Fails {
+            number: _,
+            column: _,
+        } => values::no_row(check),
+    }
+}

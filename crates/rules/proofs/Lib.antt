@@ -1,0 +1,3 @@
+pub mod Referring
+pub mod Points
+pub mod Timing

@@ -1,0 +1,3 @@
+pub mod Shifts
+pub mod Shelving
+pub mod Slots

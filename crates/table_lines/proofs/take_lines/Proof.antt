@@ -1,0 +1,168 @@
+-- `table_lines::take_lines` meets its contract: each line is taken on the book as the earlier ones left it. Assumes nothing.
+use mathlib.Core.Path.{_≡_, refl, ap, sym, _∙_}
+use mathlib.Core.List.{List}
+use Prim.Native.Nat.{ℕ, _+_, _-_, _≤_}
+use native.Mathlib.Omega.{arith}
+use native.Mathlib.Numerals.{add-one}
+use lib.ListN.{length, drop}
+use borrow.Author.Needs.{needs}
+use Rattle.refusals.specs.declared.Verdict.the-variants.{Accepted}
+use Rattle.refusals.specs.Verdicts.{placed}
+use Rattle.refusals.proofs.Placing.{placed-passes}
+use Rattle.lines.specs.Lines.{lines}
+use Rattle.lines.proofs.Lining.{line-from}
+use Rattle.tables.specs.Columns.{number}
+use Rattle.tables.proofs.Parts.{room-alike}
+use Rattle.intake.specs.Shelving.{shelfBook, OnShelf}
+use Rattle.intake.proofs.Shelving.{shelf-most}
+use Rattle.header.specs.Heading.{places}
+use Rattle.table_lines.specs.Reading.{rowsRead}
+use Rattle.table_lines.proofs.Taking.{rows-end, rows-passed, rows-refused}
+use Rattle.table_lines.proofs.take_lines.Statement.{statement}
+use Rattle.table_lines.proofs.take_lines.Tie as tie
+
+abbrev Inv-rows : tie.InvT-rows
+Inv-rows bytes t columns at bounds₀ book slots₀ order₀ n table verdict₀ count₀ i₀ line₀ bounds slots order verdict count i line =
+    (i ≤ length bytes) × (line ≤ i + 2) × (verdict ≡ Accepted) × OnShelf t book slots order count × (length bounds ≡ length bounds₀) × (table ≡ number t)
+    × ((h : List ℕ) → at ≡ places h → rowsRead t h 2 (lines bytes) (shelfBook t book slots₀ order₀ n) ≡ rowsRead t h line (lines (drop i bytes)) (shelfBook t book slots order count))
+
+abbrev μ-rows : tie.MeasureT-rows
+μ-rows bytes t columns at bounds₀ book slots₀ order₀ n table verdict₀ count₀ i₀ line₀ bounds slots order verdict count i line = length bytes - i
+
+number-requires : tie.Need-number-requires Inv-rows μ-rows
+number-requires c κs = search needs
+
+rows-holds : tie.Need-rows-holds Inv-rows μ-rows
+rows-holds c = let st = c .before .before .before .before in (omega arith, search needs, refl, st .pre .2, refl, c .number .ensures, λ h kept. refl)
+
+next-line-requires : tie.Need-next-line-requires Inv-rows μ-rows
+next-line-requires c κs = search needs
+
+sub-take-line : tie.Need-sub-take-line Inv-rows μ-rows
+sub-take-line c = line-from (c .before .before .before .before .before .before .before .args .bytes .now) (c .before .before .rows .i) (c .next-line .result) (c .before .rows-test .taken) (c .next-line .ensures) .low
+
+part-take-line-start : tie.Need-part-take-line-start Inv-rows μ-rows
+part-take-line-start c = line-from (c .before .before .before .before .before .before .before .args .bytes .now) (c .before .before .rows .i) (c .next-line .result) (c .before .rows-test .taken) (c .next-line .ensures) .low
+
+part-take-line-end : tie.Need-part-take-line-end Inv-rows μ-rows
+part-take-line-end c = line-from (c .before .before .before .before .before .before .before .args .bytes .now) (c .before .before .rows .i) (c .next-line .result) (c .before .rows-test .taken) (c .next-line .ensures) .high
+
+take-line-requires : tie.Need-take-line-requires Inv-rows μ-rows
+take-line-requires c κs = let at = c .before .before .before .before .before .before .rows in (c .before .before .before .before .before .before .before .before .before .before .before .pre .0, omega (arith, c .before .before .before .before .before .before .before .before .before .before .before .pre .1, at .inv .4), at .inv .3)
+
+on-requires : tie.Need-on-requires Inv-rows μ-rows
+on-requires c κs = search needs
+
+enum-told : tie.Need-enum-told Inv-rows μ-rows
+enum-told c = search needs
+
+enum-known-v : tie.Need-enum-known-v Inv-rows μ-rows
+enum-known-v c = search needs
+
+add-count : tie.Need-add-count Inv-rows μ-rows
+add-count c =
+    let at = c .before .before .before .before .before .before .before .before .before .before .before .before .before .before .before .rows in
+    omega (arith, shelf-most (c .before .before .before .before .before .before .before .before .before .before .before .before .before .before .before .before .before .before .before .before .args .t) (c .before .before .before .before .before .before .before .before .before .before .before .before .before .before .before .before .before .before .before .before .args .book .now) (at .slots) (at .order) (at .count) (at .inv .3), room-alike (c .before .before .before .before .before .before .before .before .before .before .before .before .before .before .before .before .before .before .before .before .args .t))
+
+add-line : tie.Need-add-line Inv-rows μ-rows
+add-line c = omega (arith, c .before .before .before .before .before .before .before .before .before .before .before .before .before .before .before .rows .inv .1, c .before .before .before .before .before .before .before .before .before .before .before .before .before .before .before .before .before .before .before .before .pre .3, c .before .before .before .before .before .before .before .before .before .before .before .before .before .before .rows-test .taken)
+
+rows-less : tie.Need-rows-less Inv-rows μ-rows
+rows-less c =
+    let l = line-from (c .before .before .before .before .before .before .before .before .before .before .before .before .before .before .before .before .before .before .before .before .args .bytes .now) (c .before .before .before .before .before .before .before .before .before .before .before .before .before .before .before .rows .i) (c .before .before .before .before .before .before .before .before .before .before .before .before .before .next-line .result) (c .before .before .before .before .before .before .before .before .before .before .before .before .before .before .rows-test .taken) (c .before .before .before .before .before .before .before .before .before .before .before .before .before .next-line .ensures) in
+    omega (arith, l .on, l .past, c .before .before .before .before .before .before .before .before .before .before .before .before .before .before .rows-test .taken)
+
+rows-again : tie.Need-rows-again Inv-rows μ-rows
+rows-again c =
+    let st = c .before .before .before .before .before .before .before .before .before .before .before .before .before .before .before .before .before .before .before .before in
+    let at = c .before .before .before .before .before .before .before .before .before .before .before .before .before .before .before .rows in
+    let next = c .before .before .before .before .before .before .before .before .before .before .before .before .before .next-line in
+    let taken = c .before .before .before .before .before .before .before .before .take-line in
+    let on = c .before .before .on in
+    let placed-here = on .ensures ∙ ap (λ (n : ℕ). placed n (at .line) (taken .result)) (at .inv .5) in
+    let l = line-from (st .args .bytes .now) (at .i) (next .result) (c .before .before .before .before .before .before .before .before .before .before .before .before .before .before .rows-test .taken) (next .ensures) in
+    let passes = placed-passes (number (st .args .t)) (at .line) (taken .result) (sym placed-here ∙ c .enum-told .given .1) in (
+      l .past,
+      omega (arith, l .on, at .inv .1),
+      at .inv .2,
+      rw add-one (taken .ensures .on passes),
+      omega (arith, c .before .before .before .before .before .before .before .bounds .given, at .inv .4),
+      at .inv .5,
+      λ h kept. at .inv .6 h kept
+          ∙ rows-passed (st .args .t) h (at .line) (st .args .bytes .now) (at .i) (shelfBook (st .args .t) (st .args .book .now) (at .slots) (at .order) (at .count)) (next .result) (next .ensures) (c .before .before .before .before .before .before .before .before .before .before .before .before .before .before .rows-test .taken)
+          (taken .result) _ (rw add-one (taken .ensures .taken h kept)) (on .result) placed-here (c .enum-told .given .1),
+    )
+
+same-length : tie.Need-same-length Inv-rows μ-rows
+same-length c = search needs
+
+same-length-2 : tie.Need-same-length-2 Inv-rows μ-rows
+same-length-2 c = search needs
+
+same-length-3 : tie.Need-same-length-3 Inv-rows μ-rows
+same-length-3 c = search needs
+
+returns : tie.Need-returns Inv-rows μ-rows
+returns c =
+    let st = c .before .before .before .before .before .before in
+    let at = c .before .rows in
+    record {
+      on = λ a. at .inv .3;
+      taken = λ h kept. rw (at .inv .2) (sym (at .inv .6 h kept ∙ rows-end (st .args .t) h (at .line) (st .args .bytes .now) (at .i) (shelfBook (st .args .t) (st .args .book .now) (at .slots) (at .order) (at .count)) (c .rows-test .left)));
+    }
+
+same-length-4 : tie.Need-same-length-4 Inv-rows μ-rows
+same-length-4 c = search (needs, c .before .before .before .before .before .before .before .before .bounds .given, c .before .before .before .before .before .before .before .before .before .before .before .before .before .before .before .before .rows .inv .4)
+
+same-length-5 : tie.Need-same-length-5 Inv-rows μ-rows
+same-length-5 c = search (needs, c .before .before .before .before .before .before .slots .given, c .before .before .before .before .before .before .before .before .before .before .before .before .before .before .before .before .rows .inv .3 .long, c .before .before .before .before .before .before .before .before .before .before .before .before .before .before .before .before .before .before .before .before .before .pre .2 .long)
+
+same-length-6 : tie.Need-same-length-6 Inv-rows μ-rows
+same-length-6 c =
+    let st = c .before .before .before .before .before .before .before .before .before .before .before .before .before .before .before .before .before .before .before .before .before in
+    let at = c .before .before .before .before .before .before .before .before .before .before .before .before .before .before .before .before .rows in
+    search (needs, c .before .before .before .before .before .order .given, at .inv .3 .shelf .long, at .inv .3 .long, st .pre .2 .shelf .long, st .pre .2 .long)
+
+returns-2 : tie.Need-returns-2 Inv-rows μ-rows
+returns-2 c =
+    let st = c .before .before .before .before .before .before .before .before .before .before .before .before .before .before .before .before .before .before .before .before .before in
+    let at = c .before .before .before .before .before .before .before .before .before .before .before .before .before .before .before .before .rows in
+    let next = c .before .before .before .before .before .before .before .before .before .before .before .before .before .before .next-line in
+    let taken = c .before .before .before .before .before .before .before .before .before .take-line in
+    let on = c .before .before .before .on in
+    let placed-here = on .ensures ∙ ap (λ (n : ℕ). placed n (at .line) (taken .result)) (at .inv .5) in
+    record {
+      on = λ a. let z : _≡_ {A = ℕ} 0 1 = cc in absurd (omega arith);
+      taken = λ h kept. sym (at .inv .6 h kept
+          ∙ rows-refused (st .args .t) h (at .line) (st .args .bytes .now) (at .i) (shelfBook (st .args .t) (st .args .book .now) (at .slots) (at .order) (at .count)) (next .result) (next .ensures) (c .before .before .before .before .before .before .before .before .before .before .before .before .before .before .before .rows-test .taken)
+          (taken .result) _ (taken .ensures .taken h kept) (on .result) placed-here _ (c .before .v .given .1));
+    }
+
+pub take-lines-spec : {M : Type 1} → statement M
+take-lines-spec =
+    tie.close
+    (tie.spec
+    Inv-rows
+    μ-rows
+    number-requires
+    rows-holds
+    next-line-requires
+    sub-take-line
+    part-take-line-start
+    part-take-line-end
+    take-line-requires
+    on-requires
+    enum-told
+    enum-known-v
+    add-count
+    add-line
+    rows-less
+    rows-again
+    same-length
+    same-length-2
+    same-length-3
+    returns
+    same-length-4
+    same-length-5
+    same-length-6
+    returns-2)

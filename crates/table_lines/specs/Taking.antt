@@ -1,0 +1,34 @@
+-- What the code finds on its way through the lines of a table.
+-- Inner: no promise and no contract of a public function speaks of it.
+use mathlib.Core.Path.{_≡_}
+use mathlib.Core.List.{List}
+use Prim.Native.Nat.{ℕ, suc}
+use Rattle.words.specs.Words.{Bytes, Row}
+use Rattle.refusals.specs.declared.Check.{Check}
+use Rattle.refusals.specs.declared.Check.the-variants.{Passes}
+use Rattle.refusals.specs.declared.Verdict.the-variants.{Accepted}
+use Rattle.lines.specs.Lines.{lines}
+use Rattle.tables.specs.declared.Table.{Table}
+use Rattle.book.specs.Book.{Book, entered}
+use Rattle.book.specs.Result.{leaves, unless}
+use Rattle.intake.specs.Shelving.{shelfBook, OnShelf}
+use Rattle.header.specs.Header.{Header}
+use Rattle.header.specs.Heading.{places}
+use Rattle.row_line.specs.RowLine.{rowRead}
+use Rattle.table_lines.specs.Reading.{judged, rowsRead}
+use Rattle.table_lines.specs.declared.Filled.{Filled}
+
+-- a line taken into a book: what it is refused for, or the book with its row
+pub record Taken (t : Table) (h : Header) (line : Bytes) (old new : Book) (c : Check) : Type 0 where
+  pub is : c ≡ judged t h line old
+  pub enters : c ≡ Passes → new ≡ entered t (rowRead t h line) old
+
+-- a line, on the n rows of a shelf: `slots` and `order` are what it held before, `slots′` and `order′` behind the line
+pub record LineTaken (t : Table) (at : List ℕ) (line : Bytes) (slice slots slots′ : List Row) (order order′ : List ℕ) (n : ℕ) (c : Check) : Type 0 where
+  pub on : c ≡ Passes → OnShelf t slice slots′ order′ (suc n)
+  pub taken : (h : Header) → at ≡ places h → Taken t h line (shelfBook t slice slots order n) (shelfBook t slice slots′ order′ (suc n)) c
+
+-- the rows of a text behind its header, on such a shelf
+pub record LinesTaken (t : Table) (at : List ℕ) (s : Bytes) (slice slots slots′ : List Row) (order order′ : List ℕ) (n : ℕ) (f : Filled) : Type 0 where
+  pub on : f .verdict ≡ Accepted → OnShelf t slice slots′ order′ (f .count)
+  pub taken : (h : Header) → at ≡ places h → unless (f .verdict) (leaves (shelfBook t slice slots′ order′ (f .count))) ≡ rowsRead t h 2 (lines s) (shelfBook t slice slots order n)

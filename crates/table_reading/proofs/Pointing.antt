@@ -1,0 +1,60 @@
+-- A reading leaves no stop point without its stop. Assumes nothing.
+use mathlib.Core.Path.{_≡_, refl, sym, subst}
+use mathlib.Core.List.{List, [], _∷_}
+use mathlib.Core.Bool.{true}
+use Prim.Native.Nat.{ℕ, suc}
+use Rattle.words.specs.Words.{Bytes}
+use Rattle.refusals.specs.Verdicts.{_⊳_, _when_, tooManyRows, keyStands, endsEarly, placed}
+use Rattle.refusals.specs.declared.Check.the-variants.{Passes, Fails}
+use Rattle.refusals.specs.declared.Check.{Check}
+use Rattle.refusals.specs.declared.Verdict.{Verdict}
+use Rattle.refusals.specs.declared.Verdict.the-variants.{Accepted, Refused}
+use Rattle.lines.specs.Lines.{lines, rowLines}
+use Rattle.cells.specs.Cells.{cut, cellsOf}
+use Rattle.tables.specs.Columns.{columnsOf, number}
+use Rattle.tables.specs.declared.Table.{Table}
+use Rattle.values.specs.Values.{badCell}
+use Rattle.book.specs.Book.{Book, knows, full, entered}
+use Rattle.book.specs.Result.{unless, Result}
+use Rattle.rules.specs.Rules.{timeFault, unknown, ruled}
+use Rattle.rules.specs.Points.{pointsNamed, NamedIn}
+use Rattle.rules.proofs.Points.{entered-named}
+use Rattle.header.specs.Header.{Header, cutCheck, contents, headerOf, topFaults}
+use Rattle.row_line.specs.RowLine.{rowRead}
+use Rattle.row_line.proofs.Columns.{second-passes}
+use Rattle.table_lines.specs.Reading.{judged, rowsRead}
+use Rattle.table_reading.specs.Reading.{tableRead}
+
+-- a line that passes has its references
+passes-known : (t : Table) (h : Header) (line : Bytes) (b : Book) → judged t h line b ≡ Passes → unknown t (rowRead t h line) b ≡ Passes
+unfolding judged
+passes-known t h line b p =
+    let row = rowRead t h line in
+    let cells = badCell 1 (columnsOf t) (contents t h (cellsOf (cut line))) in
+    let behind-5 = second-passes (tooManyRows when full t b) (cutCheck h (cut line) ⊳ cells ⊳ ruled t row b) p in
+    let behind-7 = second-passes (cutCheck h (cut line)) (cells ⊳ ruled t row b) behind-5 in
+    let behind-8 = second-passes cells (ruled t row b) behind-7 in
+    let behind-11 = second-passes (endsEarly when timeFault t row) (keyStands when knows t row b ⊳ unknown t row b) behind-8 in
+    second-passes (keyStands when knows t row b) (unknown t row b) behind-11
+
+rows-named : (t : Table) (h : Header) (i : ℕ) (ls : List Bytes) (b : Book) → pointsNamed b ≡ true → NamedIn (rowsRead t h i ls b)
+unfolding rowsRead
+rows-named t h i [] b e = e
+rows-named t h i (l ∷ ls) b e =
+    go (judged t h l b) refl (λ p. rows-named t h (suc i) ls (entered t (rowRead t h l) b) (entered-named t (rowRead t h l) b (passes-known t h l b p) e))
+  where
+    go : (c : Check) → judged t h l b ≡ c → (judged t h l b ≡ Passes → NamedIn (rowsRead t h (suc i) ls (entered t (rowRead t h l) b)))
+        → NamedIn (unless (placed (number t) i c) (rowsRead t h (suc i) ls (entered t (rowRead t h l) b)))
+    go Passes q k = k q
+    go (Fails n m) q k = tt
+
+unless-named : (v : Verdict) (r : Result) → NamedIn r → NamedIn (unless v r)
+unless-named Accepted r k = k
+unless-named (Refused p) r k = tt
+
+table-named : (t : Table) (s : Bytes) (b : Book) → pointsNamed b ≡ true → NamedIn (tableRead t s b)
+unfolding tableRead
+table-named t s b e = unless-named (topFaults t s) _ (rows-named t (headerOf t s) 2 (rowLines (lines s)) b e)
+
+pub table-left : (t : Table) (s : Bytes) (b : Book) (left : Result) → left ≡ tableRead t s b → pointsNamed b ≡ true → NamedIn left
+table-left t s b left e p = subst NamedIn (sym e) (table-named t s b p)

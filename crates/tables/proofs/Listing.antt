@@ -1,0 +1,47 @@
+-- Columns that are listed as numbers are read back as they were. Assumes nothing.
+use mathlib.Core.List.{List, [], _∷_}
+use mathlib.Core.Path.{_≡_, refl, ap, _∙_}
+use mathlib.Core.Bool.{Bool, true, false}
+use Prim.Native.Nat.{ℕ, zero, suc, _<_}
+use native.Mathlib.Omega.{arith}
+use lib.Dec.{eqb}
+use lib.ListN.{getD}
+use Rattle.words.specs.Words.{if_then_else_}
+use Rattle.tables.specs.declared.Sort.the-variants.{Decimal, Text}
+use Rattle.tables.specs.declared.Rules.{Rules}
+use Rattle.tables.specs.declared.Sort.{Sort}
+use Rattle.tables.specs.Listing.{six, listing, listed}
+use Rattle.tables.specs.Columns.{Column, noColumn, columnsOf, columnAt}
+use Rattle.tables.specs.declared.Table.{Table}
+
+-- a column read back from its six numbers
+abbrev pub rulesOf : List ℕ → Rules
+rulesOf ns =
+    record { sort = if eqb (getD ns 0 0) 0 then Decimal else Text; width = getD ns 1 0; low = getD ns 2 0; high = getD ns 3 0; key = eqb (getD ns 4 0) 1; required = eqb (getD ns 5 0) 1 }
+
+six-back : (x : Rules) → rulesOf (six x) ≡ x
+six-back x = go (x .sort) (x .width) (x .low) (x .high) (x .key) (x .required)
+  where
+    go : (s : Sort) (w l h : ℕ) (k q : Bool) → rulesOf (six (record { sort = s; width = w; low = l; high = h; key = k; required = q })) ≡ record { sort = s; width = w; low = l; high = h; key = k; required = q }
+    go Decimal w l h true true = refl
+    go Decimal w l h true false = refl
+    go Decimal w l h false true = refl
+    go Decimal w l h false false = refl
+    go Text w l h true true = refl
+    go Text w l h true false = refl
+    go Text w l h false true = refl
+    go Text w l h false false = refl
+
+listing-at : (n : ℕ) (xs : List Column) (i : ℕ) → i < n → getD (listing n xs) i [] ≡ six (getD xs i noColumn .rules)
+unfolding listing
+listing-at zero xs i h = absurd (omega (arith, h))
+listing-at (suc n) [] zero h = refl
+listing-at (suc n) (x ∷ xs) zero h = refl
+listing-at (suc n) [] (suc i) h = listing-at n [] i (omega (arith, h))
+listing-at (suc n) (x ∷ xs) (suc i) h = listing-at n xs i (omega (arith, h))
+
+-- a table's column, read from what the table hands out
+pub listed-back : (t : Table) (ns : List (List ℕ)) (i : ℕ) → i < 12 → ns ≡ listed t → rulesOf (getD ns i []) ≡ columnAt t i .rules
+unfolding listed
+listed-back t ns i h e =
+    ap (λ (l : List (List ℕ)). rulesOf (getD l i [])) e ∙ (ap rulesOf (listing-at 12 (columnsOf t) i h) ∙ six-back (columnAt t i .rules))

@@ -1,0 +1,39 @@
+-- The columns and the figures of a table as the code keeps them: numbers.
+-- Inner: no promise and no contract of a public function speaks of it.
+use mathlib.Core.Bool.{Bool, true, false}
+use mathlib.Core.List.{List, [], _∷_}
+use Prim.Native.Nat.{ℕ, zero, suc}
+use lib.ListN.{length}
+use Rattle.tables.specs.declared.Sort.{Sort}
+use Rattle.tables.specs.declared.Sort.the-variants.{Decimal, Text}
+use Rattle.tables.specs.declared.Rules.{Rules}
+use Rattle.tables.specs.Columns.{Column, noColumn, columnsOf, number, keyWidth, keptWidth, references}
+use Rattle.tables.specs.declared.Table.{Table}
+use Rattle.tables.specs.declared.TableFigures.{TableFigures}
+
+abbrev pub sortNumber : Sort → ℕ
+sortNumber Decimal = 0
+sortNumber Text = 1
+
+abbrev pub flag : Bool → ℕ
+flag false = 0
+flag true = 1
+
+-- a column as six numbers: its sort, its width, the lowest and the highest number it takes, whether it is a key, whether it is required
+abbrev pub six : Rules → List ℕ
+six x = sortNumber (x .sort) ∷ x .width ∷ x .low ∷ x .high ∷ flag (x .key) ∷ flag (x .required) ∷ []
+
+-- the columns one behind the other, with room for n
+unfoldable pub listing : ℕ → List Column → List (List ℕ)
+listing zero xs = []
+listing (suc n) [] = six (noColumn .rules) ∷ listing n []
+listing (suc n) (x ∷ xs) = six (x .rules) ∷ listing n xs
+
+-- the columns of a table: no table has more than twelve
+unfoldable pub listed : Table → List (List ℕ)
+listed t = listing 12 (columnsOf t)
+
+-- what a table is counted by
+abbrev pub figuresOf : Table → TableFigures
+figuresOf t =
+    record { number = number t; columns = length (columnsOf t); keys = keyWidth t; kept = keptWidth t; references = length (references t) }

@@ -1,0 +1,39 @@
+-- The tables in the order of reading, and their rooms in the book.
+use mathlib.Core.List.{List, [], _∷_}
+use Prim.Native.Nat.{ℕ, _+_}
+use lib.ListN.{take}
+use Rattle.tables.specs.declared.Table.{Table}
+use Rattle.tables.specs.declared.Table.the-variants.{VehicleType, Depot, Stop, StopPoint, Block}
+
+-- which part of the book is the table's, counted from 0
+abbrev pub partOf : Table → ℕ
+partOf VehicleType = 0
+partOf Depot = 1
+partOf Stop = 2
+partOf StopPoint = 3
+partOf Block = 4
+
+-- the tables in the order of reading, which is that of their parts of the book
+abbrev pub tables : List Table
+tables = VehicleType ∷ Depot ∷ Stop ∷ StopPoint ∷ Block ∷ []
+
+-- "There are at most 512 rows in each table."
+abbrev pub room : Table → ℕ
+room VehicleType = 512
+room Depot = 512
+room Stop = 512
+room StopPoint = 512
+room Block = 512
+
+-- what some tables have room for together
+abbrev pub rooms : List Table → ℕ
+rooms [] = 0
+rooms (t ∷ ts) = room t + rooms ts
+
+-- where a table's part of the book begins: behind the rooms of the tables before it
+abbrev pub begin : Table → ℕ
+begin t = rooms (take (partOf t) tables)
+
+-- how many rows a book has: the rooms of all its tables
+abbrev pub bookRows : ℕ
+bookRows = rooms tables
