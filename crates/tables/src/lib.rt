@@ -149,37 +149,40 @@ const BLOCK_COLUMNS: Columns = [
 ];
 
 // The references: the column, counted from 1, and the table in which its number stands.
-const STOP_POINT_REFERENCES: [Reference; 1] = [Reference {
+const STOP_OF_POINT: Reference = Reference {
     column: 2,
     to: Table::Stop,
-}];
+};
 
-const BLOCK_REFERENCES: [Reference; 6] = [
-    Reference {
-        column: 3,
-        to: Table::Depot,
-    },
-    Reference {
-        column: 5,
-        to: Table::VehicleType,
-    },
-    Reference {
-        column: 6,
-        to: Table::Stop,
-    },
-    Reference {
-        column: 7,
-        to: Table::StopPoint,
-    },
-    Reference {
-        column: 9,
-        to: Table::Stop,
-    },
-    Reference {
-        column: 10,
-        to: Table::StopPoint,
-    },
-];
+const DEPOT_OF_BLOCK: Reference = Reference {
+    column: 3,
+    to: Table::Depot,
+};
+
+const TYPE_OF_BLOCK: Reference = Reference {
+    column: 5,
+    to: Table::VehicleType,
+};
+
+const DEPARTURE_STOP: Reference = Reference {
+    column: 6,
+    to: Table::Stop,
+};
+
+const DEPARTURE_POINT: Reference = Reference {
+    column: 7,
+    to: Table::StopPoint,
+};
+
+const ARRIVAL_STOP: Reference = Reference {
+    column: 9,
+    to: Table::Stop,
+};
+
+const ARRIVAL_POINT: Reference = Reference {
+    column: 10,
+    to: Table::StopPoint,
+};
 
 // How many rows a lent book has: the rooms of all tables.
 pub const BOOK_ROWS: usize = 5 * ROWS;
@@ -205,12 +208,12 @@ fn block_reference(i: usize) -> Reference
     ensures { λ r. ⌜ r ≡ getD (references Table.Block) i (ref 0 Table.VehicleType) ⌝ }
 {
     match i {
-        0 => BLOCK_REFERENCES[0],
-        1 => BLOCK_REFERENCES[1],
-        2 => BLOCK_REFERENCES[2],
-        3 => BLOCK_REFERENCES[3],
-        4 => BLOCK_REFERENCES[4],
-        _ => BLOCK_REFERENCES[5],
+        0 => DEPOT_OF_BLOCK,
+        1 => TYPE_OF_BLOCK,
+        2 => DEPARTURE_STOP,
+        3 => DEPARTURE_POINT,
+        4 => ARRIVAL_STOP,
+        _ => ARRIVAL_POINT,
     }
 }
 
@@ -337,7 +340,7 @@ impl Table {
     {
         match self {
             Table::Block => block_reference(i),
-            _ => STOP_POINT_REFERENCES[0],
+            _ => STOP_OF_POINT,
         }
     }
 }

@@ -14,18 +14,15 @@ enum-told c = search needs
 block-reference-requires : tie.Need-block-reference-requires
 block-reference-requires c κs = rw (c .enum-told .given .1) at (c .before .before .pre)
 
-array-copy-out-result : tie.Need-array-copy-out-result
-array-copy-out-result c = search needs
-
 returns : tie.Need-returns
 returns c = rw (c .before .enum-told .given .1) (c .block-reference .ensures)
 
 returns-2 : tie.Need-returns-2
 returns-2 c =
-    let a = c .before .before .args in
-    let h = c .before .match .keys2 in
-    reference-of-point (a .self) (a .i) (λ (e : a .self ≡ Block). ⊎-elim (λ n. omega (arith, n)) (⊎-elim (λ n. omega (arith, n)) (⊎-elim (λ n. omega (arith, n)) (λ n. omega (arith, n)))) (rw e at h)) (c .before .before .pre)
+    let a = c .before .args in
+    let h = c .match .keys2 in
+    reference-of-point (a .self) (a .i) (λ (e : a .self ≡ Block). ⊎-elim (λ n. omega (arith, n)) (⊎-elim (λ n. omega (arith, n)) (⊎-elim (λ n. omega (arith, n)) (λ n. omega (arith, n)))) (rw e at h)) (c .before .pre)
 
 pub reference-spec : {M : Type 1} → statement M
 reference-spec =
-    tie.close (tie.spec enum-told block-reference-requires array-copy-out-result returns returns-2)
+    tie.close (tie.spec enum-told block-reference-requires returns returns-2)
