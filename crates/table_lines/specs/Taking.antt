@@ -15,6 +15,8 @@ use Rattle.intake.specs.Shelving.{shelfBook, OnShelf}
 use Rattle.header.specs.Header.{Header}
 use Rattle.header.specs.Heading.{places}
 use Rattle.row_line.specs.RowLine.{rowRead}
+use Rattle.row_line.specs.Judging.{read}
+use Rattle.values.specs.declared.Judged.{Judged}
 use Rattle.table_lines.specs.Reading.{judged, rowsRead}
 use Rattle.table_lines.specs.declared.Filled.{Filled}
 
@@ -23,10 +25,14 @@ pub record Taken (t : Table) (h : Header) (line : Bytes) (old new : Book) (c : C
   pub is : c ≡ judged t h line old
   pub enters : c ≡ Passes → new ≡ entered t (rowRead t h line) old
 
--- a line, on the n rows of a shelf: `slots` and `order` are what it held before, `slots′` and `order′` behind the line
-pub record LineTaken (t : Table) (at : List ℕ) (line : Bytes) (slice slots slots′ : List Row) (order order′ : List ℕ) (n : ℕ) (c : Check) : Type 0 where
+-- what was read of some line, under some header of the table
+abbrev pub ReadBy : Table → Judged → Type 0
+ReadBy t j = (h : Header) × ((line : Bytes) × (j ≡ read t h line))
+
+-- a line that was read, on the n rows of a shelf: `slots` and `order` are what it held before, `slots′` and `order′` behind the line
+pub record RowTaken (t : Table) (j : Judged) (slice slots slots′ : List Row) (order order′ : List ℕ) (n : ℕ) (c : Check) : Type 0 where
   pub on : c ≡ Passes → OnShelf t slice slots′ order′ (suc n)
-  pub taken : (h : Header) → at ≡ places h → Taken t h line (shelfBook t slice slots order n) (shelfBook t slice slots′ order′ (suc n)) c
+  pub taken : (h : Header) (line : Bytes) → j ≡ read t h line → Taken t h line (shelfBook t slice slots order n) (shelfBook t slice slots′ order′ (suc n)) c
 
 -- the rows of a text behind its header, on such a shelf
 pub record LinesTaken (t : Table) (at : List ℕ) (s : Bytes) (slice slots slots′ : List Row) (order order′ : List ℕ) (n : ℕ) (f : Filled) : Type 0 where

@@ -3,7 +3,7 @@ ghost use Prim.Native.Nat.{_<_, _≤_};
 ghost use lib.ListN.{length};
 ghost use Rattle.intake.specs.Shelving.{OnShelf};
 ghost use Rattle.row_line.specs.Judging.{Guided};
-ghost use Rattle.table_lines.specs.Taking.{LineTaken, LinesTaken};
+ghost use Rattle.table_lines.specs.Taking.{ReadBy, RowTaken, LinesTaken};
 use header::Places;
 use refusals::Check;
 use refusals::Verdict;
@@ -11,6 +11,7 @@ use rows::ROWS;
 use rows::Row;
 use tables::Columns;
 use tables::Table;
+use values::Judged;
 
 // The lines of a table taken onto its shelf: what they are refused for, and how many rows stand there.
 pub struct Filled {
@@ -18,25 +19,21 @@ pub struct Filled {
     pub count: usize,
 }
 
-// 5, 6, 7, 8, 11, 9, 10: a line on the book as the earlier ones left it; where it passes, its row enters the shelf.
-fn take_line(
-    line: &[u8],
+// 5, what the line was judged, and 11, 9, 10: a line on the book as the earlier ones left it; where it passes, its row enters the shelf.
+fn take_row(
+    read: Judged,
     t: Table,
-    columns: &Columns,
-    at: &Places,
-    bounds: &mut [usize],
     book: &[Row],
     slots: &mut [Row],
     order: &mut [u16],
     n: usize,
 ) -> Check
-    requires { ⌜ Guided t (now columns) (now at) × (32 < length (now bounds)) × OnShelf t (now book) (now slots) (now order) n ⌝ }
-    ensures { λ r. ⌜ LineTaken t (now (at .entry)) (now (line .entry)) (now (book .entry)) (now (slots .entry)) (now (slots .exit)) (now (order .entry)) (now (order .exit)) n r ⌝ }
+    requires { ⌜ OnShelf t (now book) (now slots) (now order) n × ReadBy t read ⌝ }
+    ensures { λ r. ⌜ RowTaken t read (now (book .entry)) (now (slots .entry)) (now (slots .exit)) (now (order .entry)) (now (order .exit)) n r ⌝ }
 {
     if n == ROWS {
         return Check::too_many_rows();
     }
-    let read = row_line::read_row(line, t, columns, at, bounds);
     let check = read.check;
     let row = read.row;
     match check {
@@ -69,17 +66,8 @@ pub fn take_lines(
         let l = lines::next_line(bytes, i);
         let end = l.end;
         let next = l.next;
-        let check = take_line(
-            &bytes[i..end],
-            t,
-            columns,
-            at,
-            bounds,
-            book,
-            slots,
-            order,
-            count,
-        );
+        let read = row_line::read_row(&bytes[i..end], t, columns, at, bounds);
+        let check = take_row(read, t, book, slots, order, count);
         let v = check.on(table, line);
         match v {
             Verdict::Accepted => {}

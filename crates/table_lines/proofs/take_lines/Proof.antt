@@ -38,17 +38,24 @@ rows-holds c = let st = c .before .before .before .before in (omega arith, searc
 next-line-requires : tie.Need-next-line-requires Inv-rows μ-rows
 next-line-requires c κs = search needs
 
-sub-take-line : tie.Need-sub-take-line Inv-rows μ-rows
-sub-take-line c = line-from (c .before .before .before .before .before .before .before .args .bytes .now) (c .before .before .rows .i) (c .next-line .result) (c .before .rows-test .taken) (c .next-line .ensures) .low
+sub-read-row : tie.Need-sub-read-row Inv-rows μ-rows
+sub-read-row c = line-from (c .before .before .before .before .before .before .before .args .bytes .now) (c .before .before .rows .i) (c .next-line .result) (c .before .rows-test .taken) (c .next-line .ensures) .low
 
-part-take-line-start : tie.Need-part-take-line-start Inv-rows μ-rows
-part-take-line-start c = line-from (c .before .before .before .before .before .before .before .args .bytes .now) (c .before .before .rows .i) (c .next-line .result) (c .before .rows-test .taken) (c .next-line .ensures) .low
+part-read-row-start : tie.Need-part-read-row-start Inv-rows μ-rows
+part-read-row-start c = line-from (c .before .before .before .before .before .before .before .args .bytes .now) (c .before .before .rows .i) (c .next-line .result) (c .before .rows-test .taken) (c .next-line .ensures) .low
 
-part-take-line-end : tie.Need-part-take-line-end Inv-rows μ-rows
-part-take-line-end c = line-from (c .before .before .before .before .before .before .before .args .bytes .now) (c .before .before .rows .i) (c .next-line .result) (c .before .rows-test .taken) (c .next-line .ensures) .high
+part-read-row-end : tie.Need-part-read-row-end Inv-rows μ-rows
+part-read-row-end c = line-from (c .before .before .before .before .before .before .before .args .bytes .now) (c .before .before .rows .i) (c .next-line .result) (c .before .rows-test .taken) (c .next-line .ensures) .high
 
-take-line-requires : tie.Need-take-line-requires Inv-rows μ-rows
-take-line-requires c κs = let at = c .before .before .before .before .before .before .rows in (c .before .before .before .before .before .before .before .before .before .before .before .pre .0, omega (arith, c .before .before .before .before .before .before .before .before .before .before .before .pre .1, at .inv .4), at .inv .3)
+read-row-requires : tie.Need-read-row-requires Inv-rows μ-rows
+read-row-requires c κs =
+    let st = c .before .before .before .before .before .before .before .before .before in
+    (st .pre .0 .rules, omega (arith, st .pre .0 .few, st .pre .1, c .before .before .before .before .rows .inv .4))
+
+take-row-requires : tie.Need-take-row-requires Inv-rows μ-rows
+take-row-requires c κs =
+    let headed = c .before .before .before .before .before .before .before .before .before .before .before .before .before .before .pre .0 .headed in
+    (c .before .before .before .before .before .before .before .before .before .rows .inv .3, (headed .0, (_, c .before .before .before .before .read-row .ensures (headed .0) (headed .1))))
 
 on-requires : tie.Need-on-requires Inv-rows μ-rows
 on-requires c κs = search needs
@@ -61,36 +68,38 @@ enum-known-v c = search needs
 
 add-count : tie.Need-add-count Inv-rows μ-rows
 add-count c =
-    let at = c .before .before .before .before .before .before .before .before .before .before .before .before .before .before .before .rows in
-    omega (arith, shelf-most (c .before .before .before .before .before .before .before .before .before .before .before .before .before .before .before .before .before .before .before .before .args .t) (c .before .before .before .before .before .before .before .before .before .before .before .before .before .before .before .before .before .before .before .before .args .book .now) (at .slots) (at .order) (at .count) (at .inv .3), room-alike (c .before .before .before .before .before .before .before .before .before .before .before .before .before .before .before .before .before .before .before .before .args .t))
+    let st = c .before .before .before .before .before .before .before .before .before .before .before .before .before .before .before .before .before .before .before .before .before in
+    let at = c .before .before .before .before .before .before .before .before .before .before .before .before .before .before .before .before .rows in
+    omega (arith, shelf-most (st .args .t) (st .args .book .now) (at .slots) (at .order) (at .count) (at .inv .3), room-alike (st .args .t))
 
 add-line : tie.Need-add-line Inv-rows μ-rows
-add-line c = omega (arith, c .before .before .before .before .before .before .before .before .before .before .before .before .before .before .before .rows .inv .1, c .before .before .before .before .before .before .before .before .before .before .before .before .before .before .before .before .before .before .before .before .pre .3, c .before .before .before .before .before .before .before .before .before .before .before .before .before .before .rows-test .taken)
+add-line c = omega (arith, c .before .before .before .before .before .before .before .before .before .before .before .before .before .before .before .before .rows .inv .1, c .before .before .before .before .before .before .before .before .before .before .before .before .before .before .before .before .before .before .before .before .before .pre .3, c .before .before .before .before .before .before .before .before .before .before .before .before .before .before .before .rows-test .taken)
 
 rows-less : tie.Need-rows-less Inv-rows μ-rows
 rows-less c =
-    let l = line-from (c .before .before .before .before .before .before .before .before .before .before .before .before .before .before .before .before .before .before .before .before .args .bytes .now) (c .before .before .before .before .before .before .before .before .before .before .before .before .before .before .before .rows .i) (c .before .before .before .before .before .before .before .before .before .before .before .before .before .next-line .result) (c .before .before .before .before .before .before .before .before .before .before .before .before .before .before .rows-test .taken) (c .before .before .before .before .before .before .before .before .before .before .before .before .before .next-line .ensures) in
-    omega (arith, l .on, l .past, c .before .before .before .before .before .before .before .before .before .before .before .before .before .before .rows-test .taken)
+    let l = line-from (c .before .before .before .before .before .before .before .before .before .before .before .before .before .before .before .before .before .before .before .before .before .args .bytes .now) (c .before .before .before .before .before .before .before .before .before .before .before .before .before .before .before .before .rows .i) (c .before .before .before .before .before .before .before .before .before .before .before .before .before .before .next-line .result) (c .before .before .before .before .before .before .before .before .before .before .before .before .before .before .before .rows-test .taken) (c .before .before .before .before .before .before .before .before .before .before .before .before .before .before .next-line .ensures) in
+    omega (arith, l .on, l .past, c .before .before .before .before .before .before .before .before .before .before .before .before .before .before .before .rows-test .taken)
 
 rows-again : tie.Need-rows-again Inv-rows μ-rows
 rows-again c =
-    let st = c .before .before .before .before .before .before .before .before .before .before .before .before .before .before .before .before .before .before .before .before in
-    let at = c .before .before .before .before .before .before .before .before .before .before .before .before .before .before .before .rows in
-    let next = c .before .before .before .before .before .before .before .before .before .before .before .before .before .next-line in
-    let taken = c .before .before .before .before .before .before .before .before .take-line in
+    let st = c .before .before .before .before .before .before .before .before .before .before .before .before .before .before .before .before .before .before .before .before .before in
+    let at = c .before .before .before .before .before .before .before .before .before .before .before .before .before .before .before .before .rows in
+    let next = c .before .before .before .before .before .before .before .before .before .before .before .before .before .before .next-line in
+    let read = c .before .before .before .before .before .before .before .before .before .before .before .read-row in
+    let taken = c .before .before .before .before .before .before .take-row in
     let on = c .before .before .on in
     let placed-here = on .ensures ∙ ap (λ (n : ℕ). placed n (at .line) (taken .result)) (at .inv .5) in
-    let l = line-from (st .args .bytes .now) (at .i) (next .result) (c .before .before .before .before .before .before .before .before .before .before .before .before .before .before .rows-test .taken) (next .ensures) in
+    let l = line-from (st .args .bytes .now) (at .i) (next .result) (c .before .before .before .before .before .before .before .before .before .before .before .before .before .before .before .rows-test .taken) (next .ensures) in
     let passes = placed-passes (number (st .args .t)) (at .line) (taken .result) (sym placed-here ∙ c .enum-told .given .1) in (
       l .past,
       omega (arith, l .on, at .inv .1),
       at .inv .2,
       rw add-one (taken .ensures .on passes),
-      omega (arith, c .before .before .before .before .before .before .before .bounds .given, at .inv .4),
+      omega (arith, c .before .before .before .before .before .before .before .before .before .before .bounds .given, at .inv .4),
       at .inv .5,
       λ h kept. at .inv .6 h kept
-          ∙ rows-passed (st .args .t) h (at .line) (st .args .bytes .now) (at .i) (shelfBook (st .args .t) (st .args .book .now) (at .slots) (at .order) (at .count)) (next .result) (next .ensures) (c .before .before .before .before .before .before .before .before .before .before .before .before .before .before .rows-test .taken)
-          (taken .result) _ (rw add-one (taken .ensures .taken h kept)) (on .result) placed-here (c .enum-told .given .1),
+          ∙ rows-passed (st .args .t) h (at .line) (st .args .bytes .now) (at .i) (shelfBook (st .args .t) (st .args .book .now) (at .slots) (at .order) (at .count)) (next .result) (next .ensures) (c .before .before .before .before .before .before .before .before .before .before .before .before .before .before .before .rows-test .taken)
+          (taken .result) _ (rw add-one (taken .ensures .taken h _ (read .ensures h kept))) (on .result) placed-here (c .enum-told .given .1),
     )
 
 same-length : tie.Need-same-length Inv-rows μ-rows
@@ -112,30 +121,31 @@ returns c =
     }
 
 same-length-4 : tie.Need-same-length-4 Inv-rows μ-rows
-same-length-4 c = search (needs, c .before .before .before .before .before .before .before .before .bounds .given, c .before .before .before .before .before .before .before .before .before .before .before .before .before .before .before .before .rows .inv .4)
+same-length-4 c = search (needs, c .before .before .before .before .before .before .before .before .before .before .before .bounds .given, c .before .before .before .before .before .before .before .before .before .before .before .before .before .before .before .before .before .rows .inv .4)
 
 same-length-5 : tie.Need-same-length-5 Inv-rows μ-rows
-same-length-5 c = search (needs, c .before .before .before .before .before .before .slots .given, c .before .before .before .before .before .before .before .before .before .before .before .before .before .before .before .before .rows .inv .3 .long, c .before .before .before .before .before .before .before .before .before .before .before .before .before .before .before .before .before .before .before .before .before .pre .2 .long)
+same-length-5 c = search (needs, c .before .before .before .before .before .before .slots .given, c .before .before .before .before .before .before .before .before .before .before .before .before .before .before .before .before .before .rows .inv .3 .long, c .before .before .before .before .before .before .before .before .before .before .before .before .before .before .before .before .before .before .before .before .before .before .pre .2 .long)
 
 same-length-6 : tie.Need-same-length-6 Inv-rows μ-rows
 same-length-6 c =
-    let st = c .before .before .before .before .before .before .before .before .before .before .before .before .before .before .before .before .before .before .before .before .before in
-    let at = c .before .before .before .before .before .before .before .before .before .before .before .before .before .before .before .before .rows in
+    let st = c .before .before .before .before .before .before .before .before .before .before .before .before .before .before .before .before .before .before .before .before .before .before in
+    let at = c .before .before .before .before .before .before .before .before .before .before .before .before .before .before .before .before .before .rows in
     search (needs, c .before .before .before .before .before .order .given, at .inv .3 .shelf .long, at .inv .3 .long, st .pre .2 .shelf .long, st .pre .2 .long)
 
 returns-2 : tie.Need-returns-2 Inv-rows μ-rows
 returns-2 c =
-    let st = c .before .before .before .before .before .before .before .before .before .before .before .before .before .before .before .before .before .before .before .before .before in
-    let at = c .before .before .before .before .before .before .before .before .before .before .before .before .before .before .before .before .rows in
-    let next = c .before .before .before .before .before .before .before .before .before .before .before .before .before .before .next-line in
-    let taken = c .before .before .before .before .before .before .before .before .before .take-line in
+    let st = c .before .before .before .before .before .before .before .before .before .before .before .before .before .before .before .before .before .before .before .before .before .before in
+    let at = c .before .before .before .before .before .before .before .before .before .before .before .before .before .before .before .before .before .rows in
+    let next = c .before .before .before .before .before .before .before .before .before .before .before .before .before .before .before .next-line in
+    let read = c .before .before .before .before .before .before .before .before .before .before .before .before .read-row in
+    let taken = c .before .before .before .before .before .before .before .take-row in
     let on = c .before .before .before .on in
     let placed-here = on .ensures ∙ ap (λ (n : ℕ). placed n (at .line) (taken .result)) (at .inv .5) in
     record {
       on = λ a. let z : _≡_ {A = ℕ} 0 1 = cc in absurd (omega arith);
       taken = λ h kept. sym (at .inv .6 h kept
-          ∙ rows-refused (st .args .t) h (at .line) (st .args .bytes .now) (at .i) (shelfBook (st .args .t) (st .args .book .now) (at .slots) (at .order) (at .count)) (next .result) (next .ensures) (c .before .before .before .before .before .before .before .before .before .before .before .before .before .before .before .rows-test .taken)
-          (taken .result) _ (taken .ensures .taken h kept) (on .result) placed-here _ (c .before .v .given .1));
+          ∙ rows-refused (st .args .t) h (at .line) (st .args .bytes .now) (at .i) (shelfBook (st .args .t) (st .args .book .now) (at .slots) (at .order) (at .count)) (next .result) (next .ensures) (c .before .before .before .before .before .before .before .before .before .before .before .before .before .before .before .before .rows-test .taken)
+          (taken .result) _ (taken .ensures .taken h _ (read .ensures h kept)) (on .result) placed-here _ (c .before .v .given .1));
     }
 
 pub take-lines-spec : {M : Type 1} → statement M
@@ -147,10 +157,11 @@ take-lines-spec =
     number-requires
     rows-holds
     next-line-requires
-    sub-take-line
-    part-take-line-start
-    part-take-line-end
-    take-line-requires
+    sub-read-row
+    part-read-row-start
+    part-read-row-end
+    read-row-requires
+    take-row-requires
     on-requires
     enum-told
     enum-known-v
