@@ -25,6 +25,7 @@ use Rattle.slip_line.proofs.Asking.{read-then}
 use Rattle.block_change.specs.Change.{missingBlock, lineJudged}
 
 -- rows with zeros behind their numbers -----------------------------------------------------------------------------------------
+
 module _ (ns : List ℕ) where
   pub time-wide : timeFault Block (wide ns) ≡ timeFault Block ns
   time-wide = simp getD-padded

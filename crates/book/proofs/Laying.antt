@@ -22,6 +22,7 @@ use Rattle.book.specs.Book.{rows, Book, with-rows, entered, empty}
 use Rattle.book.specs.Holding.{Sound}
 
 -- a list between two others -----------------------------------------------------------------------------------------------------
+
 module _ {A : Type 0} (p q r : List A) (i m : ℕ) (lp : length p ≡ i) (lq : length q ≡ m) where
   between : take m (drop i (p ++ (q ++ r))) ≡ q
   between = ap (take m) (drop-at p (q ++ r) i lp) ∙ take-at q r m lq
@@ -30,6 +31,7 @@ module _ {A : Type 0} (p q r : List A) (i m : ℕ) (lp : length p ≡ i) (lq : l
   put-between y = rw (take-at p (q ++ r) i lp, drop-at p (q ++ r) i lp, drop-at q r m lq)
 
 -- the parts -----------------------------------------------------------------------------------------------------------------------
+
 module _ (xs : List Row) (long : length xs ≡ bookRows) where
   pub length-part : (t : Table) → length (part t xs) ≡ room t
   length-part t = simp (length-take, length-drop) (omega (arith, part-within t))
@@ -77,6 +79,7 @@ module _ (t : Table) (xs : List Row) (sound : Sound xs) (lent : List Row) (is : 
       ap (λ (l : List Row). getD l i []) (sym lent-rows) ∙ used-row lent i g
 
 -- a book in order ------------------------------------------------------------------------------------------------------------------
+
 -- each table's rows have room, by rising key, and each row's VERSION is at least 1
 pub record Orderly (b : Book) : Type 0 where
   pub few : (t : Table) → length (rows t b) ≤ room t
@@ -155,6 +158,7 @@ pub rows-apart : (t u : Table) (xs : List Row) (b : Book) → (partOf u ≡ part
 rows-apart t u xs b n = every-table (λ v l. (partOf v ≡ partOf t → ⊥) → l ≡ rows v b) b t xs (λ m. absurd (m refl)) (λ v m. refl) u n
 
 -- laid out -----------------------------------------------------------------------------------------------------------------------
+
 laid-append : (ts us : List Table) (b : Book) → laidOf (ts ++ us) b ≡ laidOf ts b ++ laidOf us b
 laid-append [] us b = refl
 laid-append (t ∷ ts) us b =
@@ -275,6 +279,7 @@ module _ (xs : List Row) (sound : Sound xs) where
       rw (m, e, f) (ap (λ (l : List Row). take (begin t) l ++ (filled (room t) ys ++ drop (room t) (drop (begin t) l))) (sym laid-book) ∙ part-put (bookOf xs) (orderly-book .few) t ys)
 
 -- changes keep a book in order -------------------------------------------------------------------------------------------------------
+
 pub orderly-with : (b : Book) → Orderly b → (t : Table) (ys : List Row) → length ys ≤ room t → rising (keyWidth t) ys ≡ true → Versioned ys → Orderly (with-rows t ys b)
 orderly-with b o t ys f r v =
     record {

@@ -47,6 +47,7 @@ use Rattle.cell_question.specs.declared.CellAnswer.{CellAnswer}
 use Rattle.cell_question.specs.Asking.{cellJudged, rowAnswer}
 
 -- answers ----------------------------------------------------------------------------------------------------------------------
+
 -- a refusal says the same of every cell
 pub refused-answer : (fault : Check) (table line : ℕ) (v : Verdict) → v ≡ placed table line fault → (n k : ℕ) (c : Cell) → fault ≡ Fails n k
     → _≡_ {A = CellAnswer} (record { verdict = v; cell = Empty }) (answered (placed table line (Fails n k)) c)
@@ -98,6 +99,7 @@ pub said-bare : (cell : Bytes) (at from len : ℕ) → quoted cell ≡ false →
 said-bare cell at from len q e f = rw (f, e, q)
 
 -- where a cell begins on its line -----------------------------------------------------------------------------------------------
+
 offset-from : (i k b : ℕ) (h : Header) (cs : List Bytes) → length cs ≡ length h → (placeFrom i k h ≡ 0 → ⊥) → getD (boundsFrom b cs) (placeFrom i k h - suc i) 0 ≡ b + offset k h cs
 unfolding placeFrom offset boundsFrom
 offset-from i k b [] cs l n = absurd (n refl)
@@ -157,6 +159,7 @@ begin-within line bounds count n m = go (eqb n 0) (ltb count n) refl refl
         omega (arith, s .ordered, s .inside)
 
 -- a row ---------------------------------------------------------------------------------------------------------------------------
+
 -- 6 and 7 of a row, before its cell is looked at
 module _ (t : Table) (h : Header) (line k begin : ℕ) (row : Bytes) where
   abbrev rowCell : Bytes
@@ -190,6 +193,7 @@ module _ (t : Table) (h : Header) (line k begin : ℕ) (row : Bytes) where
       ∙ sym (row-checked rowCheck (rw pass))
 
 -- the order of the checks ---------------------------------------------------------------------------------------------------------
+
 module _ (t : Table) (s : Bytes) (line k : ℕ) where
   pub column-zero : k ≡ 0 → answered (nowhere notThere) Empty ≡ tableCell t s line k
   unfolding tableCell cellVerdict
@@ -246,6 +250,7 @@ module _ (s : Bytes) (table line k : ℕ) (n : Named) (e : n ≡ numbered table)
   asked-unknown g = ap (λ (z : Named). askedOf z s line k) (sym g ∙ e)
 
 -- the stretch ---------------------------------------------------------------------------------------------------------------------
+
 under-none : (k : ℕ) (h : Header) → length (under k h []) ≡ 0
 unfolding under
 under-none k [] = refl

@@ -60,6 +60,7 @@ grownBy-after p (faulty n) = refl
 grownBy-after p (cells cs) = rw append-nil
 
 -- what is cut makes up the line -------------------------------------------------------------------------------------------
+
 -- what cells, or fields, parted by a byte make up: the whole text; a faulty one is counted from 1
 abbrev pub Whole : ℕ → Cut → Bytes → Type 0
 Whole sep (faulty n) s = 1 ≤ n
@@ -127,6 +128,7 @@ pub faulty-from-one : (line : Bytes) (n : ℕ) → cut line ≡ faulty n → 1 �
 faulty-from-one line n e = rw e at (whole-from Fresh line)
 
 -- fields, step by step ------------------------------------------------------------------------------------------------------
+
 -- whether a field ends at a place
 abbrev pub endsAt : Bytes → ℕ → Bool
 endsAt line i = if ltb i (length line) then eqb (getD line i 0) 9 else true

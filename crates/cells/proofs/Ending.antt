@@ -22,6 +22,7 @@ use Rattle.cells.proofs.Cutting.{before, grownBy, grownBy-after}
 use Rattle.cells.proofs.Marking.{Sofar, bytes-more, cell-more}
 
 -- bytes that leave a state as it is ---------------------------------------------------------------------------------------
+
 -- the kind of a byte that is no quote: by whether it is a semicolon, and a control byte
 abbrev bare : Bool → Bool → Kind
 bare m c = if m then Semicolon else if c then Control else Other
@@ -64,6 +65,7 @@ module _ (b : ℕ) where
       go false false = refl
 
 -- where a cell ends, step by step -----------------------------------------------------------------------------------------
+
 -- what a byte makes of a cell, by its kind
 plain-kind : (k : Kind) (i : ℕ) (on : State → CellEnd) → stays Plain k ≡ true → ended (next Plain k) i on ≡ on Plain
 plain-kind Quote i on e = cc
@@ -184,6 +186,7 @@ module _ (line : Bytes) (i : ℕ) where
   fresh-inside q = fresh-quoted i (drop i line) q ∙ rw (drop-drop 1 i line)
 
 -- the line is cut there ---------------------------------------------------------------------------------------------------
+
 -- what the rest of a line is cut into where a cell has ended
 abbrev pub following : Bytes → Cut
 following [] = cells []

@@ -13,6 +13,7 @@ use Rattle.cells.specs.declared.Answer.{Answer}
 use Rattle.cells.proofs.Cutting.{ahead, grownBy, ahead-more, ahead-faulty, ahead-none, grownBy-nil, grownBy-one, grownBy-more, grownBy-after, cells-parted}
 
 -- marks of one cell more ----------------------------------------------------------------------------------------------------
+
 -- where the next cell begins
 abbrev pub behind : ℕ → List Bytes → ℕ
 behind i [] = i
@@ -106,6 +107,7 @@ module _ (room : ℕ) (whole : Cut) (bounds : List ℕ) where
     no-cells cs w s = let z : _≡_ {A = ℕ} 0 1 = cc (fault-found s) in omega arith
 
 -- what marks say ------------------------------------------------------------------------------------------------------------
+
 -- a cell stands on a line from a on; behind it, and a byte that parts them, a next one would begin at b
 pub record Stands (line : Bytes) (a b : ℕ) (cell : Bytes) : Type 0 where
   pub ordered : a < b

@@ -14,6 +14,7 @@ use Rattle.cells.specs.declared.Answer.the-variants.{Good}
 use Rattle.cells.proofs.Marking.{Stands, cell-stands, good-cells, good-count}
 
 -- marks ----------------------------------------------------------------------------------------------------------------------
+
 -- a number behind the last cell is no cell's
 pub behind-last : (n : ℕ) (cs : List Bytes) → 1 ≤ n → length cs < n → cellNumbered n cs ≡ []
 behind-last n cs h l = rw (ne-eqb n 0 (λ e. omega arith), List·getD-eq-default cs [] {n = n - 1} (omega arith))

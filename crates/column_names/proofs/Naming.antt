@@ -105,6 +105,7 @@ place-on s name at e n b ee eb h l =
     asked s name at e n b ee eb ∙ rw (h, behind-more (drop at s) w, d, add-one n)
 
 -- a table's names ------------------------------------------------------------------------------------------------------------
+
 -- the names of a table's columns, as its header is written
 abbrev pub headerOf : Table → Bytes
 headerOf t = parted 59 (map (λ x. x .name) (columnsOf t))

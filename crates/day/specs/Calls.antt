@@ -14,6 +14,7 @@ use Rattle.delivery.specs.Calls.{readCall}
 use Rattle.slips.specs.Calls.{Outcome, outcome, cleared, slipCall, workSized}
 
 -- a day: the delivery, then the slip -------------------------------------------------------------------------------------------
+
 -- "A refused reading leaves an empty book"; a book of another length "stays as it came"
 abbrev pub emptied : List Row → List Row
 emptied book = if eqb (length book) bookRows then laid empty else book

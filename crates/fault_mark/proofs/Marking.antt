@@ -29,6 +29,7 @@ use Rattle.fault_mark.specs.Marks.{past, over, resumed, sizeFrom, beginF
 use Rattle.fault_mark.specs.declared.Mark.the-variants.{Cell, Nothing}
 
 -- cells --------------------------------------------------------------------------------------------------------------------
+
 module _ (line : Bytes) (i : ℕ) (s : State) (h : i < length line) where
   -- what the byte at i makes of a cell, as it is found by the byte's kind
   module _ (k : Kind) (t : State) (o : Bool) (d : k ≡ kind (getD line i 0)) (e : t ≡ past s k) (f : o ≡ over t) where
@@ -118,6 +119,7 @@ pub marked-at : (line : Bytes) (start end cell from to : ℕ) → (cell ≡ 0 �
 marked-at line start end cell from to n e f = rw (ne-eqb cell 0 n, f, e)
 
 -- the cell that names a column -----------------------------------------------------------------------------------------------
+
 module _ (k i : ℕ) (h : Header) where
   pub place-here : i < length h → getD h i 0 ≡ k → placeFrom i k (drop i h) ≡ i + 1
   unfolding placeFrom
@@ -184,6 +186,7 @@ module _ (t : Table) (head : Bytes) (number k : ℕ) where
         cell-other e r w f g = f ∙ g ∙ rw (ne-eqb k 0 some, ne-eqb number 2 there, ne-eqb number 3 once, ne-eqb number 6 e)
 
 -- the line of a place --------------------------------------------------------------------------------------------------------
+
 module _ (t : Table) (s : Bytes) (p : Place) where
   pub line-none : p .line ≡ 0 → Nothing ≡ markedOf t s p
   unfolding markedOf

@@ -20,6 +20,7 @@ use Rattle.fault_mark.specs.declared.Mark.{Mark}
 use Rattle.fault_mark.specs.declared.Mark.the-variants.{Line, Cell, Nothing}
 
 -- the cells of a line that may have a fault -------------------------------------------------------------------------------
+
 -- A byte that is a fault is passed over, so that a faulty cell goes as far as it could: it stays as it was before that byte, and one that had
 -- just begun is a plain one
 abbrev pub kept : State → State
@@ -82,6 +83,7 @@ abbrev pub numberedCell : ℕ → Bytes → Bytes
 numberedCell n line = if eqb n 0 then [] else take (cellEnd n line - cellBegin n line) (drop (cellBegin n line) line)
 
 -- the cell that a place names ----------------------------------------------------------------------------------------------
+
 -- the columns that a header's cells name; "more than 32 header cells" are not looked at
 abbrev pub columnsNamed : Table → Bytes → Header
 columnsNamed t head = if ltb 32 (length (header t (cellsOf (cut head)))) then [] else header t (cellsOf (cut head))
@@ -101,6 +103,7 @@ cellNamed t head number k =
     else placeFrom 0 k (columnsNamed t head)
 
 -- the mark -----------------------------------------------------------------------------------------------------------------
+
 -- a line that begins and ends at these places of its text, and its cell of that number
 abbrev pub markedOn : Bytes → ℕ → ℕ → ℕ → Mark
 markedOn line start end cell =

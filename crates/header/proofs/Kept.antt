@@ -30,6 +30,7 @@ headed-check Passes h = refl
 headed-check (Fails n k) h = refl
 
 -- the top of a text ---------------------------------------------------------------------------------------------------------------
+
 module _ (t : Table) (s : Bytes) where
   pub top-long : 65536 < length s → (top : Top) → top .verdict ≡ placed (number t) 0 textTooLong → TopOf t s top
   top-long l top e =

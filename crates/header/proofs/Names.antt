@@ -26,6 +26,7 @@ use Rattle.header.specs.declared.Heading.{Heading}
 use Rattle.header.proofs.Quoting.{number-of-content}
 
 -- a column among those to the left --------------------------------------------------------------------------------------------
+
 in-turn : (a b c : Bool) → (a || (b || c)) ≡ (b || (a || c))
 in-turn true true c = refl
 in-turn true false c = refl
@@ -59,6 +60,7 @@ unfolding repeated
 repeated-end h i seen l = rw (drop-of-length-le h l)
 
 -- where a column stands --------------------------------------------------------------------------------------------------------
+
 place-member : (i k : ℕ) (xs : Header) → eqb (placeFrom i k xs) 0 ≡ not (member k xs)
 unfolding placeFrom member
 place-member i k [] = refl
@@ -134,6 +136,7 @@ positive zero e = absurd (e refl)
 positive (suc n) e = omega arith
 
 -- the walk ---------------------------------------------------------------------------------------------------------------------
+
 -- i names are walked: none of them came twice, and each is noted
 pub record Walked (h : Header) (at : List ℕ) (i : ℕ) : Type 0 where
   pub noted : at ≡ spots (length h) (take i h)
@@ -171,6 +174,7 @@ module _ (h : Header) (at : List ℕ) (i : ℕ) (w : Walked h at i) (l : length 
   walked-once = w .ahead ∙ repeated-end h i (take i h) l
 
 -- what is missing --------------------------------------------------------------------------------------------------------------
+
 module _ (xs : List Column) (k : ℕ) (h : Header) (at : List ℕ) (e : at ≡ places h) (room : k < 11) (l : k < length xs) where
   lacked : eqb (getD at (k + 1) 0) 0 ≡ not (member (k + 1) h)
   lacked = rw (e, place-at h k room) (place-member 0 (k + 1) h)
@@ -188,6 +192,7 @@ unfolding missingFrom
 missing-end xs k h l = rw (drop-of-length-le xs l)
 
 -- the checks of a header -------------------------------------------------------------------------------------------------------
+
 module _ (t : Table) (h : Header) where
   pub names-twice : (x : ℕ) → repeated [] h ≡ x → 0 < x → namesCheck t h ≡ columnTwice x
   names-twice x e p = rw (e, lt-ltb 0 x p)

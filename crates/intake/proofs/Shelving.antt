@@ -43,6 +43,7 @@ used-all xs v =
     ap used (sym e) ∙ used-filled 0 xs v
 
 -- a table's rows on a shelf ---------------------------------------------------------------------------------------------------------
+
 module _ (t : Table) (xs : List Row) (sound : Sound xs) (slots rest : List Row) (order : List ℕ) (n : ℕ)
     (s : slots ≡ rows t (bookOf xs) ++ rest) (long : length slots ≡ room t) (o : order ≡ upFrom 0 (room t)) (as-many : n ≡ length (rows t (bookOf xs))) where
   few : n ≤ length slots
@@ -72,6 +73,7 @@ module _ (t : Table) (xs : List Row) (sound : Sound xs) (slots rest : List Row) 
   shelf-same = ap (λ (l : List Row). with-rows t l (bookOf xs)) start-rows ∙ with-same t (bookOf xs)
 
 -- a shelf's rows in the book --------------------------------------------------------------------------------------------------------
+
 module _ (t : Table) (xs slots : List Row) (order : List ℕ) (n : ℕ) (on : OnShelf t xs slots order n) where
   pub versioned-shelf : Versioned (shelved slots order n)
   versioned-shelf = subst Versioned (on .begun) (used-versioned (shelved slots order n))

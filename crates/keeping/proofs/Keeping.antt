@@ -30,6 +30,7 @@ use Rattle.rules.specs.Rules.{timeFault, unknown}
 use Rattle.keeping.specs.Keeping.{ranged, lawful, lawfulTable, lawfulBook, keepsRule}
 
 -- the numbers of a row ----------------------------------------------------------------------------------------------------------
+
 -- zeros behind the numbers that are kept, from place i on
 abbrev pub zeroFrom : ℕ → Row → Bool
 zeroFrom i row = same (drop i row) (replicate (11 - i) 0)
@@ -104,6 +105,7 @@ module _ (t : Table) (row : Row) (long : length row ≡ 11) (i : ℕ) where
       none (x ∷ xs) = refl
 
 -- a row's tests, in their order ------------------------------------------------------------------------------------------------------
+
 module _ (t : Table) (b : Book) (row : Row) where
   pub lawful-rest : same row (wide (take (keptWidth t) row)) ≡ false → lawful t b row ≡ false
   lawful-rest e = rw e
@@ -119,6 +121,7 @@ module _ (t : Table) (b : Book) (row : Row) where
     lawful-known g = rw (e, f, g)
 
 -- all rows, from place i on --------------------------------------------------------------------------------------------------------------
+
 module _ {A : Type 0} (f : A → Bool) (d : A) (xs : List A) (i : ℕ) where
   pub all-next : i < length xs → f (getD xs i d) ≡ true → all f (drop i xs) ≡ all f (drop (i + 1) xs)
   unfolding all
@@ -139,6 +142,7 @@ all-at f d (x ∷ xs) e zero h = and-left (f x) (all f xs) e
 all-at f d (x ∷ xs) e (suc i) h = all-at f d xs (and-right (f x) (all f xs) e) i (omega arith)
 
 -- the whole slice ----------------------------------------------------------------------------------------------------------------------
+
 pub all-true : {A : Type 0} (f : A → Bool) → ((x : A) → f x ≡ true) → (xs : List A) → all f xs ≡ true
 unfolding all
 all-true f h [] = refl

@@ -153,6 +153,7 @@ module _ (s : Bytes) (at feed : ℕ) (is : feed ≡ at + slipLength (drop at s))
   end-kept h r = rw (length-kept (drop at s) (feed - 1 - at) (omega arith) (λ e. r (sym (byte-before h) ∙ e))) (omega arith)
 
 -- a text's first line, and the lines behind it ------------------------------------------------------------------------------
+
 onto-first : (b : ℕ) (ls : List Bytes) (l : Bytes) (rest : List Bytes) → ls ≡ l ∷ rest → onto b ls ≡ (b ∷ l) ∷ rest
 onto-first b ls l rest e = rw e
 

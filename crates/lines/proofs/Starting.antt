@@ -11,6 +11,7 @@ use Rattle.lines.specs.declared.Line.{Line}
 use Rattle.lines.proofs.Lining.{start-step, start-le, line-start, length-room, room-le, head-line}
 
 -- where a line begins -----------------------------------------------------------------------------------------------------------
+
 pub start-first : (s : Bytes) → 0 ≡ lineStart 1 s
 unfolding lineStart
 start-first s = refl
@@ -41,6 +42,7 @@ head-within s r f =
     omega (arith, length-room s, room-le s)
 
 -- a header ------------------------------------------------------------------------------------------------------------------------
+
 pub head-row : (s : Bytes) (r : Line) → r ≡ lineAt s 0 → take (r .end - 0) (drop 0 s) ≡ headLine (lines s)
 head-row s r e =
     let z : r .end - 0 ≡ lineLength s = ap (λ (x : Line). x .end - 0) e ∙ (omega arith) in

@@ -10,6 +10,7 @@ use Rattle.lines.specs.Lines.{feedNext}
 use Rattle.lines.specs.declared.Line.{Line}
 
 -- where lines end -----------------------------------------------------------------------------------------------------------
+
 -- "A line's length leaves its line end out": the length of the first line of a table's text, and of a slip's
 unfoldable pub lineLength : Bytes → ℕ
 lineLength [] = 0

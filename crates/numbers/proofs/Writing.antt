@@ -12,6 +12,7 @@ use Rattle.words.specs.Words.{Bytes}
 use Rattle.numbers.specs.Numbers.{digits, decimal, valueFrom, value, allDigits, isDecimal}
 
 -- the digits of a number ---------------------------------------------------------------------------------------------------
+
 same-digits : (j k n : ℕ) (b : Bool) → ltb n 10 ≡ b → n ≤ j → n ≤ k → digits j b n ≡ digits k b n
 unfolding digits
 same-digits zero zero n b e p q = refl
@@ -51,6 +52,7 @@ module _ (P : ℕ → Type 0) (one : (n : ℕ) → n < 10 → P n) (more : (n : 
   by-digits n = by-digits-at n n (ltb n 10) refl (omega arith)
 
 -- how many there are -------------------------------------------------------------------------------------------------------
+
 pub decimal-one-length : (n : ℕ) → n < 10 → length (decimal n) ≡ 1
 decimal-one-length n h = rw (decimal-one n h)
 
@@ -81,6 +83,7 @@ pub decimal-short : (n : ℕ) → n < 2 ^ 64 → length (decimal n) ≤ 20
 decimal-short n h = decimal-width 19 n (omega (arith, h))
 
 -- what they are read as ----------------------------------------------------------------------------------------------------
+
 value-snoc : (a : ℕ) (ds : Bytes) (d : ℕ) → valueFrom a (ds ++ (d ∷ [])) ≡ valueFrom a ds * 10 + (d - 48)
 unfolding valueFrom
 value-snoc a [] d = refl

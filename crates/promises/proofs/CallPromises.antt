@@ -38,6 +38,7 @@ use Rattle.promises.proofs.DeliveryLaws.{Standing}
 use Rattle.promises.proofs.BackPromises.{reads-back}
 
 -- a reading --------------------------------------------------------------------------------------------------------------
+
 read-sized : (d : Delivery) (slice : List Row) → length slice ≡ 2560 → readCall d slice ≡ readOutcome (reading d)
 read-sized d slice n = rw (eq-eqb (length slice) 2560 n)
 
@@ -52,6 +53,7 @@ pub wrong-book-stays : promises.WrongBookStays
 wrong-book-stays d slice n = let e : eqb (length slice) 2560 ≡ false = ne-eqb (length slice) 2560 n in (rw e, rw e)
 
 -- a slip -----------------------------------------------------------------------------------------------------------------
+
 keeps : (r : Result) (book work : List Row) (p : Place) → slipOutcome r book work .verdict ≡ Refused p → slipOutcome r book work .book ≡ book
 keeps (refused q) book work p h = refl
 keeps (leaves b) book work p h = let z : _≡_ {A = ℕ} 0 1 = cc in let y : ⊥ = omega arith in absurd y
@@ -84,6 +86,7 @@ wrong-work-stays s book work n =
     )
 
 -- the writer -------------------------------------------------------------------------------------------------------------
+
 untouched : (v : Verdict) (s out : Bytes) (p : Place) → wrote v s out .verdict ≡ Refused p → (wrote v s out .size ≡ 0) × (wrote v s out .out ≡ out)
 untouched Accepted s out p h = let z : _≡_ {A = ℕ} 0 1 = cc in let y : ⊥ = omega arith in absurd y
 untouched (Refused q) s out p h = (refl, refl)
@@ -98,6 +101,7 @@ refused-sheet-keeps Accepted book out p h =
 refused-sheet-keeps (Refused q) book out p h = untouched (shortFor (refusalText q) out) (refusalText q) out p h
 
 -- a book that breaks the rule -------------------------------------------------------------------------------------------
+
 pub bad-book-refused : promises.BadBookRefused
 bad-book-refused book h =
     let e : keepsRule book ≡ false = broken (keepsRule book) refl in
@@ -108,6 +112,7 @@ bad-book-refused book h =
     broken false e = e
 
 -- lengths ----------------------------------------------------------------------------------------------------------------
+
 read-length : (d : Delivery) (slice : List Row) → length (readCall d slice .book) ≡ length slice
 read-length d slice = go (eqb (length slice) 2560) refl
   where
@@ -170,6 +175,7 @@ pub lengths-kept : promises.LengthsKept
 lengths-kept = (read-length, λ s book work. (slip-length s book work, work-length s book work), write-length)
 
 -- what is written by the call --------------------------------------------------------------------------------------------
+
 write-laid : (b : Book) (out : Bytes) → Left b → writeCall (laid b) out ≡ wrote (nowhere (outputShort when ltb (length out) (length (written b)))) (written b) out
 write-laid b out l =
     let st : Standing b = left-standing b l in
@@ -196,6 +202,7 @@ calls-read-back d b book out e m h =
     ∙ rw (eq-eqb (length book) 2560 m, reads-back d b e) (sym (ap readOutcome e))
 
 -- a run of slip calls ----------------------------------------------------------------------------------------------------
+
 pub slip-call-answers : promises.SlipCallAnswers
 slip-call-answers s b work l n =
     let st : Standing b = left-standing b l in

@@ -51,6 +51,7 @@ numbered-known StopPoint = refl
 numbered-known Block = refl
 
 -- the contents of a line, one by one ---------------------------------------------------------------------------------------
+
 contents-at : (k : ℕ) (xs : List Column) (h : Header) (cs : List Bytes) (n : ℕ) → n < length xs → getD (contentsFrom k xs h cs) n [] ≡ content (under (k + n) h cs)
 unfolding contentsFrom
 contents-at k [] h cs n g = absurd (omega arith)
@@ -79,6 +80,7 @@ some-content x s true e r h =
     let z : _≡_ {A = ℕ} 0 1 = cc in let y : ⊥ = omega arith in absurd y
 
 -- the lines --------------------------------------------------------------------------------------------------------------
+
 lines-long : (ls : List Bytes) (i : ℕ) → i < length (rowLines ls) → 2 + i ≤ length ls
 lines-long [] i h = absurd (omega arith)
 lines-long (l ∷ ls) i h = omega arith
@@ -88,6 +90,7 @@ line-at [] i h = absurd (omega arith)
 line-at (l ∷ ls) i h = let m : 2 + i - 1 ≡ suc i = omega arith in rw m
 
 -- a cell of a line that is accepted ----------------------------------------------------------------------------------------
+
 module _ (t : Table) (s : Bytes) (i n : ℕ) (b : Book)
     (top : topFaults t s ≡ Accepted) (on : i < length (rowLinesOf s)) (pass : judged t (headerOf t s) (getD (rowLinesOf s) i []) b ≡ Passes) (known-column : n < length (columnsOf t))
   where

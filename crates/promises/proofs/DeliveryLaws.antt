@@ -68,6 +68,7 @@ pub record ReadTo (t : Table) (s : Bytes) (b : Book) : Type 0 where
   pub same : rows t after ≡ rows t b
 
 -- table by table --------------------------------------------------------------------------------------------------------
+
 -- behind the first n tables: each of them stands by right, as its text has it, and the others are empty
 record Behind (n : ℕ) (d : Delivery) (b : Book) : Type 0 where
   held : (t : Table) → partOf t < n → Held t b (rows t b)
@@ -143,6 +144,7 @@ left-by d b e =
     }
 
 -- the writer's form ------------------------------------------------------------------------------------------------------
+
 pub lines-plain : (b : Book) (ys : List Row) → EachGood Block b ys → map (plainLine Block) ys ≡ map rowLine ys
 unfolding EachGood
 lines-plain b [] h = refl
@@ -158,6 +160,7 @@ pub blocks-back : (b : Book) (ys : List Row) → Held Block b ys → tableRead B
 blocks-back b ys h = ap (λ (s : Bytes). tableRead Block s (with-rows Block [] b)) (sym (written-plain b ys h)) ∙ table-back Block b ys h
 
 -- the plainest delivery --------------------------------------------------------------------------------------------------
+
 abbrev pub plainDelivery : Book → Delivery
 plainDelivery b = record { types = plainText VehicleType (b .types); depots = plainText Depot (b .depots); stops = plainText Stop (b .stops); points = plainText StopPoint (b .points); blocks = written b }
 

@@ -184,6 +184,7 @@ slip-refused-at-first s b p = (
 )
 
 -- the five tables --------------------------------------------------------------------------------------------------------
+
 pub delivery-in-order : DeliveryInOrder
 unfolding reading
 delivery-in-order d b = (in-order d b, λ o. rw (o .types, o .depots, o .stops, o .points, o .blocks))

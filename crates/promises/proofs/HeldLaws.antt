@@ -45,6 +45,7 @@ use Rattle.promises.proofs.LastRowLaws.{AboveAll, stands-not, above-all
 use Rattle.promises.proofs.LineLaws.{EachUnbroken, lines-written, Unbroken}
 
 -- rows that stand by right -----------------------------------------------------------------------------------------------
+
 pub record Good (t : Table) (b : Book) (row : Row) : Type 0 where
   pub shape : row ≡ wide (take (keptWidth t) row)
   pub inside : ranged (columnsOf t) (take (keptWidth t) row) ≡ true
@@ -89,6 +90,7 @@ good-insert t b k row (x ∷ xs) g h = go (keyOrder k row x) refl (good-insert t
     go More e ih = rw e (h .0, ih)
 
 -- what a check that passes says ------------------------------------------------------------------------------------------
+
 pub record Taken (t : Table) (b : Book) (row : Row) : Type 0 where
   pub good : Good t b row
   pub room : length (rows t b) < roomOf t
@@ -128,6 +130,7 @@ judged-taken t b h l p =
     }
 
 -- what the rows of a reading leave ---------------------------------------------------------------------------------------
+
 pub held-insert : (t : Table) (b : Book) (row : Row) → Taken t b row → Held t b (rows t b) → Held t b (inserted (keyWidth t) row (rows t b))
 held-insert t b row a h =
     let small : length (rows t b) < roomOf t = a .room in
@@ -170,6 +173,7 @@ held-table t s b c h e =
     (going-on (topFaults t s) (rowsRead t (headerOf t s) 2 (rowLines (lines s)) b) c e)
 
 -- what so stands is read back from its plain form ------------------------------------------------------------------------
+
 good-judged : (t : Table) (b : Book) (xs : List Row) (row : Row) → Good t b row → length xs < roomOf t → AboveAll (keyWidth t) row xs →
     judged t (plainHeader t) (plainLine t row) (with-rows t xs b) ≡ Passes
 good-judged t b xs row g small up =
@@ -231,6 +235,7 @@ table-back t b ys h =
     ∙ rows-back t b 2 [] ys (h .rising) (h .good) (h .size)
 
 -- and one more row behind them -------------------------------------------------------------------------------------------
+
 rows-append : (t : Table) (h : Header) (i : ℕ) (ls ms : List Bytes) (b : Book) → rowsRead t h i (ls ++ ms) b ≡ (rowsRead t h i ls b ▹ rowsRead t h (i + length ls) ms)
 unfolding rowsRead
 rows-append t h i [] ms b = let m : i + 0 ≡ i = omega arith in rw m

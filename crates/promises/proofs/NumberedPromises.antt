@@ -59,6 +59,7 @@ numbered-place top table line (Fails n k) p h e =
     subst (λ (z : Place). (1 ≤ z .number) × (z .number ≤ top) × (z .table ≡ table)) q (h .0, h .1, refl)
 
 -- the checks of rows and of slip lines -------------------------------------------------------------------------------------
+
 module _ (top : ℕ) (enough : 11 ≤ top) where
   numbered-cells : (k : ℕ) (xs : List Column) (ss : List Bytes) → Numbered top (badCell k xs ss)
   unfolding badCell Numbered
@@ -121,6 +122,7 @@ numbered-line Delete fs row b =
     numbered-chain 13 (badField fs) (missingBlock row b) (numbered-cells 13 (omega arith) 1 (columnsOf Block) fs) (numbered-when 13 13 0 (not (knows Block row b)) (omega arith) (omega arith))
 
 -- the tables ---------------------------------------------------------------------------------------------------------------
+
 one-of : (v w : Verdict) (p : Place) → (v before w) ≡ Refused p → (v ≡ Refused p) ⊎ (w ≡ Refused p)
 one-of Accepted w p h = inr h
 one-of (Refused q) w p h = inl h

@@ -40,6 +40,7 @@ use Rattle.promises.proofs.Writing.{digits-content}
 use Rattle.promises.proofs.LineLaws.{Unbroken, EachUnbroken, unbroken-append, unbrokenTest, tested}
 
 -- the form ----------------------------------------------------------------------------------------------------------------
+
 unfoldable pub requiredOf : List Column → List Column
 requiredOf [] = []
 requiredOf (x ∷ xs) = if x .rules .required then x ∷ requiredOf xs else requiredOf xs
@@ -72,6 +73,7 @@ abbrev pub plainText : Table → List Row → Bytes
 plainText t ys = linesWritten (plainNames t ∷ map (plainLine t) ys)
 
 -- eleven numbers ----------------------------------------------------------------------------------------------------------
+
 pub data Eleven : Row → Type 0 where
   eleven : (a b c d e f g h i j k : ℕ) → Eleven (a ∷ b ∷ c ∷ d ∷ e ∷ f ∷ g ∷ h ∷ i ∷ j ∷ k ∷ [])
 
@@ -102,6 +104,7 @@ pub plain-line-block : (row : Row) → Eleven row → plainLine Block row ≡ ro
 plain-line-block row (eleven a b c d e f g h i j k) = refl
 
 -- the columns that the book keeps ----------------------------------------------------------------------------------------
+
 -- the first n columns are d columns, required, each of whose range is within its width
 unfoldable pub Numeric : ℕ → List Column → Type 0
 Numeric zero xs = Unit {0}
@@ -174,6 +177,7 @@ cells-ranged (suc n) k (x ∷ xs) (s ∷ ss) a h =
     rw (no-fault (x .rules) s (eqb (length s) 0) (a .0 .1) (a .0 .2) (unfailed 8 k (breaks (x .rules) s) (t .0)), cells-ranged n (suc k) xs ss (a .1) (t .1))
 
 -- a row in the plain form ------------------------------------------------------------------------------------------------
+
 plain-decimals : (row : Row) (rest : List Bytes) → EachPlain rest → EachPlain (map decimal row ++ rest)
 unfolding EachPlain
 plain-decimals [] rest h = h
@@ -258,6 +262,7 @@ row-judged t row b e s r =
     rw (cut-plain t row e, cut-counted t row e, eq-eqb (length (plainHeader t)) (length (plainHeader t)) refl, contents-plain t row e, good, kept-values t row e, ← s)
 
 -- no line end in what is written ------------------------------------------------------------------------------------------
+
 unbroken-parted : (cs : List Bytes) → EachUnbroken cs → Unbroken (parted 59 cs)
 unfolding parted Unbroken EachUnbroken
 unbroken-parted [] h = tt
@@ -298,6 +303,7 @@ unfolding EachUnbroken
 unbroken-plain t ys = (tested (plainNames t) (names-tested t), unbroken-rows t ys)
 
 -- the names ---------------------------------------------------------------------------------------------------------------
+
 pub names-good : (t : Table) → headerCheck t (plainNames t) ≡ Passes
 unfolding computed requiredOf
 names-good VehicleType = refl
@@ -315,6 +321,7 @@ names-read StopPoint = refl
 names-read Block = refl
 
 -- the size of what is written ---------------------------------------------------------------------------------------------
+
 -- the room that the first n columns take, with a byte behind each
 unfoldable room : ℕ → List Column → ℕ
 room zero xs = 0

@@ -212,6 +212,7 @@ written-fits b l =
     subst (λ (s : Bytes). length s ≤ 65536) (written-plain b (b .blocks) h) (plain-short Block b (b .blocks) h)
 
 -- a row that stands is found by its key ----------------------------------------------------------------------------------
+
 above-copy : (k : ℕ) (x row : Row) (xs : List Row) → Above k x xs → 1 ≤ copies row xs → keyOrder k x row ≡ Less
 unfolding Above copies
 above-copy k x row [] a h = absurd (omega arith)

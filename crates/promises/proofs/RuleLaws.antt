@@ -37,6 +37,7 @@ use Rattle.promises.proofs.DeliveryLaws.{Standing}
 use Rattle.promises.proofs.PlainLaws.{Eleven, kept-long}
 
 -- lawful rows stand by right ---------------------------------------------------------------------------------------------
+
 module _ (t : Table) (b : Book) where
   lawful-good : (row : Row) → lawful t b row ≡ true → Good t b row
   lawful-good row h =
@@ -79,6 +80,7 @@ pub standing-lawful : (b : Book) → Standing b → lawfulBook b ≡ true
 standing-lawful b h = lawful-tables b (λ t. held-table t b (h t))
 
 -- the slice --------------------------------------------------------------------------------------------------------------
+
 -- VERSION is at least 1
 first-inside : (xs : List Column) (ns : Row) → 1 ≤ length xs → 1 ≤ length ns → ranged xs ns ≡ true → inRange (getD xs 0 noColumn .rules) (getD ns 0 0) ≡ true
 unfolding ranged
@@ -112,6 +114,7 @@ laid-keeps b h =
     (subst (λ (z : Book). sameRows (laid b) (laid z) ≡ true) (sym (book-laid b o)) (sameRows-refl (laid b)))
 
 -- the questions on a book that keeps the rule ------------------------------------------------------------------------------
+
 pub type-asked : (b : Book) → Standing b → (version type : ℕ) →
     typeCall (laid b) version type
     ≡ typeAnswered (nowhere (notThere when not (stands 2 (version ∷ type ∷ []) (b .types)))) (secondsOf version type (b .blocks)) (countOf version type (b .blocks))

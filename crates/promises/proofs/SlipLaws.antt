@@ -63,6 +63,7 @@ held-removed b row xs h =
     record { rising = rising-removed 4 row xs (h .rising); good = good-removed b row xs (h .good); size = omega (arith, length-removed-most 4 row xs, h .size) }
 
 -- eleven fields ------------------------------------------------------------------------------------------------------------
+
 -- a wish to add or to replace
 unfoldable pub elevenWished : Wish → Bool
 elevenWished Add = true
@@ -106,6 +107,7 @@ fielded fs n g =
     record { numbers = e; shape = eleven-wide (map value fs) e; inside = rw all (rw whole at r) }
 
 -- a line ---------------------------------------------------------------------------------------------------------------------
+
 -- what a line leaves of a book: other blocks at most
 pub record Kept (x c : Book) : Type 0 where
   pub apart : c ≡ with-rows Block (c .blocks) x
@@ -167,6 +169,7 @@ kept-line x b l p k =
     }
 
 -- a slip, and a run of slips -------------------------------------------------------------------------------------------------
+
 kept-lines : (x : Book) (i : ℕ) (ls : List Bytes) (b c : Book) → Kept x b → linesPosted i ls b ≡ leaves c → Kept x c
 unfolding linesPosted
 kept-lines x i [] b c k e = let f : b ≡ c = cc in subst (λ (z : Book). Kept x z) f k

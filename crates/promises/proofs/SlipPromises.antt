@@ -59,6 +59,7 @@ unfolding run
 rule-kept b s l = (with-blocks (written (posted s b)) (l .0), run-reads-afresh (l .0) b (s ∷ []) (l .1))
 
 -- refused exactly --------------------------------------------------------------------------------------------------------
+
 -- the row behind other blocks meets 5, and the rules of a row
 read-there : (d : Delivery) (b : Book) (ys : List Row) (row : Row) → reading d ≡ leaves b → Held Block b ys → Fielded row →
     reading (with-blocks (writtenWith row ys) d)
@@ -146,6 +147,7 @@ refused-alike d b line p e h f r =
     (slip ∙ q .0, q .1, q .2)
 
 -- what no accepted slip touches --------------------------------------------------------------------------------------------
+
 -- said once of anything about the blocks that a line keeps unless it does this
 module _ {X : Type 0} (f : List Row → X) (does : Bytes → Book → Bool)
     (keeps : (l : Bytes) (b : Book) → does l b ≡ false → f (slipLeaves l b .blocks) ≡ f (b .blocks)) where
@@ -232,6 +234,7 @@ run-left : (b : Book) (ss : List Bytes) → Left b → Left (run ss b)
 run-left b ss l = (with-blocks (written (run ss b)) (l .0), run-reads-afresh (l .0) b ss (l .1))
 
 -- the other tables ---------------------------------------------------------------------------------------------------------
+
 pub other-tables-kept : OtherTablesKept
 other-tables-kept b ss l =
     let c : Book = run ss b in

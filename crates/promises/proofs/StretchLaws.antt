@@ -21,6 +21,7 @@ abbrev pub Begins : Bytes → Bytes → Type 0
 Begins s l = (rest : Bytes) × (s ≡ l ++ rest)
 
 -- a line stands where it starts, counted from 0 ---------------------------------------------------------------------------
+
 pub line-stands : (s : Bytes) (i : ℕ) → Begins (drop (lineStart (suc i) s) s) (getD (lines s) i [])
 line-stands s i =
     let at : Bytes = drop (lineStart (suc i) s) s in
@@ -29,6 +30,7 @@ line-stands s i =
     (drop (lineLength at) at, sym (take-append-drop (lineLength at) at) ∙ ap (λ (l : Bytes). l ++ drop (lineLength at) at) (sym line))
 
 -- a cell stands at its offset ----------------------------------------------------------------------------------------------
+
 drop-past : (c : Bytes) (b n : ℕ) (rest : Bytes) → drop (length c + 1 + n) (c ++ (b ∷ rest)) ≡ drop n rest
 drop-past c b n rest =
     let m : length c + 1 + n ≡ length c + suc n = omega arith in
@@ -85,6 +87,7 @@ cell-stands k i h s =
     (c .0, sym (drop-drop (offset k h cs) (lineStart (suc i) s) s) ∙ ap (λ (x : Bytes). drop (offset k h cs) x) (l .1) ∙ c .1)
 
 -- the stretch --------------------------------------------------------------------------------------------------------------
+
 pub plain-stretch : (s cell : Bytes) (at : ℕ) → Begins (drop at s) cell → take (length cell) (drop at s) ≡ cell
 plain-stretch s cell at b = ap (λ (x : Bytes). take (length cell) x) (b .1) ∙ take-seam cell (b .0)
 

@@ -47,6 +47,7 @@ use Rattle.writer.specs.Calls as write-call
 use Rattle.sheet.specs.Calls.{sheetCall}
 
 -- Demand 1 ----------------------------------------------------------------------------------------------------------------
+
 -- "Every call takes every input and comes back." Each call's answer, and what all that is lent holds behind it, is a function of what it is
 -- handed: `readCall`, `cellAsked`, `typeCall`, `blockCall`, `slipCall`, `writeCall`, `sheetCall`, with nothing required.
 -- Each public function's contract is one equation with its call, so two outcomes that it permits are the same
@@ -110,6 +111,7 @@ LengthsKept = ((d : Delivery) (slice : List Row) → length (readCall d slice .b
     × ((book : List Row) (out : Bytes) → length (writeCall book out .out) ≡ length out)
 
 -- Demand 2 ----------------------------------------------------------------------------------------------------------------
+
 -- "accepted if no row breaks a rule, else the first fault": said of lines that are judged in turn, each on the book as those above leave it.
 -- `check` is the judgement of a line, `step` what a line leaves
 -- the book that lines leave
@@ -292,6 +294,7 @@ abbrev pub RuleTested : Type 0
 RuleTested = (slice : List Row) → (keepsRule slice ≡ true) ↔ ((b : Book) × Left b × (slice ≡ laid b))
 
 -- Demand 3 ----------------------------------------------------------------------------------------------------------------
+
 -- the book behind a run of slips, accepted or not
 unfoldable pub run : List Bytes → Book → Book
 run [] b = b

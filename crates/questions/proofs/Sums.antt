@@ -27,6 +27,7 @@ use Rattle.keeping.proofs.Keeping.{keeps-row}
 use Rattle.questions.specs.Questions.{ofType, total}
 
 -- a lawful row ----------------------------------------------------------------------------------------------------------------------
+
 ranged-high : (xs : List Column) (ns : List ℕ) → ranged xs ns ≡ true → (i : ℕ) → i < length xs → getD ns i 0 ≤ getD xs i noColumn .rules .high
 unfolding ranged
 ranged-high [] ns e i h = absurd (omega arith)
@@ -60,6 +61,7 @@ block-seconds xs k i row h e =
     seconds-most row 999999 (omega arith) (lawful-high Block (bookOf xs) row law 10 (omega arith))
 
 -- sums ---------------------------------------------------------------------------------------------------------------------------------
+
 pub type-other : (version type : ℕ) (row : Row) → (getD row 0 0 ≡ version → ⊥) → ofType version type row ≡ false
 type-other version type row n = rw (ne-eqb (getD row 0 0) version n)
 

@@ -7,6 +7,7 @@ use Rattle.refusals.specs.declared.Check.the-variants.{Passes, Fails}
 use Rattle.refusals.specs.declared.Verdict.the-variants.{Accepted}
 
 -- the rows of a text --------------------------------------------------------------------------------------------------------------
+
 pub placed-passes : (table n : ℕ) (c : Check) → placed table n c ≡ Accepted → c ≡ Passes
 placed-passes table n Passes e = refl
 placed-passes table n (Fails m k) e = cc

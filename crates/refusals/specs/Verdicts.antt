@@ -77,6 +77,7 @@ abbrev pub badLoan : Check
 badLoan = Fails 16 0
 
 -- the order of checks -------------------------------------------------------------------------------------------------------
+
 infixr 20 _⊳_
 infix 25 _when_
 infixr 15 _before_
@@ -100,6 +101,7 @@ Accepted before v = v
 Refused p before v = Refused p
 
 -- places -----------------------------------------------------------------------------------------------------------------------
+
 abbrev pub place : ℕ → ℕ → ℕ → ℕ → Place
 place number table line column = record { number = number; table = table; line = line; column = column }
 
@@ -121,6 +123,7 @@ abbrev pub nowhere : Check → Verdict
 nowhere c = placed 0 0 c
 
 -- "this paper's number and values" ---------------------------------------------------------------------------------------------
+
 -- a verdict is its number, table, line and column
 abbrev pub paper : Verdict → List ℕ
 paper Accepted = 0 ∷ 0 ∷ 0 ∷ 0 ∷ []

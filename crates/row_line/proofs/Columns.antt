@@ -44,6 +44,7 @@ check-order Passes b c = refl
 check-order (Fails n k) b c = refl
 
 -- the cell of a column ----------------------------------------------------------------------------------------------------------
+
 pub place-above : (i k : ℕ) (h : Header) → (placeFrom i k h ≡ 0 → ⊥) → suc i ≤ placeFrom i k h
 unfolding placeFrom
 place-above i k [] n = absurd (n refl)
@@ -82,6 +83,7 @@ pub under-numbered : (k : ℕ) (h : Header) (cs : List Bytes) → under k h cs �
 under-numbered k h cs = under-from 0 k h cs
 
 -- contents -----------------------------------------------------------------------------------------------------------------------
+
 pub contents-length : (j : ℕ) (xs : List Column) (h : Header) (cs : List Bytes) → length (contentsFrom j xs h cs) ≡ length xs
 unfolding contentsFrom
 contents-length j [] h cs = refl
@@ -102,6 +104,7 @@ content-found t h cs at k cell e l f =
     sym (contents-at 1 (columnsOf t) h cs k l ∙ rw (n, ← u))
 
 -- 8, column by column ------------------------------------------------------------------------------------------------------------
+
 module _ (xs : List Column) (ss : List Bytes) (k : ℕ) (lx : k < length xs) (ls : k < length ss) where
   bad-step : badCell (k + 1) (drop k xs) (drop k ss) ≡ cellCheck (k + 1) (getD xs k noColumn .rules) (getD ss k []) ⊳ badCell (k + 1 + 1) (drop (k + 1) xs) (drop (k + 1) ss)
   unfolding badCell
@@ -136,6 +139,7 @@ all-kept j (x ∷ xs) (s ∷ ss) e (suc k) lx ls =
     all-kept (suc j) xs ss (second-passes (cellCheck j (x .rules) s) (badCell (suc j) xs ss) e) k (omega arith) (omega arith)
 
 -- the checks of a line -------------------------------------------------------------------------------------------------------------
+
 -- 6 and 7 of a row under a header of so many cells
 module _ (line : Bytes) (count : ℕ) (bounds : List ℕ) (r : Answer) (e : r ≡ answerOf (cut line)) (b : (cs : List Bytes) → cut line ≡ cells cs → BoundsOf cs (length bounds) bounds) where
   pub cut-faulty : (n : ℕ) → r ≡ Bad n → (c : Check) → c ≡ quoteFault n → CutOf line count bounds c

@@ -74,6 +74,7 @@ module _ (t : Table) (ss : List Bytes) (k : ℕ) (row : Row) (v : ℕ) (e : row 
       rw (e, one-more, a, q) (wide-past (map value (take (keptWidth t) (take k ss))) k (omega arith))
 
 -- the columns of a line, walked from the first one on -------------------------------------------------------------------------------
+
 -- k columns are walked: none of them has a fault, and the row has their numbers
 pub record Columned (t : Table) (h : Header) (line : Bytes) (row : Row) (k : ℕ) : Type 0 where
   pub filled : row ≡ rowOf t (take k (contents t h (cellsOf (cut line))))
@@ -121,6 +122,7 @@ columned-all t h line row k w l =
     rw (p, w .filled, a)
 
 -- what a row that passes tells ------------------------------------------------------------------------------------------------------
+
 row-number : (t : Table) (ss : List Bytes) (i : ℕ) → i < keptWidth t → keptWidth t ≤ length ss → getD (rowOf t ss) i 0 ≡ value (getD ss i [])
 row-number t ss i h l =
     let n : length (take (keptWidth t) ss) ≡ keptWidth t = length-take-le (keptWidth t) ss l in

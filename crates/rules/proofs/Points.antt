@@ -77,6 +77,7 @@ referable StopPoint b e = tt
 referable Block b e = e
 
 -- a row that enters leaves every point its stop -----------------------------------------------------------------------------------
+
 all-more : (f g : Row → Bool) → ((x : Row) → f x ≡ true → g x ≡ true) → (xs : List Row) → all f xs ≡ true → all g xs ≡ true
 unfolding all
 all-more f g m [] e = refl

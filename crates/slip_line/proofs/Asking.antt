@@ -25,6 +25,7 @@ use Rattle.slip_line.specs.declared.Wish.{Wish}
 use Rattle.slip_line.specs.Marks.{FieldsOf, fieldsRead}
 
 -- kinds -------------------------------------------------------------------------------------------------------------------------
+
 pub one-byte : (f : Bytes) (b : ℕ) → length f ≡ 1 → eqb (getD f 0 0) b ≡ same f (b ∷ [])
 unfolding same
 one-byte [] b e = absurd (omega arith)

@@ -34,6 +34,7 @@ placed-refused t i Passes p e f = let z : _≡_ {A = ℕ} 0 1 = cc in omega arit
 placed-refused t i (Fails n k) p e f = let z : _≡_ {A = ℕ} 0 1 = cc in omega arith
 
 -- line by line --------------------------------------------------------------------------------------------------------------------
+
 module _ (s : Bytes) (at : ℕ) (here : Line) (from : LineFrom slipLines s at here) (i : ℕ) (b : Book) where
   abbrev lineHere : Bytes
   lineHere = take (here .end - at) (drop at s)
@@ -65,6 +66,7 @@ unfolding linesPosted
 lines-end s at i b h = ap (λ (ls : List Bytes). linesPosted i ls b) (slip-lines-none s at h)
 
 -- the whole slip --------------------------------------------------------------------------------------------------------------------
+
 module _ (s : Bytes) (xs work : List Row) where
   -- all lines, or the book as it was
   pub whole : (b b′ : Book) (v : Verdict) (ys : List Row) → b ≡ bookOf xs → unless v (leaves b′) ≡ linesPosted 1 (slipLines s) b → ys ≡ behind v b′ xs

@@ -35,6 +35,7 @@ use Rattle.table_lines.specs.Reading.{judged, rowsRead}
 use Rattle.table_lines.proofs.Judging.{judged-full, judged-bad, judged-good, good-row, good-version}
 
 -- a line ------------------------------------------------------------------------------------------------------------------------
+
 -- a line that is refused says nothing of the shelf behind it
 pub refused-shelf : {A : Type 0} (n k : ℕ) (c : Check) → c ≡ Fails n k → c ≡ Passes → A
 refused-shelf n k c f p = let z : _≡_ {A = ℕ} 0 1 = cc in absurd (omega arith)

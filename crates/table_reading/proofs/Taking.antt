@@ -55,6 +55,7 @@ module _ (t : Table) (s : Bytes) (top : Top) (o : TopOf t s top) where
       w .taken (headerOf t s) (o .kept a .headed) ∙ rw (z, rest-whole s (top .next), o .kept a .rest)
 
 -- a delivery ------------------------------------------------------------------------------------------------------------------------
+
 pub sound-empty : (ys : List Row) → ys ≡ laid empty → Sound ys
 sound-empty ys e = rw e (sound-laid empty orderly-empty)
 

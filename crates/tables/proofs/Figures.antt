@@ -17,6 +17,7 @@ use Rattle.tables.specs.declared.Sort.{Sort}
 use Rattle.tables.specs.declared.Sort.the-variants.{Decimal, Text}
 
 -- the code's tables -----------------------------------------------------------------------------------------------------------
+
 pub part-below : (t : Table) → partOf t < 5
 part-below VehicleType = lit≤ tt
 part-below Depot = lit≤ tt
@@ -34,6 +35,7 @@ reference-of-point StopPoint (suc i) n h = absurd (omega arith)
 reference-of-point Block i n h = absurd (n refl)
 
 -- bounds ----------------------------------------------------------------------------------------------------------------------
+
 pub columns-few : (t : Table) → length (columnsOf t) ≤ 11
 unfolding columnsOf
 columns-few VehicleType = lit≤ tt
@@ -68,6 +70,7 @@ pub kept-few : (t : Table) → keptWidth t ≤ 11
 kept-few t = omega (arith, kept-columns t, columns-few t)
 
 -- the columns' rules ------------------------------------------------------------------------------------------------------------
+
 -- VERSION comes first, from 1 on
 pub first-version : (t : Table) → columnAt t 0 ≡ version
 unfolding columnsOf

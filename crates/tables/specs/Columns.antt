@@ -136,6 +136,7 @@ references StopPoint = ref 2 Stop ∷ []
 references Block = ref 3 Depot ∷ ref 5 VehicleType ∷ ref 6 Stop ∷ ref 7 StopPoint ∷ ref 9 Stop ∷ ref 10 StopPoint ∷ []
 
 -- names --------------------------------------------------------------------------------------------------------------------
+
 -- the number of the column of that name, the first of the list being number k; 0 for an unknown one
 unfoldable pub columnFrom : ℕ → List Column → Bytes → ℕ
 columnFrom k [] name = 0
@@ -146,10 +147,12 @@ unfoldable pub columnNumber : Table → Bytes → ℕ
 columnNumber t name = columnFrom 1 (columnsOf t) name
 
 -- contents -----------------------------------------------------------------------------------------------------------------
+
 abbrev pub inRange : Rules → ℕ → Bool
 inRange x n = leb (x .low) n && leb n (x .high)
 
 -- asked by number ----------------------------------------------------------------------------------------------------------
+
 -- the column at place i, counted from 0; past the last there is none
 abbrev pub noColumn : Column
 noColumn = c 0 ""

@@ -114,6 +114,7 @@ map-set f a z xs m i h g =
     rw (e, set-at (map f (take i xs)) z (replicate (m - (i + 1)) z) (f (getD xs i a)) i s, add-one i, take-suc xs i a h, map-append f (take i xs) (getD xs i a ∷ []), append-assoc)
 
 -- cells, each with a byte behind it ----------------------------------------------------------------------------------------
+
 unfoldable pub ended : ℕ → List Bytes → Bytes
 ended sep [] = []
 ended sep (c ∷ cs) = c ++ (sep ∷ ended sep cs)
