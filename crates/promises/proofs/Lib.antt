@@ -11,12 +11,16 @@ pub mod BackPromises
 pub mod RuleLaws
 pub mod RulePromises
 pub mod SlipLaws
+pub mod KeyLaws
+pub mod WeighLaws
 pub mod SlipPromises
 pub mod CasePromises
 pub mod ExactPromises
 pub mod RowPromises
 pub mod CellPromises
 pub mod CallPromises
+pub mod StorePromises
+pub mod RuledOutPromises
 pub mod NumberedPromises
 pub mod StretchLaws
 pub mod StretchPromises

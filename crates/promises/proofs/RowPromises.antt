@@ -11,7 +11,6 @@ use Rattle.refusals.specs.Verdicts.{placed, place, _when_, nowhere, notThere}
 use Rattle.refusals.specs.declared.Check.{Check}
 use Rattle.refusals.specs.declared.Check.the-variants.{Passes, Fails}
 use Rattle.rows.specs.Rows.{keyOrder, stands, inserted, found, sameKey}
-use Rattle.rows.specs.declared.Order.{Order}
 use Rattle.rows.specs.declared.Order.the-variants.{Less, Same, More}
 use Rattle.rows.proofs.Changes.{stands-key, found-key, stands-inserted, found-inserted, other-stands-inserted, other-found-inserted, length-inserted}
 use Rattle.rows.proofs.Rising.{Above, Rising}
@@ -34,31 +33,13 @@ use Rattle.delivery.specs.Delivery.{Delivery, reading}
 use Rattle.promises.specs.Promises.{copies, rowLinesOf, rowsOf, textOf, RowsExactly, KeysExactly, TotalsExactly, TypesAnswered, BlocksAnswered, WrittenFits}
 use Rattle.promises.proofs.HeldLaws.{Taken, judged-taken, Held, plain-short}
 use Rattle.promises.proofs.TestLaws.{going-on}
+use Rattle.promises.proofs.WeighLaws.{Weighs, copies-weighs, total-weighs, many-inserted}
 use Rattle.promises.proofs.DeliveryLaws.{ReadTo, left-by, Accepted, written-plain}
 use Rattle.promises.proofs.RuleLaws.{type-asked, block-asked}
 
--- a row that is entered is one more
-copies-fresh : (k : ℕ) (r row : Row) (xs : List Row) → stands k row xs ≡ false → copies r (inserted k row xs) ≡ copies r (row ∷ xs)
-unfolding copies inserted stands
-copies-fresh k r row [] h = refl
-copies-fresh k r row (x ∷ xs) h = go (keyOrder k row x) refl (copies-fresh k r row xs)
-  where
-    go : (o : Order) → keyOrder k row x ≡ o → (stands k row xs ≡ false → copies r (inserted k row xs) ≡ copies r (row ∷ xs)) →
-        copies r (inserted k row (x ∷ xs)) ≡ copies r (row ∷ (x ∷ xs))
-    go Less e ih = rw e
-    go Same e ih = let t : true ≡ false = rw e at h in let z : _≡_ {A = ℕ} 0 1 = cc in let y : ⊥ = omega arith in absurd y
-    go More e ih = rw e (omega (arith, ih (rw e at h)))
-
-total-fresh : (weight : Row → ℕ) (v n k : ℕ) (row : Row) (xs : List Row) → stands k row xs ≡ false → total weight v n (inserted k row xs) ≡ total weight v n (row ∷ xs)
-unfolding total inserted stands
-total-fresh weight v n k row [] h = refl
-total-fresh weight v n k row (x ∷ xs) h = go (keyOrder k row x) refl (total-fresh weight v n k row xs)
-  where
-    go : (o : Order) → keyOrder k row x ≡ o → (stands k row xs ≡ false → total weight v n (inserted k row xs) ≡ total weight v n (row ∷ xs)) →
-        total weight v n (inserted k row (x ∷ xs)) ≡ total weight v n (row ∷ (x ∷ xs))
-    go Less e ih = rw e
-    go Same e ih = let t : true ≡ false = rw e at h in let z : _≡_ {A = ℕ} 0 1 = cc in let y : ⊥ = omega arith in absurd y
-    go More e ih = rw e (omega (arith, ih (rw e at h)))
+-- a row that is entered is one more, counted or weighed
+fresh : (many : List Row → ℕ) → Weighs many → (k : ℕ) (row : Row) (xs : List Row) → stands k row xs ≡ false → many (inserted k row xs) ≡ many (row ∷ xs)
+fresh many h k row xs f = omega (arith, h .nothing, h .more row xs, h .more row [], many-inserted many h k row xs f)
 
 -- and is found by its key
 abbrev both-stand : ℕ → Row → List Row → List Row → Bool
@@ -132,8 +113,8 @@ rows-gained t h i (l ∷ ls) b c e = go (judged t h l b) refl (rows-gained t h (
         rows-with t (inserted (keyWidth t) (rowRead t h l) (rows t b)) b in
         record {
           many = omega (arith, g .many, ap length own, length-inserted (keyWidth t) (rowRead t h l) (rows t b) (a .fresh));
-          each = λ row. omega (arith, g .each row, ap (copies row) own, copies-fresh (keyWidth t) row (rowRead t h l) (rows t b) (a .fresh));
-          weighed = λ weight v n. omega (arith, g .weighed weight v n, ap (total weight v n) own, total-fresh weight v n (keyWidth t) (rowRead t h l) (rows t b) (a .fresh));
+          each = λ row. omega (arith, g .each row, ap (copies row) own, fresh (copies row) (copies-weighs row) (keyWidth t) (rowRead t h l) (rows t b) (a .fresh));
+          weighed = λ weight v n. omega (arith, g .weighed weight v n, ap (total weight v n) own, fresh (total weight v n) (total-weighs weight v n) (keyWidth t) (rowRead t h l) (rows t b) (a .fresh));
           standing = λ key.
               g .standing key ∙ ap (λ (z : List Row). both-stand (keyWidth t) key z (map (rowRead t h) ls)) own
               ∙ find-fresh (keyWidth t) key (rowRead t h l) (rows t b) (map (rowRead t h) ls) (a .fresh) .0;
@@ -175,7 +156,7 @@ keys-exactly d b t key e =
       ap (λ (z : List Row). found k key z) (sym (r .same)) ∙ g .finding key ∙ ap (λ (z : List Row). both-found k key z (rowsOf t (textOf t d))) (r .bare),
     )
 
-weighed-exactly : (d : Delivery) (b : Book) → reading d ≡ leaves b → (weight : Row → ℕ) (v n : ℕ) → total weight v n (b .blocks) ≡ total weight v n (rowsOf Block (d .blocks))
+pub weighed-exactly : (d : Delivery) (b : Book) → reading d ≡ leaves b → (weight : Row → ℕ) (v n : ℕ) → total weight v n (b .blocks) ≡ total weight v n (rowsOf Block (d .blocks))
 unfolding total
 weighed-exactly d b e weight v n =
     let r : ReadTo Block (d .blocks) b = left-by d b e .tables Block in

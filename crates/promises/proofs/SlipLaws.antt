@@ -2,7 +2,7 @@
 use mathlib.Core.Path.{_≡_, refl, _∙_, ap, sym, subst}
 use mathlib.Core.List.{List, [], _∷_, map}
 use mathlib.Core.Bool.{Bool, true, false}
-use Prim.Native.Nat.{ℕ, suc}
+use Prim.Native.Nat.{ℕ, zero, suc, _<_}
 use native.Mathlib.Omega.{arith}
 use lib.Dec.{eqb}
 use lib.ListN.{length, take, length-map}
@@ -32,7 +32,7 @@ use Rattle.slip_line.specs.declared.Wish.the-variants.{Add, Replace, Delete, Un
 use Rattle.slip_line.specs.SlipLine.{counted, numbers, letter, wish, badField}
 use Rattle.block_change.specs.Change.{missingBlock, lineJudged, granted, slipCheck, slipLeaves}
 use Rattle.slips.specs.Slips.{linesPosted, posting, kept, posted}
-use Rattle.promises.specs.Promises.{run}
+use Rattle.promises.specs.Promises.{run, onward, checkAt}
 use Rattle.promises.proofs.HeldLaws.{Good, EachGood, Held, held-insert, held-moved}
 use Rattle.promises.proofs.PlainLaws.{Eleven, eleven, eleven-long, kept-numeric, cells-ranged}
 use Rattle.promises.proofs.TestLaws.{both, unfailed, going-on}
@@ -194,3 +194,11 @@ pub kept-run : (x : Book) (ss : List Bytes) (b : Book) → Kept x b → Kept x (
 unfolding run
 kept-run x [] b k = k
 kept-run x (s ∷ ss) b k = kept-run x ss (posted s b) (kept-posted x s b k)
+
+-- and the lines of a slip up to one that is reached
+pub kept-onward : (x : Book) (i : ℕ) (ls : List Bytes) (b : Book) → Kept x b → i < length ls → ((j : ℕ) → j < i → checkAt slipCheck slipLeaves ls j b ≡ Passes) →
+    Kept x (onward slipLeaves (take i ls) b)
+unfolding onward
+kept-onward x zero ls b k n h = k
+kept-onward x (suc i) [] b k n h = absurd (omega arith)
+kept-onward x (suc i) (l ∷ ls) b k n h = kept-onward x i ls (slipLeaves l b) (kept-line x b l (h 0 (omega arith)) k) (omega arith) (λ j m. h (suc j) (omega arith))

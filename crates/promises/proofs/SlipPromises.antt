@@ -5,7 +5,7 @@ use mathlib.Core.List.{[], _∷_, List, _++_, map}
 use mathlib.Core.Bool.{Bool, true, false, _&&_, not}
 use Prim.Native.Nat.{_+_, ℕ, _<_, suc}
 use native.Mathlib.Omega.{arith}
-use lib.ListN.{length}
+use lib.ListN.{length, getD}
 use borrow.Author.Tests.{lt-leb}
 use Rattle.words.specs.Words.{Bytes, Row}
 use Rattle.words.proofs.Lists.{and-left, and-right}
@@ -16,10 +16,10 @@ use Rattle.refusals.specs.declared.Place.{Place}
 use Rattle.lines.specs.Lines.{slipLines, overlong}
 use Rattle.numbers.specs.Numbers.{value}
 use Rattle.fields.specs.Fields.{fields}
-use Rattle.rows.specs.Rows.{stands, removed, sameKey, found, keyOrder, inserted, replaced}
+use Rattle.rows.specs.Rows.{stands, removed, found, keyOrder, inserted, replaced}
 use Rattle.rows.specs.declared.Order.{Order}
 use Rattle.rows.specs.declared.Order.the-variants.{Less, Same, More}
-use Rattle.rows.proofs.Changes.{stands-removed, length-removed, stands-replaced, other-stands-inserted, other-stands-removed, other-found-inserted, other-found-replaced, other-found-removed}
+use Rattle.rows.proofs.Changes.{stands-removed, length-removed}
 use Rattle.tables.specs.declared.Table.the-variants.{Block}
 use Rattle.book.specs.Book.{Book, with-rows, entered, full}
 use Rattle.book.specs.Result.{Result, leaves, _▹_, unless, refused}
@@ -35,24 +35,32 @@ use Rattle.slip_line.specs.declared.Wish.the-variants.{Add, Replace, Delete, Un
 use Rattle.block_change.specs.Change.{lineJudged, slipCheck, slipLeaves, granted}
 use Rattle.slips.specs.Slips.{posted, linesPosted, posting, kept}
 use Rattle.writer.specs.Writing.{written, linesWritten}
-use Rattle.promises.specs.Promises.{run, RunReadsAfresh, with-blocks, RuleKept, writtenWith, accepted, readThere, admissible, known, RefusedExactly, RefusedAlike, someLine, someSlip, changes, OtherTablesKept, names, BlocksKept, touches, TypesKept}
-use Rattle.promises.proofs.DeliveryLaws.{Accepted, left-by, blocks-back, lines-plain}
-use Rattle.promises.proofs.SlipLaws.{Kept, kept-run, Fielded, fielded, elevenWished, wish-eleven, held-removed}
+use Rattle.promises.specs.Promises.{run, RunReadsAfresh, midway, MidwayReadsAfresh, wellFormed, with-blocks, RuleKept, writtenWith, accepted, readThere, admissible, known, RefusedExactly, RefusedAlike, someLine, someSlip, changes, OtherTablesKept, names, BlocksKept, touches, TypesKept}
+use Rattle.promises.proofs.KeyLaws.{other-found, other-stands}
+use Rattle.promises.proofs.DeliveryLaws.{left-by, blocks-back, lines-plain}
+use Rattle.promises.proofs.SlipLaws.{Kept, kept-run, kept-onward, Fielded, fielded, elevenWished, wish-eleven, held-removed}
 use Rattle.promises.proofs.PlainLaws.{plainNames, plainLine, plain-names-block, plain-line-block, row-read, row-judged}
 use Rattle.promises.proofs.HeldLaws.{Held, table-more}
 use Rattle.promises.proofs.TestLaws.{or-left, or-right, going-on}
 use Rattle.promises.proofs.RuleLaws.{block-asked, type-asked}
 use Rattle.promises.proofs.RulePromises.{left-standing}
 
-pub run-reads-afresh : RunReadsAfresh
+-- a book of which a delivery's book keeps the other tables, and whose blocks stand by right, is read afresh
+kept-reads : (d : Delivery) (b c : Book) → reading d ≡ leaves b → Kept b c → reading (with-blocks (written c) d) ≡ leaves c
 unfolding reading
-run-reads-afresh d b ss e =
-    let a : Accepted d b = left-by d b e in
-    let c : Book = run ss b in
-    let k : Kept b c = kept-run b ss b (record { apart = refl; blocks = a .standing Block }) in
-    ap (λ (r : Result). r ▹ tableRead Block (written c)) (a .before-blocks)
+kept-reads d b c e k =
+    ap (λ (r : Result). r ▹ tableRead Block (written c)) (left-by d b e .before-blocks)
     ∙ blocks-back b (c .blocks) (k .blocks)
     ∙ ap (λ (z : Book). leaves z) (sym (k .apart))
+
+kept-itself : (d : Delivery) (b : Book) → reading d ≡ leaves b → Kept b b
+kept-itself d b e = record { apart = refl; blocks = left-by d b e .standing Block }
+
+pub run-reads-afresh : RunReadsAfresh
+run-reads-afresh d b ss e = kept-reads d b (run ss b) e (kept-run b ss b (kept-itself d b e))
+
+pub midway-reads-afresh : MidwayReadsAfresh
+midway-reads-afresh d b ss s i e r = kept-reads d b (midway ss s i b) e (kept-onward b i (slipLines s) (run ss b) (kept-run b ss b (kept-itself d b e)) (r .inside) (r .above))
 
 pub rule-kept : RuleKept
 unfolding run
@@ -121,12 +129,29 @@ module _ (d : Delivery) (b : Book) (e : reading d ≡ leaves b) where
       go true s = rw (g, s)
       go false s = rw (g, s)
 
-pub refused-exactly : RefusedExactly
-refused-exactly d b line e h =
+-- a well-formed line on a book that a reading leaves
+line-refused : (d : Delivery) (b : Book) (line : Bytes) → reading d ≡ leaves b → wellFormed line ≡ true →
+    passes (slipCheck line b) ≡ admissible (wish (fields line)) d (rowIn line) b
+line-refused d b line e h =
     let ss = fields line in
     let formed = and-left (known (wish ss)) (passes (badField (numbers ss))) h in
     let good = passed (badField (numbers ss)) (and-right (known (wish ss)) (passes (badField (numbers ss))) h) in
     exactly d b e ss (wish ss) refl formed good
+
+-- only the other tables of a delivery count there
+admissible-beside : (w : Wish) (text : Bytes) (d : Delivery) (row : Row) (b : Book) → admissible w (with-blocks text d) row b ≡ admissible w d row b
+admissible-beside Unknown text d row b = refl
+admissible-beside Add text d row b = refl
+admissible-beside Replace text d row b = refl
+admissible-beside Delete text d row b = refl
+
+-- which the book in the middle of a slip is, with the original delivery
+pub refused-exactly : RefusedExactly
+refused-exactly d b ss s i e r h =
+    let c : Book = midway ss s i b in
+    let line : Bytes = getD (slipLines s) i [] in
+    line-refused (with-blocks (written c) d) c line (midway-reads-afresh d b ss s i e r) h
+    ∙ admissible-beside (wish (fields line)) (written c) d (rowIn line) c
 
 placed-refused : (t i : ℕ) (c : Check) (x : Book) (p : Place) → unless (placed t i c) (leaves x) ≡ refused p → (c ≡ Fails (p .number) (p .column)) × (p .table ≡ t) × (p .line ≡ i)
 placed-refused t i Passes x p h = let z : _≡_ {A = ℕ} 0 1 = cc in let y : ⊥ = omega arith in absurd y
@@ -134,9 +159,11 @@ placed-refused t i (Fails n k) x p h =
     let q : place n t i k ≡ p = cc in
     subst (λ (z : Place). (Fails n k ≡ Fails (z .number) (z .column)) × (z .table ≡ t) × (z .line ≡ i)) q (refl, refl, refl)
 
-pub refused-alike : RefusedAlike
+line-alike : (d : Delivery) (b : Book) (line : Bytes) (p : Place) → reading d ≡ leaves b → wellFormed line ≡ true → wish (fields line) ≡ Add →
+    reading (with-blocks (writtenWith (rowIn line) (b .blocks)) d) ≡ refused p →
+    (slipCheck line b ≡ Fails (p .number) (p .column)) × (p .table ≡ 4) × (p .line ≡ 2 + length (b .blocks))
 unfolding elevenWished
-refused-alike d b line p e h f r =
+line-alike d b line p e h f r =
     let ss = fields line in
     let row = rowIn line in
     let good : badField (numbers ss) ≡ Passes = passed (badField (numbers ss)) (and-right (known (wish ss)) (passes (badField (numbers ss))) h) in
@@ -145,6 +172,11 @@ refused-alike d b line p e h f r =
     let q = placed-refused 4 (2 + length (b .blocks)) c (entered Block row b) p (sym (read-there d b (b .blocks) row e (left-by d b e .standing Block) n) ∙ r) in
     let slip : slipCheck line b ≡ c = ap (λ (w : Wish). lineJudged w (numbers ss) row b) f ∙ rw good in
     (slip ∙ q .0, q .1, q .2)
+
+pub refused-alike : RefusedAlike
+refused-alike d b ss s i p e r h f g =
+    let c : Book = midway ss s i b in
+    line-alike (with-blocks (written c) d) c (getD (slipLines s) i []) p (midway-reads-afresh d b ss s i e r) h f g
 
 -- what no accepted slip touches --------------------------------------------------------------------------------------------
 
@@ -174,20 +206,6 @@ module _ {X : Type 0} (f : List Row → X) (does : Bytes → Book → Bool)
       let here = accepted (posting s b) && someLine does (slipLines s) b in
       let later = someSlip does ss (posted s b) in
       kept-slips ss (posted s b) (or-right here later h) ∙ kept-slip s b (or-left here later h)
-
--- the row of another key, and whether it stands
-module _ (key row : Row) (apart : sameKey 4 key row ≡ false) where
-  found-granted : (w : Wish) (b : Book) → found 4 key (granted w row b .blocks) ≡ found 4 key (b .blocks)
-  found-granted Unknown b = refl
-  found-granted Add b = other-found-inserted 4 key row apart (b .blocks)
-  found-granted Replace b = other-found-replaced 4 key row apart (b .blocks)
-  found-granted Delete b = other-found-removed 4 key row apart (b .blocks)
-
-  stands-granted : (w : Wish) (b : Book) → stands 4 key (granted w row b .blocks) ≡ stands 4 key (b .blocks)
-  stands-granted Unknown b = refl
-  stands-granted Add b = other-stands-inserted 4 key row apart (b .blocks)
-  stands-granted Replace b = stands-replaced 4 key row (b .blocks)
-  stands-granted Delete b = other-stands-removed 4 key row apart (b .blocks)
 
 -- what the blocks of another type weigh
 module _ (weight : Row → ℕ) (v n : ℕ) (row : Row) where
@@ -246,9 +264,9 @@ pub blocks-kept : BlocksKept
 blocks-kept b ss version day depot block l h =
     let key : Row = version ∷ day ∷ depot ∷ block ∷ [] in
     let f : found 4 key (run ss b .blocks) ≡ found 4 key (b .blocks) =
-    kept-slips (found 4 key) (names key) (λ x z e. found-granted key (rowIn x) e (wish (fields x)) z) ss b h in
+    kept-slips (found 4 key) (names key) (λ x z e. other-found key (rowIn x) e (wish (fields x)) z) ss b h in
     let s : stands 4 key (run ss b .blocks) ≡ stands 4 key (b .blocks) =
-    kept-slips (stands 4 key) (names key) (λ x z e. stands-granted key (rowIn x) e (wish (fields x)) z) ss b h in
+    kept-slips (stands 4 key) (names key) (λ x z e. other-stands key (rowIn x) e (wish (fields x)) z) ss b h in
     block-asked (run ss b) (left-standing (run ss b) (run-left b ss l)) version day depot block
     ∙ ap (λ (z : Bool). blockAnswered (nowhere (notThere when not z)) (seven (found 4 key (run ss b .blocks)))) s
     ∙ ap (λ (z : Row). blockAnswered (nowhere (notThere when not (stands 4 key (b .blocks)))) (seven z)) f

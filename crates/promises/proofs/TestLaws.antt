@@ -29,6 +29,10 @@ pub or-right : (p q : Bool) → (p || q) ≡ false → q ≡ false
 or-right true q h = let z : _≡_ {A = ℕ} 0 1 = cc in let y : ⊥ = omega arith in absurd y
 or-right false q h = h
 
+pub or-later : (p q : Bool) → q ≡ true → (p || q) ≡ true
+or-later true q h = refl
+or-later false q h = h
+
 -- a chain of checks passes if each does
 pub both : (c e : Check) → c ⊳ e ≡ Passes → (c ≡ Passes) × (e ≡ Passes)
 both Passes e h = (refl, h)

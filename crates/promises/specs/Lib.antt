@@ -4,3 +4,4 @@ pub mod Run
 pub mod Promises
 pub mod Edges
 pub mod WholeCase
+pub mod RuledOut

@@ -5,11 +5,12 @@ use mathlib.Core.Logic.{_↔_, _⊎_}
 use mathlib.Core.Bool.{false, true, not, Bool, _&&_, _||_}
 use Prim.Native.Nat.{_≤_, ℕ, _<_, _+_, _-_}
 use lib.ListN.{length, replicate, getD, take, drop}
+use lib.Dec.{eqb, ltb, leb}
 use Rattle.words.specs.Words.{Bytes, Row, if_then_else_, same}
 use Rattle.refusals.specs.declared.Place.{Place}
 use Rattle.refusals.specs.declared.Verdict.the-variants.{Refused, Accepted}
 use Rattle.refusals.specs.declared.Verdict.{Verdict}
-use Rattle.refusals.specs.Verdicts.{place, placed, _when_, nowhere, notThere, passes}
+use Rattle.refusals.specs.Verdicts.{place, placed, _when_, nowhere, notThere, passes, paper}
 use Rattle.refusals.specs.declared.Check.{Check}
 use Rattle.refusals.specs.declared.Check.the-variants.{Passes, Fails}
 use Rattle.refusals.specs.declared.Cell.the-variants.{Number}
@@ -18,7 +19,8 @@ use Rattle.cells.specs.Cells.{stretch}
 use Rattle.fields.specs.Fields.{fields}
 use Rattle.rows.specs.Room.{zeros}
 use Rattle.rows.specs.Rows.{rising, stands, found, column, removed, sameKey}
-use Rattle.tables.specs.Columns.{number, keyWidth, columnsOf, keptWidth, columnAt}
+use Rattle.tables.specs.Columns.{number, keyWidth, columnsOf, keptWidth, columnAt, references}
+use Rattle.tables.specs.Parts.{bookRows}
 use Rattle.tables.specs.declared.Table.{Table}
 use Rattle.tables.specs.declared.Table.the-variants.{VehicleType, Depot, Stop, StopPoint, Block}
 use Rattle.tables.specs.declared.Sort.the-variants as sort-is
@@ -27,8 +29,8 @@ use Rattle.book.specs.Book.{Book, empty, entered, rows, knows}
 use Rattle.book.specs.Room.{laid}
 use Rattle.keeping.specs.Keeping.{keepsRule}
 use Rattle.questions.specs.Calls.{typeAnswered, typeCall, blockAnswered, blockCall}
-use Rattle.questions.specs.Questions.{secondsOf, countOf, seven, ofType}
-use Rattle.header.specs.Header.{headerOf, topFaults}
+use Rattle.questions.specs.Questions.{secondsOf, countOf, seven, ofType, total}
+use Rattle.header.specs.Header.{headerOf, topFaults, member}
 use Rattle.row_line.specs.RowLine.{rowRead}
 use Rattle.table_lines.specs.Reading.{judged}
 use Rattle.table_reading.specs.Reading.{tableRead}
@@ -40,7 +42,7 @@ use Rattle.slip_line.specs.declared.Wish.the-variants.{Add, Replace, Delete, Un
 use Rattle.slip_line.specs.SlipLine.{wish, numbers, badField, rowIn}
 use Rattle.block_change.specs.Change.{slipCheck, slipLeaves}
 use Rattle.slips.specs.Slips.{posting, posted}
-use Rattle.slips.specs.Calls.{slipCall, slipOutcome}
+use Rattle.slips.specs.Calls.{slipCall, slipOutcome, workRows}
 use Rattle.writer.specs.Calls.{writeCall}
 use Rattle.writer.specs.Writing.{written, linesWritten, namesLine, rowLine}
 use Rattle.writer.specs.Calls as write-call
@@ -55,19 +57,100 @@ abbrev pub Determined : Type 1
 Determined = (A : Type 0) (call one other : A) → one ≡ call → other ≡ call → one ≡ other
 
 -- "A fault gets one number and a place, by a fixed order": the order is that of the tables (`DeliveryRefused`), of the lines of each
--- (`RefusedAtFirst`, `SlipRefusedAtFirst`), and on a line that of the checks (`headerCheck`, `judged`, `lineJudged`). Of a delivery the number is
--- one from 1 to 11, in one of its five tables
-abbrev pub ReadingNumbered : Type 0
-ReadingNumbered = (d : Delivery) (p : Place) → reading d ≡ refused p →
-    (1 ≤ p .number) × (p .number ≤ 11) × ((t : Table) × (p .table ≡ number t))
+-- (`RefusedAtFirst`, `SlipRefusedAtFirst`), and on a line that of the checks (`headerCheck`, `judged`, `lineJudged`). Which numbers there are, each
+-- with the columns that it can name, is data.
+-- "0" in the paper's column of places
+abbrev pub unnamed : ℕ → Bool
+unnamed k = eqb k 0
 
--- and of a slip 1 to 13, in table 5
+-- a "cell counted from 1", known or not
+abbrev pub anyCell : ℕ → Bool
+anyCell k = ltb 0 k
+
+-- a column of the table, a required one, one that refers to another table
+abbrev pub anyColumn : Table → ℕ → Bool
+anyColumn t k = ltb 0 k && leb k (length (columnsOf t))
+
+abbrev pub requiredColumn : Table → ℕ → Bool
+requiredColumn t k = ltb 0 k && columnAt t (k - 1) .rules .required
+
+abbrev pub referringColumn : Table → ℕ → Bool
+referringColumn t k = member k (map (λ x. x .column) (references t))
+
+-- "line, 11", of a block alone
+abbrev pub endColumn : Table → ℕ → Bool
+endColumn t k = eqb (number t) (number Block) && eqb k 11
+
+-- a number of refusal, and the columns that it can name
+pub record Numbered : Type 0 where
+  pub number : ℕ
+  pub column : ℕ → Bool
+
+infix 70 _naming_
+abbrev pub _naming_ : ℕ → (ℕ → Bool) → Numbered
+n naming f = record { number = n; column = f }
+
+-- "Numbers of refusal": of a text, of its header (line 1), and of a row
+abbrev pub textNumbers : List Numbered
+textNumbers = 1 naming unnamed ∷ []
+
+abbrev pub headerNumbers : Table → List Numbered
+headerNumbers t =
+    6 naming anyCell ∷
+    4 naming unnamed ∷
+    3 naming anyColumn t ∷
+    2 naming requiredColumn t ∷ []
+
+abbrev pub rowNumbers : Table → List Numbered
+rowNumbers t =
+    5 naming unnamed ∷
+    6 naming anyCell ∷
+    7 naming unnamed ∷
+    8 naming anyColumn t ∷
+    11 naming endColumn t ∷
+    9 naming unnamed ∷
+    10 naming referringColumn t ∷ []
+
+-- and of a slip's line
+abbrev pub slipNumbers : List Numbered
+slipNumbers =
+    12 naming unnamed ∷
+    5 naming unnamed ∷
+    8 naming anyColumn Block ∷
+    11 naming endColumn Block ∷
+    9 naming unnamed ∷
+    13 naming unnamed ∷
+    10 naming referringColumn Block ∷ []
+
+-- the number is one of these, and names such a column
+unfoldable pub among : List Numbered → ℕ → ℕ → Bool
+among [] n k = false
+among (x ∷ xs) n k = if eqb n (x .number) then (x .column) k else among xs n k
+
+-- a refusal on paper: number, table, line, column. In a text of table t, by its line
+abbrev pub givenIn : Table → List ℕ → Bool
+givenIn t p =
+    let line = getD p 2 0 in
+    let numbers = if eqb line 0 then textNumbers else if eqb line 1 then headerNumbers t else rowNumbers t in
+    eqb (getD p 1 0) (number t) && among numbers (getD p 0 0) (getD p 3 0)
+
+-- in a slip, whose table number is 5
+abbrev pub givenInSlip : List ℕ → Bool
+givenInSlip p =
+    let numbers = if eqb (getD p 2 0) 0 then textNumbers else slipNumbers in
+    eqb (getD p 1 0) 5 && among numbers (getD p 0 0) (getD p 3 0)
+
+-- a reading gives no other number at no other place
+abbrev pub ReadingNumbered : Type 0
+ReadingNumbered = (d : Delivery) (p : Place) → reading d ≡ refused p → (t : Table) × (givenIn t (paper (Refused p)) ≡ true)
+
+-- nor does a slip
 abbrev pub SlipNumbered : Type 0
-SlipNumbered = (s : Bytes) (b : Book) (p : Place) → posting s b ≡ refused p → (1 ≤ p .number) × (p .number ≤ 13) × (p .table ≡ 5)
+SlipNumbered = (s : Bytes) (b : Book) (p : Place) → posting s b ≡ refused p → givenInSlip (paper (Refused p)) ≡ true
 
 -- "A refused reading leaves an empty book"
 abbrev pub RefusedReadingEmpties : Type 0
-RefusedReadingEmpties = (d : Delivery) (slice : List Row) (p : Place) → length slice ≡ 2560 → readCall d slice .verdict ≡ Refused p →
+RefusedReadingEmpties = (d : Delivery) (slice : List Row) (p : Place) → length slice ≡ bookRows → readCall d slice .verdict ≡ Refused p →
     readCall d slice .book ≡ laid empty
 
 -- "a refused slip the book untouched"; the working area ends all zero
@@ -75,7 +158,7 @@ abbrev pub RefusedSlipKeeps : Type 0
 RefusedSlipKeeps = (s : Bytes) (book work : List Row) (p : Place) → slipCall s book work .verdict ≡ Refused p → slipCall s book work .book ≡ book
 
 abbrev pub WorkCleared : Type 0
-WorkCleared = (s : Bytes) (book work : List Row) → length work ≡ 512 → slipCall s book work .work ≡ replicate 512 zeros
+WorkCleared = (s : Bytes) (book work : List Row) → length work ≡ workRows → slipCall s book work .work ≡ replicate workRows zeros
 
 -- "a refused writing the output untouched"
 abbrev pub RefusedWritingKeeps : Type 0
@@ -89,11 +172,11 @@ RefusedSheetKeeps = (v : Verdict) (book : List Row) (out : Bytes) (p : Place) �
 
 -- what is lent at another length is 16 and stays as it came
 abbrev pub WrongBookStays : Type 0
-WrongBookStays = (d : Delivery) (slice : List Row) → (length slice ≡ 2560 → ⊥) →
+WrongBookStays = (d : Delivery) (slice : List Row) → (length slice ≡ bookRows → ⊥) →
     (readCall d slice .verdict ≡ Refused (place 16 0 0 0)) × (readCall d slice .book ≡ slice)
 
 abbrev pub WrongWorkStays : Type 0
-WrongWorkStays = (s : Bytes) (book work : List Row) → (length work ≡ 512 → ⊥) →
+WrongWorkStays = (s : Bytes) (book work : List Row) → (length work ≡ workRows → ⊥) →
     (slipCall s book work .verdict ≡ Refused (place 16 0 0 0)) × (slipCall s book work .book ≡ book) × (slipCall s book work .work ≡ work)
 
 -- 16 is the answer too to a book that no accepted delivery leaves
@@ -285,7 +368,7 @@ WriteCallAnswers = (b : Book) (out : Bytes) → Left b →
 
 -- reading, writing and reading by the calls: the same book again, whatever was lent
 abbrev pub CallsReadBack : Type 0
-CallsReadBack = (d : Delivery) (b : Book) (book : List Row) (out : Bytes) → reading d ≡ leaves b → length book ≡ 2560 → length (written b) ≤ length out →
+CallsReadBack = (d : Delivery) (b : Book) (book : List Row) (out : Bytes) → reading d ≡ leaves b → length book ≡ bookRows → length (written b) ≤ length out →
     let w = writeCall (readCall d book .book) out in
     readCall (with-blocks (take (w .size) (w .out)) d) book ≡ readCall d book
 
@@ -308,6 +391,103 @@ RunReadsAfresh = (d : Delivery) (b : Book) (ss : List Bytes) → reading d ≡ l
 abbrev pub accepted : Result → Bool
 accepted (refused p) = false
 accepted (leaves b) = true
+
+-- What an accepted slip stores: "a slip call that stores nothing" is ruled out, and "one that honours the first slip and merely says yes later".
+-- "`A` and 11 numbers: add. `R` and 11: replace": the row that a line brings
+abbrev pub brings : Wish → Row → List Row
+brings Unknown row = []
+brings Add row = row ∷ []
+brings Replace row = row ∷ []
+brings Delete row = []
+
+-- "replace the block of that key", "delete": the row that it takes away, which is the one of its key
+abbrev pub takes : Wish → Row → Book → List Row
+takes Unknown row b = []
+takes Add row b = []
+takes Replace row b = found 4 row (b .blocks) ∷ []
+takes Delete row b = found 4 row (b .blocks) ∷ []
+
+abbrev pub broughtBy : Bytes → List Row
+broughtBy l = brings (wish (fields l)) (rowIn l)
+
+abbrev pub takenBy : Bytes → Book → List Row
+takenBy l b = takes (wish (fields l)) (rowIn l) b
+
+-- `many` counts rows, as `copies` does, or weighs them. Behind an accepted line the blocks are those before it, with the row that it brings and
+-- without the one that it takes away. `step` is what a line leaves: said of any, so that a wrong one can be held against it (RuledOut)
+abbrev pub LineStores : (Bytes → Book → Book) → (List Row → ℕ) → Type 0
+LineStores step many = (b : Book) (l : Bytes) → slipCheck l b ≡ Passes →
+    many (step l b .blocks) + many (takenBy l b) ≡ many (b .blocks) + many (broughtBy l)
+
+-- the rows that lines bring
+unfoldable pub allBrought : List Bytes → List Row
+allBrought [] = []
+allBrought (l ∷ ls) = broughtBy l ++ allBrought ls
+
+-- and those that they take away, each as it stands before its line
+unfoldable pub allTaken : List Bytes → Book → List Row
+allTaken [] b = []
+allTaken (l ∷ ls) b = takenBy l b ++ allTaken ls (slipLeaves l b)
+
+-- "A slip is taken whole": all its lines are stored
+abbrev pub SlipStores : (List Row → ℕ) → Type 0
+SlipStores many = (b c : Book) (s : Bytes) → posting s b ≡ leaves c →
+    many (c .blocks) + many (allTaken (slipLines s) b) ≡ many (b .blocks) + many (allBrought (slipLines s))
+
+-- the lines of the accepted slips of a run, "some refused"
+unfoldable pub honoured : List Bytes → Book → List Bytes
+honoured [] b = []
+honoured (s ∷ ss) b = (if accepted (posting s b) then slipLines s else []) ++ honoured ss (posted s b)
+
+-- each accepted slip of a run is stored, not the first one alone. `behind` is the book behind a run: said of any, as above
+abbrev pub RunStores : (List Bytes → Book → Book) → (List Row → ℕ) → Type 0
+RunStores behind many = (b : Book) (ss : List Bytes) →
+    many (behind ss b .blocks) + many (allTaken (honoured ss b) b) ≡ many (b .blocks) + many (allBrought (honoured ss b))
+
+-- which rows stand, and how often: row for row, behind a line, a slip and a run of slips
+abbrev pub RowsStored : Type 0
+RowsStored = (row : Row) → LineStores slipLeaves (copies row) × SlipStores (copies row) × RunStores run (copies row)
+
+-- and so what the blocks of a type weigh together, their seconds and their count: a replaced block's share is taken off its old type, and
+-- the new block's given to its new one
+abbrev pub SharesStored : Type 0
+SharesStored = (weight : Row → ℕ) (version type : ℕ) →
+    LineStores slipLeaves (total weight version type) × SlipStores (total weight version type) × RunStores run (total weight version type)
+
+-- what a line says of its key: this row, or none
+abbrev pub says : Wish → Row → Row → Row
+says Unknown row old = old
+says Add row old = row
+says Replace row old = row
+says Delete row old = []
+
+-- what lines say of a key: the last of them that has it decides; where none has it, the row is the old one
+unfoldable pub lastSaid : Row → List Bytes → Row → Row
+lastSaid key [] old = old
+lastSaid key (l ∷ ls) old = lastSaid key ls (if sameKey 4 key (rowIn l) then says (wish (fields l)) (rowIn l) old else old)
+
+-- behind an accepted slip each key has the row that the slip's lines say, and behind a run the row that its accepted slips say
+abbrev pub SlipSaid : Type 0
+SlipSaid = (b c : Book) (s : Bytes) (key : Row) → Left b → posting s b ≡ leaves c →
+    found 4 key (c .blocks) ≡ lastSaid key (slipLines s) (found 4 key (b .blocks))
+
+abbrev pub RunSaid : Type 0
+RunSaid = (b : Book) (ss : List Bytes) (key : Row) → Left b →
+    found 4 key (run ss b .blocks) ≡ lastSaid key (honoured ss b) (found 4 key (b .blocks))
+
+-- the book on which line i of a slip is judged, counted from 0: "judged on what the lines before it left", behind any run of slips
+abbrev pub midway : List Bytes → Bytes → ℕ → Book → Book
+midway ss s i b = onward slipLeaves (take i (slipLines s)) (run ss b)
+
+-- line i is reached: it is a line of the slip, and none above it is refused
+pub record Reached (ss : List Bytes) (s : Bytes) (i : ℕ) (b : Book) : Type 0 where
+  pub inside : i < length (slipLines s)
+  pub above : (j : ℕ) → j < i → checkAt slipCheck slipLeaves (slipLines s) j (run ss b) ≡ Passes
+
+-- in the middle of a slip, too, the book is the one got by reading afresh the delivery with its block rows as the lines so far leave them
+abbrev pub MidwayReadsAfresh : Type 0
+MidwayReadsAfresh = (d : Delivery) (b : Book) (ss : List Bytes) (s : Bytes) (i : ℕ) → reading d ≡ leaves b → Reached ss s i b →
+    reading (with-blocks (written (midway ss s i b)) d) ≡ leaves (midway ss s i b)
 
 -- the blocks in the writer's form, and one more row behind them
 abbrev pub writtenWith : Row → List Row → Bytes
@@ -334,16 +514,21 @@ known Delete = true
 abbrev pub wellFormed : Bytes → Bool
 wellFormed line = known (wish (fields line)) && passes (badField (numbers (fields line)))
 
--- "A well-formed slip line is refused exactly if its row would be refused by a reading there, or its block is missing."
+-- "A well-formed slip line, judged on what the lines before it left, is refused exactly if its row would be refused by a reading there, or its
+-- block is missing": line i of any slip, behind any run of slips, held against a reading with the original delivery
 abbrev pub RefusedExactly : Type 0
-RefusedExactly = (d : Delivery) (b : Book) (line : Bytes) → reading d ≡ leaves b → wellFormed line ≡ true →
-    passes (slipCheck line b) ≡ admissible (wish (fields line)) d (rowIn line) b
+RefusedExactly = (d : Delivery) (b : Book) (ss : List Bytes) (s : Bytes) (i : ℕ) → reading d ≡ leaves b → Reached ss s i b →
+    let line = getD (slipLines s) i [] in
+    wellFormed line ≡ true →
+    passes (checkAt slipCheck slipLeaves (slipLines s) i (run ss b)) ≡ admissible (wish (fields line)) d (rowIn line) (midway ss s i b)
 
 -- and where both refuse, they name the same number and column: the row's line comes behind the header and the blocks
 abbrev pub RefusedAlike : Type 0
-RefusedAlike = (d : Delivery) (b : Book) (line : Bytes) (p : Place) → reading d ≡ leaves b → wellFormed line ≡ true → wish (fields line) ≡ Add →
-    reading (with-blocks (writtenWith (rowIn line) (b .blocks)) d) ≡ refused p →
-    (slipCheck line b ≡ Fails (p .number) (p .column)) × (p .table ≡ 4) × (p .line ≡ 2 + length (b .blocks))
+RefusedAlike = (d : Delivery) (b : Book) (ss : List Bytes) (s : Bytes) (i : ℕ) (p : Place) → reading d ≡ leaves b → Reached ss s i b →
+    let line = getD (slipLines s) i [] in
+    let blocks = midway ss s i b .blocks in
+    wellFormed line ≡ true → wish (fields line) ≡ Add → reading (with-blocks (writtenWith (rowIn line) blocks) d) ≡ refused p →
+    (checkAt slipCheck slipLeaves (slipLines s) i (run ss b) ≡ Fails (p .number) (p .column)) × (p .table ≡ 4) × (p .line ≡ 2 + length blocks)
 
 -- some line of a slip does this, as the book stands before that line
 unfoldable pub someLine : (Bytes → Book → Bool) → List Bytes → Book → Bool
@@ -396,11 +581,39 @@ slipsCalled (s ∷ ss) book work = slipsCalled ss (slipCall s book work .book) (
 -- it is the book that a reading afresh lends, row for row, and so is every answer got from it
 abbrev pub CallsReadAfresh : Type 0
 CallsReadAfresh = (d : Delivery) (b : Book) (ss : List Bytes) (book work : List Row) →
-    reading d ≡ leaves b → length book ≡ 2560 → length work ≡ 512 →
+    reading d ≡ leaves b → length book ≡ bookRows → length work ≡ workRows →
     (slipsCalled ss (readCall d book .book) work ≡ laid (run ss b))
     × (slipsCalled ss (readCall d book .book) work ≡ readCall (with-blocks (written (run ss b)) d) book .book)
 
 -- a slip call answers as the slip is judged on the book that it is handed
 abbrev pub SlipCallAnswers : Type 0
-SlipCallAnswers = (s : Bytes) (b : Book) (work : List Row) → Left b → length work ≡ 512 →
+SlipCallAnswers = (s : Bytes) (b : Book) (work : List Row) → Left b → length work ≡ workRows →
     slipCall s (laid b) work ≡ slipOutcome (posting s b) (laid b) work
+
+-- no row
+abbrev pub none : Row → Bool
+none [] = true
+none (n ∷ ns) = false
+
+-- "a slip call that stores nothing (3, over 2's reading)", "one that honours the first slip and merely says yes later (3, any run)": behind a reading
+-- and any run of slip calls the block question answers what the accepted slips last said of that block, and else what the text of the delivery
+-- says: for a block that was deleted 15
+abbrev pub CallsSaid : Type 0
+CallsSaid = (d : Delivery) (b : Book) (ss : List Bytes) (book work : List Row) (version day depot block : ℕ) →
+    reading d ≡ leaves b → length book ≡ bookRows → length work ≡ workRows →
+    let key = version ∷ day ∷ depot ∷ block ∷ [] in
+    let row = lastSaid key (honoured ss b) (found 4 key (rowsOf Block (d .blocks))) in
+    blockCall (slipsCalled ss (readCall d book .book) work) version day depot block ≡ blockAnswered (nowhere (notThere when none row)) (seven row)
+
+-- the year's fault. "For a year the sheet was wrong although every row was right: when a slip moved a block, the new length was taken off and not
+-- the old." Behind a reading and any run of slip calls the type question answers the delivery's share, with what the accepted slips brought and
+-- without what they took away, each row as it stood when it was taken
+abbrev pub YearsFaultRuledOut : Type 0
+YearsFaultRuledOut = (d : Delivery) (b : Book) (ss : List Bytes) (book work : List Row) (version type : ℕ) →
+    reading d ≡ leaves b → length book ≡ bookRows → length work ≡ workRows → stands 2 (version ∷ type ∷ []) (rowsOf VehicleType (d .types)) ≡ true →
+    let answer = typeCall (slipsCalled ss (readCall d book .book) work) version type in
+    let old = rowsOf Block (d .blocks) in
+    let brought = allBrought (honoured ss b) in
+    let taken = allTaken (honoured ss b) b in
+    (answer .seconds + secondsOf version type taken ≡ secondsOf version type old + secondsOf version type brought)
+    × (answer .count + countOf version type taken ≡ countOf version type old + countOf version type brought)
