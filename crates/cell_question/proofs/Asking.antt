@@ -39,7 +39,7 @@ use Rattle.values.specs.declared.Value.{Value}
 use Rattle.values.specs.declared.Value.the-variants as value-is
 use Rattle.values.proofs.Values.{column-narrow}
 use Rattle.header.specs.Header.{Header, offset, placeFrom, under, cutCheck, headerOf, topFaults}
-use Rattle.header.specs.Heading.{places}
+use Rattle.header.specs.Heading.{headerPlaces, places}
 use Rattle.header.proofs.Names.{place-at}
 use Rattle.row_line.proofs.Columns.{place-above, under-numbered}
 use Rattle.cell_question.specs.CellQuestion.{answered, said, cellSaid, cutAt, cellAt, cellStart, cellVerdict, tableCell, askedOf, cellAsked, stretchOf}
@@ -178,7 +178,7 @@ module _ (t : Table) (h : Header) (line k begin : ℕ) (row : Bytes) where
   pub row-refused : (n m : ℕ) → cutCheck h (cut row) ≡ Fails n m → answered (placed (number t) line (Fails n m)) Empty ≡ rowAnswer t h line k begin row
   row-refused n m e = sym (row-checked (Fails n m) (rw e))
 
-  pub row-cell : (at bounds : List ℕ) (count m from : ℕ) → cutCheck h (cut row) ≡ Passes → MarksOf row bounds count → count ≡ length h → at ≡ places h → 1 ≤ k → k < 12 → m ≡ getD at k 0 → from ≡ begin + beginAt bounds count m
+  pub row-cell : (at bounds : List ℕ) (count m from : ℕ) → cutCheck h (cut row) ≡ Passes → MarksOf row bounds count → count ≡ length h → at ≡ places h → 1 ≤ k → k < headerPlaces → m ≡ getD at k 0 → from ≡ begin + beginAt bounds count m
       → cellJudged t line k from (cellNumbered m (cellsOf (cut row))) ≡ rowAnswer t h line k begin row
   unfolding cellJudged
   row-cell at bounds count m from pass marks n a low high p q =

@@ -4,10 +4,11 @@ ghost use mathlib.Core.List.{List};
 ghost use Prim.Native.Nat.{ℕ, _≤_, _+_, _<_};
 ghost use lib.ListN.{length};
 ghost use Rattle.refusals.specs.Verdicts.{placed, nowhere, notThere};
+ghost use Rattle.lines.specs.Lines.{mostBytes};
 ghost use Rattle.tables.specs.Listing.{listed};
 ghost use Rattle.tables.specs.Columns.{columnsOf};
-ghost use Rattle.header.specs.Heading.{places, cellsKept};
-ghost use Rattle.header.specs.Header.{headerOf, topFaults};
+ghost use Rattle.header.specs.Heading.{headerPlaces, places, cellsKept};
+ghost use Rattle.header.specs.Header.{mostCells, headerOf, topFaults};
 ghost use Rattle.cell_question.specs.CellQuestion.{answered, said, tableCell, cellAsked, stretchOf};
 ghost use Rattle.cell_question.specs.Asking.{cellJudged, rowAnswer};
 use header::BOUNDS;
@@ -57,7 +58,7 @@ fn accepted(cell: Cell) -> CellAnswer
 
 // The stretch of a cell that begins at a place of the text.
 fn text_said(cell: &[u8], at: usize) -> Cell
-    requires { ⌜ at ≤ 65536 ⌝ }
+    requires { ⌜ at ≤ mostBytes ⌝ }
     ensures { λ r. ⌜ r ≡ said Sort.Text at (now (cell .entry)) ⌝ }
 {
     let len = header::wide(contents::stretch_of(cell).len());
@@ -82,7 +83,7 @@ fn judged_cell(
     line: u64,
     column: usize,
 ) -> CellAnswer
-    requires { ⌜ (at ≤ 65536) × (1 ≤ column) × (column ≤ 12) × (now columns ≡ listed t) ⌝ }
+    requires { ⌜ (at ≤ mostBytes) × (1 ≤ column) × (column < headerPlaces) × (now columns ≡ listed t) ⌝ }
     ensures { λ r. ⌜ r ≡ cellJudged t line column at (now (cell .entry)) ⌝ }
 {
     let rules = tables::rules_at(columns, column - 1);
@@ -105,7 +106,7 @@ fn cell_in_row(
     line: u64,
     column: usize,
 ) -> CellAnswer
-    requires { ⌜ (begin + length (now row) ≤ 65536) × (1 ≤ column) × (column < 12) × (cellsKept (now at) ≤ 32) × (now columns ≡ listed t) ⌝ }
+    requires { ⌜ (begin + length (now row) ≤ mostBytes) × (1 ≤ column) × (column < headerPlaces) × (cellsKept (now at) ≤ mostCells) × (now columns ≡ listed t) ⌝ }
     ensures { λ r. ⌜ ((h : List ℕ) → now (at .entry) ≡ places h → r ≡ rowAnswer t h line column begin (now (row .entry))) ⌝ }
 {
     let mut bounds = [0usize; BOUNDS];
@@ -134,7 +135,7 @@ fn cell_on_line(
     line: u64,
     column: usize,
 ) -> CellAnswer
-    requires { ⌜ (length (now bytes) ≤ 65536) × (1 ≤ column) × (column ≤ length (columnsOf t)) × (cellsKept (now at) ≤ 32) × (topFaults t (now bytes) ≡ Verdict.Accepted) × (now at ≡ places (headerOf t (now bytes))) × (now columns ≡ listed t) ⌝ }
+    requires { ⌜ (length (now bytes) ≤ mostBytes) × (1 ≤ column) × (column ≤ length (columnsOf t)) × (cellsKept (now at) ≤ mostCells) × (topFaults t (now bytes) ≡ Verdict.Accepted) × (now at ≡ places (headerOf t (now bytes))) × (now columns ≡ listed t) ⌝ }
     ensures { λ r. ⌜ r ≡ tableCell t (now (bytes .entry)) line column ⌝ }
 {
     if line < 2 {

@@ -10,7 +10,7 @@ use Rattle.refusals.specs.declared.Check.the-variants.{Passes, Fails}
 use Rattle.refusals.specs.Verdicts.{placed, textTooLong}
 use Rattle.refusals.specs.declared.Verdict.{Verdict}
 use Rattle.refusals.proofs.Placing.{placed-passes}
-use Rattle.lines.specs.Lines.{lines, headLine}
+use Rattle.lines.specs.Lines.{lines, headLine, mostBytes}
 use Rattle.lines.specs.Ends.{lineRoom, lineAt}
 use Rattle.lines.specs.declared.Line.{Line}
 use Rattle.lines.proofs.Lining.{row-lines, room-le}
@@ -18,7 +18,7 @@ use Rattle.lines.proofs.Starting.{head-row}
 use Rattle.cells.specs.Cells.{cut, cellsOf}
 use Rattle.tables.specs.Columns.{number}
 use Rattle.tables.specs.declared.Table.{Table}
-use Rattle.header.specs.Header.{Header, headerCheck, headerOf}
+use Rattle.header.specs.Header.{Header, mostCells, headerCheck, headerOf}
 use Rattle.header.specs.Heading.{headed, places, heading}
 use Rattle.header.specs.Top.{TopKept, TopOf}
 use Rattle.header.specs.declared.Heading.{Heading}
@@ -32,14 +32,14 @@ headed-check (Fails n k) h = refl
 -- the top of a text ---------------------------------------------------------------------------------------------------------------
 
 module _ (t : Table) (s : Bytes) where
-  pub top-long : 65536 < length s → (top : Top) → top .verdict ≡ placed (number t) 0 textTooLong → TopOf t s top
+  pub top-long : mostBytes < length s → (top : Top) → top .verdict ≡ placed (number t) 0 textTooLong → TopOf t s top
   top-long l top e =
       record {
-        is = e ∙ sym (rw (lt-ltb 65536 (length s) l));
+        is = e ∙ sym (rw (lt-ltb mostBytes (length s) l));
         kept = λ a. let z : _≡_ {A = ℕ} 0 1 = cc in absurd (omega arith);
       }
 
-  module _ (short : length s ≤ 65536) (r : Line) (e : r ≡ lineAt s 0) (g : Heading) (is : g ≡ heading t (take (r .end - 0) (drop 0 s))) where
+  module _ (short : length s ≤ mostBytes) (r : Line) (e : r ≡ lineAt s 0) (g : Heading) (is : g ≡ heading t (take (r .end - 0) (drop 0 s))) where
     heading-is : g ≡ heading t (headLine (lines s))
     heading-is = is ∙ ap (heading t) (head-row s r e)
 
@@ -49,7 +49,7 @@ module _ (t : Table) (s : Bytes) where
     kept-top : (v : Verdict) → headerCheck t (headLine (lines s)) ≡ Passes → TopKept t s (record { verdict = v; at = g .at; next = r .next })
     kept-top v p =
         let spots : g .at ≡ places (headerOf t s) = ap (λ (x : Heading). x .at) heading-is ∙ names.heading-kept t (headLine (lines s)) p in
-        let many : length (headerOf t s) ≤ 32 = omega (arith, names.header-length t (cellsOf (cut (headLine (lines s)))), names.header-few t (headLine (lines s)) p) in
+        let many : length (headerOf t s) ≤ mostCells = omega (arith, names.header-length t (cellsOf (cut (headLine (lines s)))), names.header-few t (headLine (lines s)) p) in
         let y : r .next ≡ lineRoom s = ap (λ (x : Line). x .next) e ∙ (omega arith) in
         record {
           short = short;
@@ -62,6 +62,6 @@ module _ (t : Table) (s : Bytes) where
     pub top-headed : (v : Verdict) → v ≡ placed (number t) 1 (g .check) → TopOf t s (record { verdict = v; at = g .at; next = r .next })
     top-headed v o =
         record {
-          is = o ∙ ap (placed (number t) 1) heading-check ∙ sym (rw (le-ltb 65536 (length s) short));
+          is = o ∙ ap (placed (number t) 1) heading-check ∙ sym (rw (le-ltb mostBytes (length s) short));
           kept = λ a. kept-top v (sym heading-check ∙ placed-passes (number t) 1 (g .check) (sym o ∙ a));
         }

@@ -20,8 +20,8 @@ use Rattle.tables.specs.Columns.{Column, noColumn, columnNumber}
 use Rattle.tables.specs.declared.Table.{Table}
 use Rattle.tables.proofs.Figures.{columns-few}
 use Rattle.tables.proofs.Names.{column-number-most}
-use Rattle.header.specs.Header.{member, Header, repeated, placeFrom, missingFrom, missing, header, headerCheck}
-use Rattle.header.specs.Heading.{placesFrom, places, namesCheck, headed, heading}
+use Rattle.header.specs.Header.{member, Header, repeated, placeFrom, missingFrom, missing, header, mostCells, headerCheck}
+use Rattle.header.specs.Heading.{placesFrom, mostColumns, headerPlaces, places, namesCheck, headed, heading}
 use Rattle.header.specs.declared.Heading.{Heading}
 use Rattle.header.proofs.Quoting.{number-of-content}
 
@@ -91,8 +91,8 @@ place-read (suc n) k zero h l = let e : k + 0 ≡ k = omega arith in rw e
 place-read (suc n) k (suc d) h l = let e : k + suc d ≡ suc k + d = omega arith in rw e (place-read n (suc k) d h (omega arith))
 
 -- the cell of a column, by its number
-pub place-at : (h : Header) (k : ℕ) → k < 11 → getD (places h) (k + 1) 0 ≡ placeFrom 0 (k + 1) h
-place-at h k l = let e : k + 1 ≡ suc k = omega arith in let f : 1 + k ≡ suc k = omega arith in rw e (place-read 11 1 k h l ∙ rw f)
+pub place-at : (h : Header) (k : ℕ) → k < mostColumns → getD (places h) (k + 1) 0 ≡ placeFrom 0 (k + 1) h
+place-at h k l = let e : k + 1 ≡ suc k = omega arith in let f : 1 + k ≡ suc k = omega arith in rw e (place-read mostColumns 1 k h l ∙ rw f)
 
 places-below : (n k x : ℕ) (xs : Header) → x < k → placesFrom n k (xs ++ (x ∷ [])) ≡ placesFrom n k xs
 unfolding placesFrom
@@ -111,25 +111,25 @@ places-from (suc n) k (suc d) x xs e l m =
 
 -- the columns of some cells, behind a number that is no column's
 abbrev spots : ℕ → Header → List ℕ
-spots n xs = n ∷ placesFrom 11 1 xs
+spots n xs = n ∷ placesFrom mostColumns 1 xs
 
 -- one cell more that is noted
-spots-more : (n x : ℕ) (xs : Header) → x < 12 → (not (eqb x 0) && member x xs) ≡ false → (if eqb x 0 then spots n xs else set (spots n xs) x (suc (length xs))) ≡ spots n (xs ++ (x ∷ []))
-spots-more n zero xs l m = ap (λ (ps : List ℕ). n ∷ ps) (sym (places-below 11 1 0 xs (omega arith)))
+spots-more : (n x : ℕ) (xs : Header) → x < headerPlaces → (not (eqb x 0) && member x xs) ≡ false → (if eqb x 0 then spots n xs else set (spots n xs) x (suc (length xs))) ≡ spots n (xs ++ (x ∷ []))
+spots-more n zero xs l m = ap (λ (ps : List ℕ). n ∷ ps) (sym (places-below mostColumns 1 0 xs (omega arith)))
 spots-more n (suc d) xs l m =
     let z : eqb (suc d) 0 ≡ false = ne-eqb (suc d) 0 (λ e. omega arith) in
-    rw z (ap (λ (ps : List ℕ). n ∷ ps) (sym (places-from 11 1 d (suc d) xs (omega arith) (omega arith) (rw z at m))))
+    rw z (ap (λ (ps : List ℕ). n ∷ ps) (sym (places-from mostColumns 1 d (suc d) xs (omega arith) (omega arith) (rw z at m))))
 
 not-not : (b : Bool) → not (not b) ≡ b
 not-not true = refl
 not-not false = refl
 
 -- whether a column has a cell already, by its place
-noted-member : (n x : ℕ) (xs : Header) → x < 12 → (not (eqb x 0) && not (eqb (getD (spots n xs) x 0) 0)) ≡ (not (eqb x 0) && member x xs)
+noted-member : (n x : ℕ) (xs : Header) → x < headerPlaces → (not (eqb x 0) && not (eqb (getD (spots n xs) x 0) 0)) ≡ (not (eqb x 0) && member x xs)
 noted-member n zero xs l = refl
 noted-member n (suc d) xs l =
     let e : 1 + d ≡ suc d = omega arith in
-    rw (place-read 11 1 d xs (omega arith), e, place-member 0 (suc d) xs, not-not (member (suc d) xs))
+    rw (place-read mostColumns 1 d xs (omega arith), e, place-member 0 (suc d) xs, not-not (member (suc d) xs))
 
 positive : (n : ℕ) → (n ≡ 0 → ⊥) → 0 < n
 positive zero e = absurd (e refl)
@@ -142,11 +142,11 @@ pub record Walked (h : Header) (at : List ℕ) (i : ℕ) : Type 0 where
   pub noted : at ≡ spots (length h) (take i h)
   pub ahead : repeated [] h ≡ repeated (take i h) (drop i h)
 
-pub walked-none : (h : Header) (n : ℕ) → n ≡ length h → Walked h (set (replicate 12 0) 0 n) 0
+pub walked-none : (h : Header) (n : ℕ) → n ≡ length h → Walked h (set (replicate headerPlaces 0) 0 n) 0
 unfolding placesFrom placeFrom
 walked-none h n e = record { noted = rw e; ahead = refl }
 
-module _ (h : Header) (at : List ℕ) (i x : ℕ) (w : Walked h at i) (l : i < length h) (e : getD h i 0 ≡ x) (few : x < 12) where
+module _ (h : Header) (at : List ℕ) (i x : ℕ) (w : Walked h at i) (l : i < length h) (e : getD h i 0 ≡ x) (few : x < headerPlaces) where
   again : (not (eqb x 0) && not (eqb (getD at x 0) 0)) ≡ (not (eqb (getD h i 0) 0) && member (getD h i 0) (take i h))
   again = rw (w .noted, e) (noted-member (length h) x (take i h) few)
 
@@ -175,7 +175,7 @@ module _ (h : Header) (at : List ℕ) (i : ℕ) (w : Walked h at i) (l : length 
 
 -- what is missing --------------------------------------------------------------------------------------------------------------
 
-module _ (xs : List Column) (k : ℕ) (h : Header) (at : List ℕ) (e : at ≡ places h) (room : k < 11) (l : k < length xs) where
+module _ (xs : List Column) (k : ℕ) (h : Header) (at : List ℕ) (e : at ≡ places h) (room : k < mostColumns) (l : k < length xs) where
   lacked : eqb (getD at (k + 1) 0) 0 ≡ not (member (k + 1) h)
   lacked = rw (e, place-at h k room) (place-member 0 (k + 1) h)
 
@@ -220,7 +220,7 @@ name-read t cs i cell s x l c e f =
     let g : getD cs i [] ≡ cell = sym (c ∙ rw (n, m)) in
     header-name t cs i l ∙ rw (g, number-of-content t cell, ← e, ← f)
 
-pub name-few : (t : Table) (s : Bytes) (x : ℕ) → x ≡ columnNumber t s → x < 12
+pub name-few : (t : Table) (s : Bytes) (x : ℕ) → x ≡ columnNumber t s → x < headerPlaces
 name-few t s x e = omega (arith, column-number-most t s, columns-few t)
 
 -- a header that passes is kept
@@ -233,23 +233,23 @@ module _ (t : Table) (line : Bytes) where
   header-faulty n e = rw (e, lt-ltb 0 n (faulty-from-one line n e))
 
   module _ (e : cut line ≡ cells (cellsOf (cut line))) where
-    pub header-wide : 32 < length (cellsOf (cut line)) → headerCheck t line ≡ tooManyCells
+    pub header-wide : mostCells < length (cellsOf (cut line)) → headerCheck t line ≡ tooManyCells
     unfolding headerCheck
-    header-wide l = rw (e, header-length t (cellsOf (cut line)), lt-ltb 32 (length (cellsOf (cut line))) l)
+    header-wide l = rw (e, header-length t (cellsOf (cut line)), lt-ltb mostCells (length (cellsOf (cut line))) l)
 
-    pub header-names : length (cellsOf (cut line)) ≤ 32 → headerCheck t line ≡ namesCheck t (header t (cellsOf (cut line)))
+    pub header-names : length (cellsOf (cut line)) ≤ mostCells → headerCheck t line ≡ namesCheck t (header t (cellsOf (cut line)))
     unfolding headerCheck
-    header-names l = rw (e, header-length t (cellsOf (cut line)), le-ltb 32 (length (cellsOf (cut line))) l)
+    header-names l = rw (e, header-length t (cellsOf (cut line)), le-ltb mostCells (length (cellsOf (cut line))) l)
 
-  -- a header that passes has at most 32 cells
-  pub header-few : headerCheck t line ≡ Passes → length (cellsOf (cut line)) ≤ 32
-  header-few p = go (cut line) refl (ltb 32 (length (cellsOf (cut line)))) refl
+  -- a header that passes has at most `mostCells`
+  pub header-few : headerCheck t line ≡ Passes → length (cellsOf (cut line)) ≤ mostCells
+  header-few p = go (cut line) refl (ltb mostCells (length (cellsOf (cut line)))) refl
     where
-      go : (u : Cut) → cut line ≡ u → (b : Bool) → ltb 32 (length (cellsOf (cut line))) ≡ b → length (cellsOf (cut line)) ≤ 32
+      go : (u : Cut) → cut line ≡ u → (b : Bool) → ltb mostCells (length (cellsOf (cut line))) ≡ b → length (cellsOf (cut line)) ≤ mostCells
       go (faulty n) e b q = rw e (omega arith)
-      go (cells cs) e false q = ltb-false 32 (length (cellsOf (cut line))) q
+      go (cells cs) e false q = ltb-false mostCells (length (cellsOf (cut line))) q
       go (cells cs) e true q =
-          let w : headerCheck t line ≡ tooManyCells = header-wide (e ∙ rw e) (ltb-true 32 (length (cellsOf (cut line))) q) in
+          let w : headerCheck t line ≡ tooManyCells = header-wide (e ∙ rw e) (ltb-true mostCells (length (cellsOf (cut line))) q) in
           let z : _≡_ {A = ℕ} 0 1 = cc in
           absurd (let y : ⊥ = omega arith in y)
 

@@ -47,13 +47,17 @@ cutCheck h u =
     badCut u
     ⊳ cellCount when not (eqb (length (cellsOf u)) (length h))
 
+-- 4: "more than 32 header cells"
+abbrev pub mostCells : ℕ
+mostCells = 32
+
 -- "header 6, 4, 3, 2"
 unfoldable pub headerCheck : Table → Bytes → Check
 headerCheck t line =
     let u = cut line in
     let h = header t (cellsOf u) in
     badCut u
-    ⊳ tooManyCells when ltb 32 (length h)
+    ⊳ tooManyCells when ltb mostCells (length h)
     ⊳ columnTwice (repeated [] h) when ltb 0 (repeated [] h)
     ⊳ columnMissing (missing t h) when ltb 0 (missing t h)
 

@@ -20,9 +20,17 @@ unfoldable pub placesFrom : ℕ → ℕ → Header → List ℕ
 placesFrom zero k h = []
 placesFrom (suc n) k h = placeFrom 0 k h ∷ placesFrom n (suc k) h
 
--- at place 0, which is no column's, how many cells a header has; then the cells of the columns 1 to 11
+-- no table has more columns
+abbrev pub mostColumns : ℕ
+mostColumns = 11
+
+-- what is kept of a header: its count of cells, and the cell of each column
+abbrev pub headerPlaces : ℕ
+headerPlaces = suc mostColumns
+
+-- at place 0, which is no column's, how many cells a header has; then the cells of the columns from 1 on
 abbrev pub places : Header → List ℕ
-places h = length h ∷ placesFrom 11 1 h
+places h = length h ∷ placesFrom mostColumns 1 h
 
 abbrev pub cellsKept : List ℕ → ℕ
 cellsKept at = getD at 0 0
@@ -30,7 +38,7 @@ cellsKept at = getD at 0 0
 -- a header that passes is kept as its places
 abbrev pub headed : Check → Header → Heading
 headed Passes h = record { check = Passes; at = places h }
-headed (Fails n k) h = record { check = Fails n k; at = replicate 12 0 }
+headed (Fails n k) h = record { check = Fails n k; at = replicate headerPlaces 0 }
 
 abbrev pub heading : Table → Bytes → Heading
 heading t line = headed (headerCheck t line) (header t (cellsOf (cut line)))

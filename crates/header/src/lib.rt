@@ -9,7 +9,7 @@ ghost use Rattle.words.specs.Words.{if_then_else_};
 ghost use Rattle.cells.specs.Cells.{cut, cellsOf};
 ghost use Rattle.cells.specs.Numbered.{MarksOf};
 ghost use Rattle.tables.specs.Listing.{listed};
-ghost use Rattle.header.specs.Heading.{headed, places, NamesOf, namesCheck, heading};
+ghost use Rattle.header.specs.Heading.{headed, headerPlaces, places, NamesOf, namesCheck, heading};
 ghost use Rattle.header.specs.Header.{missing, header};
 ghost use Rattle.header.specs.Top.{TopOf};
 use cells::Answer;
@@ -70,7 +70,7 @@ fn no_heading(fault: Check) -> Heading
 
 // Whether a known column has a cell already.
 fn comes_again(at: &Places, column: usize) -> bool
-    requires { ⌜ column < 12 ⌝ }
+    requires { ⌜ column < headerPlaces ⌝ }
     ensures { λ r. ⌜ r ≡ (not (eqb column 0) && not (eqb (getD (now (at .entry)) column 0) 0)) ⌝ }
 {
     if column == 0 {
@@ -81,7 +81,7 @@ fn comes_again(at: &Places, column: usize) -> bool
 
 // Notes the cell of a known column.
 fn note(at: Places, column: usize, cell: usize) -> Places
-    requires { ⌜ column < 12 ⌝ }
+    requires { ⌜ column < headerPlaces ⌝ }
     ensures { λ r. ⌜ r ≡ (if eqb column 0 then at else set at column cell) ⌝ }
 {
     let mut noted = at;

@@ -48,5 +48,8 @@ lineStart (suc (suc i)) [] = 0
 lineStart (suc (suc i)) (b ∷ bs) = suc (if eqb b 10 then lineStart (suc i) bs else lineStart (suc (suc i)) bs)
 
 -- 1: "text over 65,536 bytes"
+abbrev pub mostBytes : ℕ
+mostBytes = 65536
+
 abbrev pub overlong : Bytes → Bool
-overlong s = ltb 65536 (length s)
+overlong s = ltb mostBytes (length s)

@@ -21,7 +21,7 @@ use Rattle.book.specs.Book.{Book, entered, empty}
 use Rattle.book.specs.Result.{Result, leaves, refused, unless, _▹_}
 use Rattle.header.specs.Header.{Header, headerOf, topFaults}
 use Rattle.row_line.specs.RowLine.{rowRead}
-use Rattle.table_lines.specs.Reading.{judged, rowsRead}
+use Rattle.table_lines.specs.Reading.{judged, lineAfter, rowsRead}
 use Rattle.table_reading.specs.Reading.{tableRead}
 use Rattle.delivery.specs.Delivery.{reading, Delivery}
 use Rattle.block_change.specs.Change.{slipCheck, slipLeaves}
@@ -97,7 +97,7 @@ module _ (check : Bytes → Book → Check) (step : Bytes → Book → Book) (ta
 
 -- rows and slip lines are so judged
 rows-in-turn : (t : Table) (h : Header) (i : ℕ) (ls : List Bytes) (b : Book) → rowsRead t h i ls b ≡ inTurn (judged t h) (λ l x. entered t (rowRead t h l) x) (number t) i ls b
-unfolding rowsRead inTurn
+unfolding rowsRead lineAfter inTurn
 rows-in-turn t h i [] b = refl
 rows-in-turn t h i (l ∷ ls) b = ap (λ (r : Result). unless (placed (number t) i (judged t h l b)) r) (rows-in-turn t h (suc i) ls (entered t (rowRead t h l) b))
 
@@ -112,7 +112,7 @@ unless-refused Accepted r p h = inr (refl, h)
 unless-refused (Refused q) r p h = let e : q ≡ p = cc in inl (ap (λ (z : Place). Refused z) e)
 
 pub accepted-exactly : AcceptedExactly
-unfolding tableRead
+unfolding tableRead lineAfter
 accepted-exactly t s b c = (
   λ e. (
     unrefused (topFaults t s) read c e,
@@ -131,7 +131,7 @@ accepted-exactly t s b c = (
     read = rowsRead t h 2 ls b
 
 pub refused-at-first : RefusedAtFirst
-unfolding tableRead
+unfolding tableRead lineAfter
 refused-at-first t s b p = (
   λ e.
       ⊎-elim (λ v. inl v)

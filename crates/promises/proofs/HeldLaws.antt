@@ -36,7 +36,7 @@ use Rattle.rules.proofs.Referring.{unknown-with}
 use Rattle.keeping.specs.Keeping.{ranged}
 use Rattle.header.specs.Header.{Header, contents, contentsFrom, cutCheck, headerOf, topFaults}
 use Rattle.row_line.specs.RowLine.{rowRead}
-use Rattle.table_lines.specs.Reading.{judged, rowsRead}
+use Rattle.table_lines.specs.Reading.{judged, lineAfter, rowsRead}
 use Rattle.table_reading.specs.Reading.{tableRead}
 use Rattle.writer.specs.Writing.{linesWritten}
 use Rattle.promises.proofs.PlainLaws.{Eleven, eleven-long, kept-numeric, cells-ranged, plainHeader, plainLine, row-judged, row-read, plainNames, names-short, names-good, names-read, line-short, plainText, unbroken-plain, unbroken-line}
@@ -147,7 +147,7 @@ held-entered t b row a h =
 
 pub held-read : (t : Table) (h : Header) (i : ℕ) (ls : List Bytes) (b c : Book) → Held t b (rows t b) → rowsRead t h i ls b ≡ leaves c →
     (c ≡ with-rows t (rows t c) b) × Held t c (rows t c)
-unfolding rowsRead
+unfolding rowsRead lineAfter
 held-read t h i [] b c held e =
     let f : b ≡ c = cc in
     subst (λ (z : Book). (z ≡ with-rows t (rows t z) b) × Held t z (rows t z)) f (sym (with-same t b), held)
@@ -167,7 +167,7 @@ held-read t h i (l ∷ ls) b c held e = go (judged t h l b) refl (held-read t h 
 
 pub held-table : (t : Table) (s : Bytes) (b c : Book) → Held t b (rows t b) → tableRead t s b ≡ leaves c →
     (c ≡ with-rows t (rows t c) b) × Held t c (rows t c)
-unfolding tableRead
+unfolding tableRead lineAfter
 held-table t s b c h e =
     held-read t (headerOf t s) 2 (rowLines (lines s)) b c h
     (going-on (topFaults t s) (rowsRead t (headerOf t s) 2 (rowLines (lines s)) b) c e)
@@ -182,7 +182,7 @@ good-judged t b xs row g small up =
 
 rows-back : (t : Table) (b : Book) (i : ℕ) (xs ys : List Row) → rises (keyWidth t) (xs ++ ys) ≡ true → EachGood t b ys → length (xs ++ ys) ≤ roomOf t →
     rowsRead t (plainHeader t) i (map (plainLine t) ys) (with-rows t xs b) ≡ leaves (with-rows t (xs ++ ys) b)
-unfolding rowsRead EachGood
+unfolding rowsRead lineAfter EachGood
 rows-back t b i xs [] up g n = rw append-nil
 rows-back t b i xs (y ∷ ys) up g n =
     let small : length xs < roomOf t = omega (arith, length-append xs (y ∷ ys)) in
@@ -214,7 +214,7 @@ text-short t ls h n = rw length-append (omega (arith, names-short t, lines-short
 
 pub plain-lines-read : (t : Table) (ls : List Bytes) (b : Book) → EachUnbroken (plainNames t ∷ ls) → EachShort ls → length ls ≤ 513 →
     tableRead t (linesWritten (plainNames t ∷ ls)) b ≡ rowsRead t (plainHeader t) 2 ls b
-unfolding tableRead
+unfolding tableRead lineAfter
 plain-lines-read t ls b u h n =
     rw (lines-written (plainNames t ∷ ls) u, le-ltb 65536 (length (linesWritten (plainNames t ∷ ls))) (text-short t ls h n), names-good t, names-read t)
 
@@ -237,7 +237,7 @@ table-back t b ys h =
 -- and one more row behind them -------------------------------------------------------------------------------------------
 
 rows-append : (t : Table) (h : Header) (i : ℕ) (ls ms : List Bytes) (b : Book) → rowsRead t h i (ls ++ ms) b ≡ (rowsRead t h i ls b ▹ rowsRead t h (i + length ls) ms)
-unfolding rowsRead
+unfolding rowsRead lineAfter
 rows-append t h i [] ms b = let m : i + 0 ≡ i = omega arith in rw m
 rows-append t h i (l ∷ ls) ms b = go (placed (number t) i (judged t h l b)) (rows-append t h (suc i) ls ms (entered t (rowRead t h l) b))
   where
@@ -262,7 +262,7 @@ pub table-more : (t : Table) (b : Book) (ys : List Row) (row : Row) → Held t b
     tableRead t (linesWritten (plainNames t ∷ (map (plainLine t) ys ++ (plainLine t row ∷ [])))) (with-rows t [] b)
     ≡ unless (placed (number t) (2 + length ys) (judged t (plainHeader t) (plainLine t row) (with-rows t ys b)))
     (leaves (entered t (rowRead t (plainHeader t) (plainLine t row)) (with-rows t ys b)))
-unfolding rowsRead
+unfolding rowsRead lineAfter
 table-more t b ys row h e r =
     let ls : List Bytes = map (plainLine t) ys in
     let l : Bytes = plainLine t row in

@@ -27,7 +27,7 @@ use Rattle.questions.specs.Calls.{typeAnswered, blockAnswered}
 use Rattle.questions.specs.declared.TypeAnswer.{TypeAnswer}
 use Rattle.header.specs.Header.{Header, headerOf, topFaults}
 use Rattle.row_line.specs.RowLine.{rowRead}
-use Rattle.table_lines.specs.Reading.{judged, rowsRead}
+use Rattle.table_lines.specs.Reading.{judged, lineAfter, rowsRead}
 use Rattle.table_reading.specs.Reading.{tableRead}
 use Rattle.delivery.specs.Delivery.{Delivery, reading}
 use Rattle.promises.specs.Promises.{copies, rowLinesOf, rowsOf, textOf, RowsExactly, KeysExactly, TotalsExactly, TypesAnswered, BlocksAnswered, WrittenFits}
@@ -76,7 +76,7 @@ pub record Gained (t : Table) (before after : Book) (xs : List Row) : Type 0 whe
   pub finding : (key : Row) → found (keyWidth t) key (rows t after) ≡ both-found (keyWidth t) key (rows t before) xs
 
 rows-gained : (t : Table) (h : Header) (i : ℕ) (ls : List Bytes) (b c : Book) → rowsRead t h i ls b ≡ leaves c → Gained t b c (map (rowRead t h) ls)
-unfolding rowsRead copies total stands found
+unfolding rowsRead lineAfter copies total stands found
 rows-gained t h i [] b c e =
     let f : b ≡ c = cc in
     let k = keyWidth t in
@@ -128,7 +128,7 @@ rows-gained t h i (l ∷ ls) b c e = go (judged t h l b) refl (rows-gained t h (
 
 -- a table of an accepted delivery
 table-gained : (d : Delivery) (b : Book) (t : Table) (e : reading d ≡ leaves b) → let r = left-by d b e .tables t in Gained t (r .before) (r .after) (rowsOf t (textOf t d))
-unfolding tableRead
+unfolding tableRead lineAfter
 table-gained d b t e =
     let r : ReadTo t (textOf t d) b = left-by d b e .tables t in
     let s : Bytes = textOf t d in

@@ -12,7 +12,7 @@ use Rattle.rules.specs.Rules.{unknownOf}
 use Rattle.keeping.specs.Keeping.{ranged}
 use Rattle.questions.specs.Questions.{total}
 use Rattle.header.specs.Header.{member, repeated, missingFrom, headerCheck, under, offset, contentsFrom}
-use Rattle.table_lines.specs.Reading.{judged, rowsRead}
+use Rattle.table_lines.specs.Reading.{judged, lineAfter, rowsRead}
 use Rattle.table_reading.specs.Reading.{tableRead}
 use Rattle.delivery.specs.Delivery.{reading}
 use Rattle.cell_question.specs.CellQuestion.{cellVerdict, tableCell, cellAsked}
@@ -23,5 +23,5 @@ use Rattle.promises.specs.Sheet.{sheet}
 unfoldable pub computed {ℓ} : {A : Type ℓ} → A → A
 unfolding bytes same lines slipLines lineStart cutFrom once allDigits valueFrom digits fields parted columnsOf columnFrom columnNumber
     orderFrom stands found inserted replaced removed rising used sameRows unknownOf total ranged all member repeated missingFrom headerCheck
-    under offset contentsFrom badCell judged rowsRead tableRead reading cellVerdict tableCell cellAsked linesPosted posting linesWritten sheet
+    under offset contentsFrom badCell judged lineAfter rowsRead tableRead reading cellVerdict tableCell cellAsked linesPosted posting linesWritten sheet
 computed x = x

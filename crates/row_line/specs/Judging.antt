@@ -16,7 +16,7 @@ use Rattle.tables.specs.Listing.{listed}
 use Rattle.values.specs.Values.{badCell}
 use Rattle.values.specs.declared.Judged.{Judged}
 use Rattle.values.specs.Judged.{rowed}
-use Rattle.header.specs.Header.{Header, cutCheck, contents}
+use Rattle.header.specs.Header.{Header, cutCheck, contents, mostCells}
 use Rattle.header.specs.Heading.{places, cellsKept}
 use Rattle.row_line.specs.RowLine.{rowRead}
 
@@ -33,8 +33,8 @@ cellsCheck t h line = badCell 1 (columnsOf t) (contents t h (cellsOf (cut line))
 abbrev pub read : Table → Header → Bytes → Judged
 read t h line = rowed (cutCheck h (cut line) ⊳ cellsCheck t h line) (rowRead t h line)
 
--- rows are read by their table's columns and by the places of a header, which has at most 32 cells
+-- rows are read by their table's columns and by the places of a header, which has few cells
 pub record Guided (t : Table) (columns : List (List ℕ)) (at : List ℕ) : Type 0 where
   pub rules : columns ≡ listed t
-  pub few : cellsKept at ≤ 32
+  pub few : cellsKept at ≤ mostCells
   pub headed : (h : Header) × (at ≡ places h)

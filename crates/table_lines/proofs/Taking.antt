@@ -3,7 +3,6 @@ use mathlib.Core.Path.{_≡_, refl, ap, sym, _∙_}
 use mathlib.Core.List.{List}
 use Prim.Native.Nat.{ℕ, suc, _≤_, _<_, _+_, _-_}
 use native.Mathlib.Omega.{arith}
-use native.Mathlib.Numerals.{add-one}
 use lib.ListN.{length, take, drop}
 use Rattle.words.specs.Words.{Bytes, Row}
 use Rattle.refusals.specs.declared.Check.{Check}
@@ -30,8 +29,8 @@ use Rattle.intake.proofs.Shelving.{shelf-most, shelf-full, shelf-room}
 use Rattle.header.specs.Header.{Header}
 use Rattle.row_line.specs.Judging.{read}
 use Rattle.row_line.specs.RowLine.{rowRead}
-use Rattle.table_lines.specs.Taking.{Taken}
-use Rattle.table_lines.specs.Reading.{judged, rowsRead}
+use Rattle.table_lines.specs.Taking.{Taken, linesAfter}
+use Rattle.table_lines.specs.Reading.{judged, lineAfter, rowsRead}
 use Rattle.table_lines.proofs.Judging.{judged-full, judged-bad, judged-good, good-row, good-version}
 
 -- a line ------------------------------------------------------------------------------------------------------------------------
@@ -71,6 +70,22 @@ module _ (t : Table) (h : Header) (line : Bytes) (xs slots : List Row) (order : 
                   ∙ ap (λ (row : Row). entered t row (shelfBook t xs slots order n)) (good-row t h line (shelfBook t xs slots order n) (shelf-room t xs slots order n on line-room) j is good);
             }
 
+-- the lines of a text in turn -----------------------------------------------------------------------------------------------------
+
+-- a line's number, and that of the next
+pub line-next : (n : ℕ) (l : Bytes) → lineAfter n l ≡ n + 1
+unfolding lineAfter
+line-next n l = omega arith
+
+module _ (n : ℕ) (s : Bytes) (i : ℕ) where
+  pub after-end : length s ≤ i → linesAfter n (lines (drop i s)) ≡ n
+  unfolding linesAfter
+  after-end l = rw (lines-none s i l)
+
+  pub after-next : (r : Line) → r ≡ lineAt s i → i < length s → linesAfter n (lines (drop i s)) ≡ linesAfter (n + 1) (lines (drop (r .next) s))
+  unfolding linesAfter
+  after-next r e l = ap (linesAfter n) (line-from s i r l e .is) ∙ ap (λ (m : ℕ). linesAfter m (lines (drop (r .next) s))) (line-next n (take (r .end - i) (drop i s)))
+
 module _ (t : Table) (h : Header) (n : ℕ) (s : Bytes) (i : ℕ) (b : Book) where
   pub rows-end : length s ≤ i → rowsRead t h n (lines (drop i s)) b ≡ leaves b
   unfolding rowsRead
@@ -78,7 +93,7 @@ module _ (t : Table) (h : Header) (n : ℕ) (s : Bytes) (i : ℕ) (b : Book) whe
 
   module _ (r : Line) (e : r ≡ lineAt s i) (l : i < length s) (c : Check) (d : Book) (x : Taken t h (take (r .end - i) (drop i s)) b d c) (v : Verdict) (o : v ≡ placed (number t) n c) where
     step : rowsRead t h n (lines (drop i s)) b
-        ≡ unless (placed (number t) n (judged t h (take (r .end - i) (drop i s)) b)) (rowsRead t h (suc n) (lines (drop (r .next) s)) (entered t (rowRead t h (take (r .end - i) (drop i s))) b))
+        ≡ unless (placed (number t) n (judged t h (take (r .end - i) (drop i s)) b)) (rowsRead t h (lineAfter n (take (r .end - i) (drop i s))) (lines (drop (r .next) s)) (entered t (rowRead t h (take (r .end - i) (drop i s))) b))
     unfolding rowsRead
     step = rw (line-from s i r l e .is)
 
@@ -86,7 +101,7 @@ module _ (t : Table) (h : Header) (n : ℕ) (s : Bytes) (i : ℕ) (b : Book) whe
     rows-passed a =
         let p : c ≡ Passes = placed-passes (number t) n c (sym o ∙ a) in
         let q : judged t h (take (r .end - i) (drop i s)) b ≡ Passes = sym (x .is) ∙ p in
-        step ∙ rw (q, add-one, x .enters p)
+        step ∙ rw (q, line-next n (take (r .end - i) (drop i s)), x .enters p)
 
     pub rows-refused : (p : Place) → v ≡ Refused p → rowsRead t h n (lines (drop i s)) b ≡ refused p
     rows-refused p a =

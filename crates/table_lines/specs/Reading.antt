@@ -22,8 +22,12 @@ judged t h line b =
     ⊳ badCell 1 (columnsOf t) (contents t h (cellsOf (cut line)))
     ⊳ ruled t (rowRead t h line) b
 
+-- the number of the line behind one that begins on line i
+unfoldable pub lineAfter : ℕ → Bytes → ℕ
+lineAfter i line = suc i
+
 -- the lines from line i on, each judged on the book as the earlier ones left it
 unfoldable pub rowsRead : Table → Header → ℕ → List Bytes → Book → Result
 rowsRead t h i [] b = leaves b
 rowsRead t h i (l ∷ ls) b =
-    unless (placed (number t) i (judged t h l b)) (rowsRead t h (suc i) ls (entered t (rowRead t h l) b))
+    unless (placed (number t) i (judged t h l b)) (rowsRead t h (lineAfter i l) ls (entered t (rowRead t h l) b))

@@ -1,7 +1,7 @@
 -- What the code finds on its way through the lines of a table.
 -- Inner: no promise and no contract of a public function speaks of it.
 use mathlib.Core.Path.{_≡_}
-use mathlib.Core.List.{List}
+use mathlib.Core.List.{List, [], _∷_}
 use Prim.Native.Nat.{ℕ, suc}
 use Rattle.words.specs.Words.{Bytes, Row}
 use Rattle.refusals.specs.declared.Check.{Check}
@@ -17,7 +17,8 @@ use Rattle.header.specs.Heading.{places}
 use Rattle.row_line.specs.RowLine.{rowRead}
 use Rattle.row_line.specs.Judging.{read}
 use Rattle.values.specs.declared.Judged.{Judged}
-use Rattle.table_lines.specs.Reading.{judged, rowsRead}
+use Rattle.table_lines.specs.Reading.{judged, lineAfter, rowsRead}
+use Rattle.table_lines.specs.declared.Reached.{Reached}
 use Rattle.table_lines.specs.declared.Filled.{Filled}
 
 -- a line taken into a book: what it is refused for, or the book with its row
@@ -34,7 +35,13 @@ pub record RowTaken (t : Table) (j : Judged) (slice slots slots′ : List Row) (
   pub on : c ≡ Passes → OnShelf t slice slots′ order′ (suc n)
   pub taken : (h : Header) (line : Bytes) → j ≡ read t h line → Taken t h line (shelfBook t slice slots order n) (shelfBook t slice slots′ order′ (suc n)) c
 
--- the rows of a text behind its header, on such a shelf
-pub record LinesTaken (t : Table) (at : List ℕ) (s : Bytes) (slice slots slots′ : List Row) (order order′ : List ℕ) (n : ℕ) (f : Filled) : Type 0 where
+-- the number of the line behind some lines that begin on line i
+unfoldable pub linesAfter : ℕ → List Bytes → ℕ
+linesAfter i [] = i
+linesAfter i (l ∷ ls) = linesAfter (lineAfter i l) ls
+
+-- lines behind a header, from a number on, on such a shelf
+pub record LinesTaken (t : Table) (at : List ℕ) (s : Bytes) (from : Reached) (slice slots slots′ : List Row) (order order′ : List ℕ) (f : Filled) : Type 0 where
   pub on : f .verdict ≡ Accepted → OnShelf t slice slots′ order′ (f .count)
-  pub taken : (h : Header) → at ≡ places h → unless (f .verdict) (leaves (shelfBook t slice slots′ order′ (f .count))) ≡ rowsRead t h 2 (lines s) (shelfBook t slice slots order n)
+  pub next : f .verdict ≡ Accepted → f .line ≡ linesAfter (from .line) (lines s)
+  pub taken : (h : Header) → at ≡ places h → unless (f .verdict) (leaves (shelfBook t slice slots′ order′ (f .count))) ≡ rowsRead t h (from .line) (lines s) (shelfBook t slice slots order (from .count))

@@ -1,9 +1,10 @@
 // The lines of a table, judged in turn and taken onto its shelf.
-ghost use Prim.Native.Nat.{_<_, _≤_};
+ghost use Prim.Native.Nat.{_<_, _+_, _^_};
 ghost use lib.ListN.{length};
 ghost use Rattle.intake.specs.Shelving.{OnShelf};
 ghost use Rattle.row_line.specs.Judging.{Guided};
 ghost use Rattle.table_lines.specs.Taking.{ReadBy, RowTaken, LinesTaken};
+use header::BOUNDS;
 use header::Places;
 use refusals::Check;
 use refusals::Verdict;
@@ -13,9 +14,16 @@ use tables::Columns;
 use tables::Table;
 use values::Judged;
 
-// The lines of a table taken onto its shelf: what they are refused for, and how many rows stand there.
+// How far the lines of a table are taken: the number of the next one, and how many rows stand on the shelf.
+pub struct Reached {
+    pub line: u64,
+    pub count: usize,
+}
+
+// Lines of a table taken onto its shelf: what they are refused for, and how far they reach where they are not.
 pub struct Filled {
     pub verdict: Verdict,
+    pub line: u64,
     pub count: usize,
 }
 
@@ -42,31 +50,31 @@ fn take_row(
     }
 }
 
-// The rows of a table's text behind its header, line by line onto the shelf; the first refusal ends it.
+// Lines behind the header, from any one on, onto the shelf; the first refusal ends it.
 pub fn take_lines(
     bytes: &[u8],
+    from: Reached,
     t: Table,
     columns: &Columns,
     at: &Places,
-    bounds: &mut [usize],
     book: &[Row],
     slots: &mut [Row],
     order: &mut [u16],
-    n: usize,
 ) -> Filled
-    requires { ⌜ Guided t (now columns) (now at) × (32 < length (now bounds)) × OnShelf t (now book) (now slots) (now order) n × (length (now bytes) ≤ 65536) ⌝ }
-    ensures { λ r. ⌜ LinesTaken t (now (at .entry)) (now (bytes .entry)) (now (book .entry)) (now (slots .entry)) (now (slots .exit)) (now (order .entry)) (now (order .exit)) n r ⌝ }
+    requires { ⌜ Guided t (now columns) (now at) × OnShelf t (now book) (now slots) (now order) (from .count) × (from .line + length (now bytes) < 2 ^ 64) ⌝ }
+    ensures { λ r. ⌜ LinesTaken t (now (at .entry)) (now (bytes .entry)) from (now (book .entry)) (now (slots .entry)) (now (slots .exit)) (now (order .entry)) (now (order .exit)) r ⌝ }
 {
     let table = t.number();
+    let mut bounds = [0usize; BOUNDS];
     let mut verdict = Verdict::Accepted;
-    let mut count = n;
+    let mut count = from.count;
+    let mut line = from.line;
     let mut i = 0;
-    let mut line: u64 = 2;
     'rows: while i < bytes.len() {
         let l = lines::next_line(bytes, i);
         let end = l.end;
         let next = l.next;
-        let read = row_line::read_row(&bytes[i..end], t, columns, at, bounds);
+        let read = row_line::read_row(&bytes[i..end], t, columns, at, &mut bounds);
         let check = take_row(read, t, book, slots, order, count);
         let v = check.on(table, line);
         match v {
@@ -80,5 +88,9 @@ pub fn take_lines(
         i = next;
         line += 1;
     }
-    Filled { verdict, count }
+    Filled {
+        verdict,
+        line,
+        count,
+    }
 }

@@ -2,14 +2,14 @@
 use mathlib.Core.Path.{_≡_, refl, sym, subst}
 use mathlib.Core.List.{List, [], _∷_}
 use mathlib.Core.Bool.{true}
-use Prim.Native.Nat.{ℕ, suc}
+use Prim.Native.Nat.{ℕ}
 use Rattle.words.specs.Words.{Bytes}
 use Rattle.refusals.specs.Verdicts.{_⊳_, _when_, tooManyRows, keyStands, endsEarly, placed}
 use Rattle.refusals.specs.declared.Check.the-variants.{Passes, Fails}
 use Rattle.refusals.specs.declared.Check.{Check}
 use Rattle.refusals.specs.declared.Verdict.{Verdict}
 use Rattle.refusals.specs.declared.Verdict.the-variants.{Accepted, Refused}
-use Rattle.lines.specs.Lines.{lines, rowLines}
+use Rattle.lines.specs.Lines.{lines, headLine, rowLines}
 use Rattle.cells.specs.Cells.{cut, cellsOf}
 use Rattle.tables.specs.Columns.{columnsOf, number}
 use Rattle.tables.specs.declared.Table.{Table}
@@ -22,7 +22,7 @@ use Rattle.rules.proofs.Points.{entered-named}
 use Rattle.header.specs.Header.{Header, cutCheck, contents, headerOf, topFaults}
 use Rattle.row_line.specs.RowLine.{rowRead}
 use Rattle.row_line.proofs.Columns.{second-passes}
-use Rattle.table_lines.specs.Reading.{judged, rowsRead}
+use Rattle.table_lines.specs.Reading.{judged, lineAfter, rowsRead}
 use Rattle.table_reading.specs.Reading.{tableRead}
 
 -- a line that passes has its references
@@ -41,10 +41,10 @@ rows-named : (t : Table) (h : Header) (i : ℕ) (ls : List Bytes) (b : Book) →
 unfolding rowsRead
 rows-named t h i [] b e = e
 rows-named t h i (l ∷ ls) b e =
-    go (judged t h l b) refl (λ p. rows-named t h (suc i) ls (entered t (rowRead t h l) b) (entered-named t (rowRead t h l) b (passes-known t h l b p) e))
+    go (judged t h l b) refl (λ p. rows-named t h (lineAfter i l) ls (entered t (rowRead t h l) b) (entered-named t (rowRead t h l) b (passes-known t h l b p) e))
   where
-    go : (c : Check) → judged t h l b ≡ c → (judged t h l b ≡ Passes → NamedIn (rowsRead t h (suc i) ls (entered t (rowRead t h l) b)))
-        → NamedIn (unless (placed (number t) i c) (rowsRead t h (suc i) ls (entered t (rowRead t h l) b)))
+    go : (c : Check) → judged t h l b ≡ c → (judged t h l b ≡ Passes → NamedIn (rowsRead t h (lineAfter i l) ls (entered t (rowRead t h l) b)))
+        → NamedIn (unless (placed (number t) i c) (rowsRead t h (lineAfter i l) ls (entered t (rowRead t h l) b)))
     go Passes q k = k q
     go (Fails n m) q k = tt
 
@@ -54,7 +54,7 @@ unless-named (Refused p) r k = tt
 
 table-named : (t : Table) (s : Bytes) (b : Book) → pointsNamed b ≡ true → NamedIn (tableRead t s b)
 unfolding tableRead
-table-named t s b e = unless-named (topFaults t s) _ (rows-named t (headerOf t s) 2 (rowLines (lines s)) b e)
+table-named t s b e = unless-named (topFaults t s) _ (rows-named t (headerOf t s) (lineAfter 1 (headLine (lines s))) (rowLines (lines s)) b e)
 
 pub table-left : (t : Table) (s : Bytes) (b : Book) (left : Result) → left ≡ tableRead t s b → pointsNamed b ≡ true → NamedIn left
 table-left t s b left e p = subst NamedIn (sym e) (table-named t s b p)

@@ -20,6 +20,7 @@ use Rattle.intake.proofs.Shelving.{sound-shelf, book-shelf}
 use Rattle.header.specs.Header.{headerOf, topFaults}
 use Rattle.header.specs.Top.{TopOf}
 use Rattle.header.specs.declared.Top.{Top}
+use Rattle.table_lines.specs.Reading.{lineAfter}
 use Rattle.table_reading.specs.Reading.{tableRead}
 use Rattle.table_reading.specs.Taking.{RowsTaken}
 
@@ -49,7 +50,7 @@ module _ (t : Table) (s : Bytes) (top : Top) (o : TopOf t s top) where
   table-refused b xs p e = let z : topFaults t s ≡ Refused p = sym (o .is) ∙ e in rw z
 
   pub table-rows : (a : top .verdict ≡ Accepted) (xs ys : List Row) (v : Verdict) → RowsTaken t (top .at) (take (length s - top .next) (drop (top .next) s)) xs ys v → resultOf v ys ≡ tableRead t s (bookOf xs)
-  unfolding tableRead
+  unfolding tableRead lineAfter
   table-rows a xs ys v w =
       let z : topFaults t s ≡ Accepted = sym (o .is) ∙ a in
       w .taken (headerOf t s) (o .kept a .headed) ∙ rw (z, rest-whole s (top .next), o .kept a .rest)

@@ -12,14 +12,14 @@ use Rattle.tables.specs.Columns.{columnsOf, columnAt}
 use Rattle.tables.specs.Listing.{listed}
 use Rattle.tables.proofs.Figures.{columns-few}
 use Rattle.header.specs.Header.{missingFrom, missing}
-use Rattle.header.specs.Heading.{places}
+use Rattle.header.specs.Heading.{mostColumns, places}
 use Rattle.header.proofs.Names.{missing-here, missing-next, missing-end}
 use Rattle.header.proofs.lowest_missing.Statement.{statement}
 use Rattle.header.proofs.lowest_missing.Tie as tie
 
 abbrev Inv-columns : tie.InvT-columns
 Inv-columns columns at count lowest₀ k₀ lowest k =
-    (k ≤ count) × (count ≤ 11) × (lowest ≡ 0)
+    (k ≤ count) × (count ≤ mostColumns) × (lowest ≡ 0)
     × ((t : Table) (h : List ℕ) → columns ≡ listed t → count ≡ length (columnsOf t) → at ≡ places h → missing t h ≡ missingFrom (k + 1) (drop k (columnsOf t)) h)
 
 abbrev μ-columns : tie.MeasureT-columns
@@ -64,7 +64,7 @@ columns-again c =
       w .inv .2,
       λ t h e n p.
           let l : w .k < length (columnsOf t) = omega (arith, n, c .before .before .before .before .columns-test .taken) in
-          let m : w .k < 11 = omega (arith, l, columns-few t) in
+          let m : w .k < mostColumns = omega (arith, l, columns-few t) in
           let q : (columnAt t (w .k) .rules .required && eqb (getD (a .at .now) (w .k + 1) 0) 0) ≡ false = rw (← c .before .before .before .rules-at .ensures t e) (sym (c .before .lacks .ensures) ∙ c .if1 .left) in
           w .inv .3 t h e n p ∙ missing-next (columnsOf t) (w .k) h (a .at .now) p m l q,
     )
@@ -80,7 +80,7 @@ returns-2 c =
     let a = c .before .before .before .before .before .before .before .args in
     let w = c .before .before .before .before .before .columns in
     let l : w .k < length (columnsOf (a .t)) = omega (arith, c .before .before .before .before .before .before .columns2 .ensures, c .before .before .before .before .columns-test .taken) in
-    let m : w .k < 11 = omega (arith, l, columns-few (a .t)) in
+    let m : w .k < mostColumns = omega (arith, l, columns-few (a .t)) in
     let q : (columnAt (a .t) (w .k) .rules .required && eqb (getD (a .at .now) (w .k + 1) 0) 0) ≡ true = rw (← c .before .before .before .rules-at .ensures (a .t) (c .before .before .before .before .before .before .before .pre)) (sym (c .before .lacks .ensures) ∙ c .if1 .taken) in
     λ h p. sym (w .inv .3 (a .t) h (c .before .before .before .before .before .before .before .pre) (c .before .before .before .before .before .before .columns2 .ensures) p ∙ missing-here (columnsOf (a .t)) (w .k) h (a .at .now) p m l q)
 

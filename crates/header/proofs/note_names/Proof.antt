@@ -7,6 +7,7 @@ use lib.ListN.{length, getD}
 use borrow.Author.Needs.{needs}
 use Rattle.cells.specs.Cells.{cut, cellsOf}
 use Rattle.header.specs.Header.{header, repeated}
+use Rattle.header.specs.Heading.{headerPlaces}
 use Rattle.header.proofs.Names.{Walked, walked-none, walked-twice, walked-next, walked-noted, walked-once, header-length, name-read, name-few}
 use Rattle.header.proofs.note_names.Statement.{statement}
 use Rattle.header.proofs.note_names.Tie as tie
@@ -62,7 +63,7 @@ names-again c =
     let l : w .i < length (cellsOf (cut (a .line .now))) = omega (arith, c .before .before .before .before .before .before .before .before .before .before .before .pre .counted, c .before .before .before .before .before .before .before .names-test .taken) in
     let n : w .i < length h = omega (arith, header-length (a .t) (cellsOf (cut (a .line .now)))) in
     let e : getD h (w .i) 0 ≡ column = name-read (a .t) (cellsOf (cut (a .line .now))) (w .i) (c .before .before .before .before .before .before .cell-of .result .now) name column l (c .before .before .before .before .before .before .cell-of .ensures) (c .before .before .before .before .before .stretch-of .ensures) (c .before .before .before .before .column-of .ensures) in
-    let few : column < 12 = name-few (a .t) name column (c .before .before .before .before .column-of .ensures) in
+    let few : column < headerPlaces = name-few (a .t) name column (c .before .before .before .before .column-of .ensures) in
     (omega arith, w .inv .1, walked-next h (w .at) (w .i) column (w .inv .2) n e few (c .note .result) (sym (c .before .before .comes-again .ensures) ∙ c .before .if1 .left) (c .note .ensures))
 
 returns : tie.Need-returns Inv-names μ-names
@@ -87,7 +88,7 @@ returns-2 c =
     let l : w .i < length (cellsOf (cut (a .line .now))) = omega (arith, c .before .before .before .before .before .before .before .before .before .before .pre .counted, c .before .before .before .before .before .before .names-test .taken) in
     let n : w .i < length h = omega (arith, header-length (a .t) (cellsOf (cut (a .line .now)))) in
     let e : getD h (w .i) 0 ≡ column = name-read (a .t) (cellsOf (cut (a .line .now))) (w .i) (c .before .before .before .before .before .cell-of .result .now) name column l (c .before .before .before .before .before .cell-of .ensures) (c .before .before .before .before .stretch-of .ensures) (c .before .before .before .column-of .ensures) in
-    let few : column < 12 = name-few (a .t) name column (c .before .before .before .column-of .ensures) in
+    let few : column < headerPlaces = name-few (a .t) name column (c .before .before .before .column-of .ensures) in
     let p : (repeated [] h ≡ column) × (0 < column) = walked-twice h (w .at) (w .i) column (w .inv .2) n e few (sym (c .before .comes-again .ensures) ∙ c .if1 .taken) in
     record { twice = sym (p .0); noted = λ z. absurd (omega (arith, z, p .1)) }
 

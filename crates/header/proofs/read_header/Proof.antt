@@ -9,7 +9,7 @@ use Rattle.refusals.specs.declared.Check.the-variants.{Fails}
 use Rattle.cells.specs.Cells.{cut, cellsOf}
 use Rattle.cells.proofs.Marking.{good-cells, good-count, bad-cell}
 use Rattle.cells.proofs.Numbered.{marks-of}
-use Rattle.header.specs.Header.{header}
+use Rattle.header.specs.Header.{header, mostCells}
 use Rattle.header.specs.Heading.{headed}
 use Rattle.header.proofs.Names.{header-faulty, header-wide, header-names}
 use Rattle.header.proofs.read_header.Statement.{statement}
@@ -49,7 +49,7 @@ returns c =
     let h = header (a .t) (cellsOf (cut line)) in
     let r = c .before .before .before .before .before .before .before .cells-of in
     let g = c .before .before .before .before .answer2 .given in
-    let l : 32 < length (cellsOf (cut line)) = omega (arith, good-count (cut line) (r .result) (g .0 .0) (r .ensures .0) (g .1), c .before .before .if1 .taken) in
+    let l : mostCells < length (cellsOf (cut line)) = omega (arith, good-count (cut line) (r .result) (g .0 .0) (r .ensures .0) (g .1), c .before .before .if1 .taken) in
     c .no-heading2 .ensures 4 0 h (c .before .too-many-cells .ensures) ∙ ap (λ (q : Check). headed q h) (sym (header-wide (a .t) line (good-cells (cut line) (r .result) (g .0 .0) (r .ensures .0) (g .1)) l))
 
 slice-aggregate-map-names : tie.Need-slice-aggregate-map-names
@@ -78,7 +78,7 @@ returns-3 c =
     let h = header (a .t) (cellsOf (cut line)) in
     let r = c .before .before .before .before .before .before .before .cells-of in
     let g = c .before .before .before .before .answer2 .given in
-    let l : length (cellsOf (cut line)) ≤ 32 = omega (arith, good-count (cut line) (r .result) (g .0 .0) (r .ensures .0) (g .1), c .before .before .if1 .left) in
+    let l : length (cellsOf (cut line)) ≤ mostCells = omega (arith, good-count (cut line) (r .result) (g .0 .0) (r .ensures .0) (g .1), c .before .before .if1 .left) in
     c .map-names .ensures ∙ ap (λ (q : Check). headed q h) (sym (header-names (a .t) line (good-cells (cut line) (r .result) (g .0 .0) (r .ensures .0) (g .1)) l))
 
 pub read-header-spec : {M : Type 1} → statement M

@@ -15,14 +15,14 @@ use Rattle.tables.specs.Listing.{listed}
 use Rattle.tables.proofs.Figures.{columns-few}
 use Rattle.values.specs.Judged.{valueOf, checkOf}
 use Rattle.values.proofs.Values.{column-narrow}
-use Rattle.header.specs.Heading.{places}
+use Rattle.header.specs.Heading.{mostColumns, places}
 use Rattle.row_line.proofs.Filling.{Columned, columned-none, columned-fault, columned-next, columned-bad, columned-all}
 use Rattle.row_line.proofs.read_columns.Statement.{statement}
 use Rattle.row_line.proofs.read_columns.Tie as tie
 
 abbrev Inv-columns : tie.InvT-columns
 Inv-columns line bounds columns at cells count kept check₀ row₀ k₀ check row k =
-    (k ≤ count) × (count ≤ 11) × (check ≡ Passes)
+    (k ≤ count) × (count ≤ mostColumns) × (check ≡ Passes)
     × ((t : Table) (h : List ℕ) → columns ≡ listed t → count ≡ length (columnsOf t) → kept ≡ keptWidth t → at ≡ places h → Columned t h line row k)
 
 abbrev μ-columns : tie.MeasureT-columns

@@ -17,45 +17,50 @@ use Rattle.intake.specs.Shelving.{shelfBook, OnShelf}
 use Rattle.intake.proofs.Shelving.{shelf-most}
 use Rattle.header.specs.Heading.{places}
 use Rattle.table_lines.specs.Reading.{rowsRead}
-use Rattle.table_lines.proofs.Taking.{rows-end, rows-passed, rows-refused}
+use Rattle.table_lines.specs.Taking.{linesAfter}
+use Rattle.table_lines.proofs.Taking.{rows-end, rows-passed, rows-refused, after-end, after-next}
 use Rattle.table_lines.proofs.take_lines.Statement.{statement}
 use Rattle.table_lines.proofs.take_lines.Tie as tie
 
 abbrev Inv-rows : tie.InvT-rows
-Inv-rows bytes t columns at bounds₀ book slots₀ order₀ n table verdict₀ count₀ i₀ line₀ bounds slots order verdict count i line =
-    (i ≤ length bytes) × (line ≤ i + 2) × (verdict ≡ Accepted) × OnShelf t book slots order count × (length bounds ≡ length bounds₀) × (table ≡ number t)
-    × ((h : List ℕ) → at ≡ places h → rowsRead t h 2 (lines bytes) (shelfBook t book slots₀ order₀ n) ≡ rowsRead t h line (lines (drop i bytes)) (shelfBook t book slots order count))
+Inv-rows bytes t columns at book slots₀ order₀ table bounds₀ verdict₀ count₀ line₀ i₀ slots order bounds verdict count line i =
+    (i ≤ length bytes) × (line ≤ line₀ + i) × (verdict ≡ Accepted) × OnShelf t book slots order count × (length bounds ≡ length bounds₀) × (table ≡ number t)
+    × ((h : List ℕ) → at ≡ places h → rowsRead t h line₀ (lines bytes) (shelfBook t book slots₀ order₀ count₀) ≡ rowsRead t h line (lines (drop i bytes)) (shelfBook t book slots order count))
+    × (linesAfter line₀ (lines bytes) ≡ linesAfter line (lines (drop i bytes)))
 
 abbrev μ-rows : tie.MeasureT-rows
-μ-rows bytes t columns at bounds₀ book slots₀ order₀ n table verdict₀ count₀ i₀ line₀ bounds slots order verdict count i line = length bytes - i
+μ-rows bytes t columns at book slots₀ order₀ table bounds₀ verdict₀ count₀ line₀ i₀ slots order bounds verdict count line i = length bytes - i
 
 number-requires : tie.Need-number-requires Inv-rows μ-rows
 number-requires c κs = search needs
 
 rows-holds : tie.Need-rows-holds Inv-rows μ-rows
-rows-holds c = let st = c .before .before .before .before in (omega arith, search needs, refl, st .pre .2, refl, c .number .ensures, λ h kept. refl)
+rows-holds c = let st = c .before .before .before in (omega arith, omega arith, refl, st .pre .1, refl, c .number .ensures, λ h kept. refl, refl)
 
 next-line-requires : tie.Need-next-line-requires Inv-rows μ-rows
 next-line-requires c κs = search needs
 
 sub-read-row : tie.Need-sub-read-row Inv-rows μ-rows
-sub-read-row c = line-from (c .before .before .before .before .before .before .before .args .bytes .now) (c .before .before .rows .i) (c .next-line .result) (c .before .rows-test .taken) (c .next-line .ensures) .low
+sub-read-row c = line-from (c .before .before .before .before .before .before .args .bytes .now) (c .before .before .rows .i) (c .next-line .result) (c .before .rows-test .taken) (c .next-line .ensures) .low
 
 part-read-row-start : tie.Need-part-read-row-start Inv-rows μ-rows
-part-read-row-start c = line-from (c .before .before .before .before .before .before .before .args .bytes .now) (c .before .before .rows .i) (c .next-line .result) (c .before .rows-test .taken) (c .next-line .ensures) .low
+part-read-row-start c = line-from (c .before .before .before .before .before .before .args .bytes .now) (c .before .before .rows .i) (c .next-line .result) (c .before .rows-test .taken) (c .next-line .ensures) .low
 
 part-read-row-end : tie.Need-part-read-row-end Inv-rows μ-rows
-part-read-row-end c = line-from (c .before .before .before .before .before .before .before .args .bytes .now) (c .before .before .rows .i) (c .next-line .result) (c .before .rows-test .taken) (c .next-line .ensures) .high
+part-read-row-end c = line-from (c .before .before .before .before .before .before .args .bytes .now) (c .before .before .rows .i) (c .next-line .result) (c .before .rows-test .taken) (c .next-line .ensures) .high
+
+slice-aggregate-read-row : tie.Need-slice-aggregate-read-row Inv-rows μ-rows
+slice-aggregate-read-row c = search needs
 
 read-row-requires : tie.Need-read-row-requires Inv-rows μ-rows
 read-row-requires c κs =
-    let st = c .before .before .before .before .before .before .before .before .before in
-    (st .pre .0 .rules, omega (arith, st .pre .0 .few, st .pre .1, c .before .before .before .before .rows .inv .4))
+    let st = c .before .before .before .before .before .before .before .before in
+    (st .pre .0 .rules, omega (arith, st .pre .0 .few, c .before .before .before .before .rows .inv .4))
 
 take-row-requires : tie.Need-take-row-requires Inv-rows μ-rows
 take-row-requires c κs =
-    let headed = c .before .before .before .before .before .before .before .before .before .before .before .before .before .before .pre .0 .headed in
-    (c .before .before .before .before .before .before .before .before .before .rows .inv .3, (headed .0, (_, c .before .before .before .before .read-row .ensures (headed .0) (headed .1))))
+    let headed = c .before .before .before .before .before .before .before .before .before .before .before .before .pre .0 .headed in
+    (c .before .before .before .before .before .before .before .before .rows .inv .3, (headed .0, (_, c .before .before .before .read-row .ensures (headed .0) (headed .1))))
 
 on-requires : tie.Need-on-requires Inv-rows μ-rows
 on-requires c κs = search needs
@@ -68,38 +73,42 @@ enum-known-v c = search needs
 
 add-count : tie.Need-add-count Inv-rows μ-rows
 add-count c =
-    let st = c .before .before .before .before .before .before .before .before .before .before .before .before .before .before .before .before .before .before .before .before .before in
-    let at = c .before .before .before .before .before .before .before .before .before .before .before .before .before .before .before .before .rows in
+    let st = c .before .before .before .before .before .before .before .before .before .before .before .before .before .before .before .before .before .before .before in
+    let at = c .before .before .before .before .before .before .before .before .before .before .before .before .before .before .before .rows in
     omega (arith, shelf-most (st .args .t) (st .args .book .now) (at .slots) (at .order) (at .count) (at .inv .3), room-alike (st .args .t))
 
 add-line : tie.Need-add-line Inv-rows μ-rows
-add-line c = omega (arith, c .before .before .before .before .before .before .before .before .before .before .before .before .before .before .before .before .rows .inv .1, c .before .before .before .before .before .before .before .before .before .before .before .before .before .before .before .before .before .before .before .before .before .pre .3, c .before .before .before .before .before .before .before .before .before .before .before .before .before .before .before .rows-test .taken)
+add-line c = omega (arith, c .before .before .before .before .before .before .before .before .before .before .before .before .before .before .before .rows .inv .1, c .before .before .before .before .before .before .before .before .before .before .before .before .before .before .before .before .before .before .before .pre .2, c .before .before .before .before .before .before .before .before .before .before .before .before .before .before .rows-test .taken)
 
 rows-less : tie.Need-rows-less Inv-rows μ-rows
 rows-less c =
-    let l = line-from (c .before .before .before .before .before .before .before .before .before .before .before .before .before .before .before .before .before .before .before .before .before .args .bytes .now) (c .before .before .before .before .before .before .before .before .before .before .before .before .before .before .before .before .rows .i) (c .before .before .before .before .before .before .before .before .before .before .before .before .before .before .next-line .result) (c .before .before .before .before .before .before .before .before .before .before .before .before .before .before .before .rows-test .taken) (c .before .before .before .before .before .before .before .before .before .before .before .before .before .before .next-line .ensures) in
-    omega (arith, l .on, l .past, c .before .before .before .before .before .before .before .before .before .before .before .before .before .before .before .rows-test .taken)
+    let next = c .before .before .before .before .before .before .before .before .before .before .before .before .before .next-line in
+    let more = c .before .before .before .before .before .before .before .before .before .before .before .before .before .before .rows-test .taken in
+    let l = line-from (c .before .before .before .before .before .before .before .before .before .before .before .before .before .before .before .before .before .before .before .args .bytes .now) (c .before .before .before .before .before .before .before .before .before .before .before .before .before .before .before .rows .i) (next .result) more (next .ensures) in
+    omega (arith, l .on, l .past, more)
 
 rows-again : tie.Need-rows-again Inv-rows μ-rows
 rows-again c =
-    let st = c .before .before .before .before .before .before .before .before .before .before .before .before .before .before .before .before .before .before .before .before .before in
-    let at = c .before .before .before .before .before .before .before .before .before .before .before .before .before .before .before .before .rows in
-    let next = c .before .before .before .before .before .before .before .before .before .before .before .before .before .before .next-line in
-    let read = c .before .before .before .before .before .before .before .before .before .before .before .read-row in
+    let st = c .before .before .before .before .before .before .before .before .before .before .before .before .before .before .before .before .before .before .before in
+    let at = c .before .before .before .before .before .before .before .before .before .before .before .before .before .before .before .rows in
+    let more = c .before .before .before .before .before .before .before .before .before .before .before .before .before .before .rows-test .taken in
+    let next = c .before .before .before .before .before .before .before .before .before .before .before .before .before .next-line in
+    let read = c .before .before .before .before .before .before .before .before .before .before .read-row in
     let taken = c .before .before .before .before .before .before .take-row in
     let on = c .before .before .on in
     let placed-here = on .ensures ∙ ap (λ (n : ℕ). placed n (at .line) (taken .result)) (at .inv .5) in
-    let l = line-from (st .args .bytes .now) (at .i) (next .result) (c .before .before .before .before .before .before .before .before .before .before .before .before .before .before .before .rows-test .taken) (next .ensures) in
+    let l = line-from (st .args .bytes .now) (at .i) (next .result) more (next .ensures) in
     let passes = placed-passes (number (st .args .t)) (at .line) (taken .result) (sym placed-here ∙ c .enum-told .given .1) in (
       l .past,
       omega (arith, l .on, at .inv .1),
       at .inv .2,
       rw add-one (taken .ensures .on passes),
-      omega (arith, c .before .before .before .before .before .before .before .before .before .before .bounds .given, at .inv .4),
+      omega (arith, c .before .before .before .before .before .before .before .before .before .bounds2 .given, at .inv .4),
       at .inv .5,
       λ h kept. at .inv .6 h kept
-          ∙ rows-passed (st .args .t) h (at .line) (st .args .bytes .now) (at .i) (shelfBook (st .args .t) (st .args .book .now) (at .slots) (at .order) (at .count)) (next .result) (next .ensures) (c .before .before .before .before .before .before .before .before .before .before .before .before .before .before .before .rows-test .taken)
+          ∙ rows-passed (st .args .t) h (at .line) (st .args .bytes .now) (at .i) (shelfBook (st .args .t) (st .args .book .now) (at .slots) (at .order) (at .count)) (next .result) (next .ensures) more
           (taken .result) _ (rw add-one (taken .ensures .taken h _ (read .ensures h kept))) (on .result) placed-here (c .enum-told .given .1),
+      at .inv .7 ∙ after-next (at .line) (st .args .bytes .now) (at .i) (next .result) (next .ensures) more,
     )
 
 same-length : tie.Need-same-length Inv-rows μ-rows
@@ -108,43 +117,39 @@ same-length c = search needs
 same-length-2 : tie.Need-same-length-2 Inv-rows μ-rows
 same-length-2 c = search needs
 
-same-length-3 : tie.Need-same-length-3 Inv-rows μ-rows
-same-length-3 c = search needs
-
 returns : tie.Need-returns Inv-rows μ-rows
 returns c =
-    let st = c .before .before .before .before .before .before in
+    let st = c .before .before .before .before .before in
     let at = c .before .rows in
     record {
       on = λ a. at .inv .3;
+      next = λ a. sym (at .inv .7 ∙ after-end (at .line) (st .args .bytes .now) (at .i) (c .rows-test .left));
       taken = λ h kept. rw (at .inv .2) (sym (at .inv .6 h kept ∙ rows-end (st .args .t) h (at .line) (st .args .bytes .now) (at .i) (shelfBook (st .args .t) (st .args .book .now) (at .slots) (at .order) (at .count)) (c .rows-test .left)));
     }
 
+same-length-3 : tie.Need-same-length-3 Inv-rows μ-rows
+same-length-3 c = search (needs, c .before .before .before .before .before .before .slots .given, c .before .before .before .before .before .before .before .before .before .before .before .before .before .before .before .before .rows .inv .3 .long, c .before .before .before .before .before .before .before .before .before .before .before .before .before .before .before .before .before .before .before .before .pre .1 .long)
+
 same-length-4 : tie.Need-same-length-4 Inv-rows μ-rows
-same-length-4 c = search (needs, c .before .before .before .before .before .before .before .before .before .before .before .bounds .given, c .before .before .before .before .before .before .before .before .before .before .before .before .before .before .before .before .before .rows .inv .4)
-
-same-length-5 : tie.Need-same-length-5 Inv-rows μ-rows
-same-length-5 c = search (needs, c .before .before .before .before .before .before .slots .given, c .before .before .before .before .before .before .before .before .before .before .before .before .before .before .before .before .before .rows .inv .3 .long, c .before .before .before .before .before .before .before .before .before .before .before .before .before .before .before .before .before .before .before .before .before .before .pre .2 .long)
-
-same-length-6 : tie.Need-same-length-6 Inv-rows μ-rows
-same-length-6 c =
-    let st = c .before .before .before .before .before .before .before .before .before .before .before .before .before .before .before .before .before .before .before .before .before .before in
-    let at = c .before .before .before .before .before .before .before .before .before .before .before .before .before .before .before .before .before .rows in
-    search (needs, c .before .before .before .before .before .order .given, at .inv .3 .shelf .long, at .inv .3 .long, st .pre .2 .shelf .long, st .pre .2 .long)
+same-length-4 c =
+    let st = c .before .before .before .before .before .before .before .before .before .before .before .before .before .before .before .before .before .before .before .before in
+    let at = c .before .before .before .before .before .before .before .before .before .before .before .before .before .before .before .before .rows in
+    search (needs, c .before .before .before .before .before .order .given, at .inv .3 .shelf .long, at .inv .3 .long, st .pre .1 .shelf .long, st .pre .1 .long)
 
 returns-2 : tie.Need-returns-2 Inv-rows μ-rows
 returns-2 c =
-    let st = c .before .before .before .before .before .before .before .before .before .before .before .before .before .before .before .before .before .before .before .before .before .before in
-    let at = c .before .before .before .before .before .before .before .before .before .before .before .before .before .before .before .before .before .rows in
-    let next = c .before .before .before .before .before .before .before .before .before .before .before .before .before .before .before .next-line in
-    let read = c .before .before .before .before .before .before .before .before .before .before .before .before .read-row in
+    let st = c .before .before .before .before .before .before .before .before .before .before .before .before .before .before .before .before .before .before .before .before in
+    let at = c .before .before .before .before .before .before .before .before .before .before .before .before .before .before .before .before .rows in
+    let next = c .before .before .before .before .before .before .before .before .before .before .before .before .before .before .next-line in
+    let read = c .before .before .before .before .before .before .before .before .before .before .before .read-row in
     let taken = c .before .before .before .before .before .before .before .take-row in
     let on = c .before .before .before .on in
     let placed-here = on .ensures ∙ ap (λ (n : ℕ). placed n (at .line) (taken .result)) (at .inv .5) in
     record {
       on = λ a. let z : _≡_ {A = ℕ} 0 1 = cc in absurd (omega arith);
+      next = λ a. let z : _≡_ {A = ℕ} 0 1 = cc in absurd (omega arith);
       taken = λ h kept. sym (at .inv .6 h kept
-          ∙ rows-refused (st .args .t) h (at .line) (st .args .bytes .now) (at .i) (shelfBook (st .args .t) (st .args .book .now) (at .slots) (at .order) (at .count)) (next .result) (next .ensures) (c .before .before .before .before .before .before .before .before .before .before .before .before .before .before .before .before .rows-test .taken)
+          ∙ rows-refused (st .args .t) h (at .line) (st .args .bytes .now) (at .i) (shelfBook (st .args .t) (st .args .book .now) (at .slots) (at .order) (at .count)) (next .result) (next .ensures) (c .before .before .before .before .before .before .before .before .before .before .before .before .before .before .before .rows-test .taken)
           (taken .result) _ (taken .ensures .taken h _ (read .ensures h kept)) (on .result) placed-here _ (c .before .v .given .1));
     }
 
@@ -160,6 +165,7 @@ take-lines-spec =
     sub-read-row
     part-read-row-start
     part-read-row-end
+    slice-aggregate-read-row
     read-row-requires
     take-row-requires
     on-requires
@@ -171,9 +177,7 @@ take-lines-spec =
     rows-again
     same-length
     same-length-2
-    same-length-3
     returns
+    same-length-3
     same-length-4
-    same-length-5
-    same-length-6
     returns-2)

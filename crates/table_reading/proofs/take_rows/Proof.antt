@@ -30,11 +30,8 @@ slice-aggregate-take-lines c = search needs
 slice-aggregate-take-lines-2 : tie.Need-slice-aggregate-take-lines-2
 slice-aggregate-take-lines-2 c = search needs
 
-slice-aggregate-take-lines-3 : tie.Need-slice-aggregate-take-lines-3
-slice-aggregate-take-lines-3 c = search needs
-
 take-lines-requires : tie.Need-take-lines-requires
-take-lines-requires c κs = (c .before .before .before .before .before .before .before .before .before .before .before .pre .0, omega arith, c .before .before .before .before .before .before .shelve .ensures .0, c .before .before .before .before .before .before .before .before .before .before .before .pre .1)
+take-lines-requires c κs = (c .before .before .before .before .before .before .before .before .before .before .pre .0, c .before .before .before .before .before .shelve .ensures .0, omega (arith, c .before .before .before .before .before .before .before .before .before .before .pre .1))
 
 enum-told : tie.Need-enum-told
 enum-told c = search needs
@@ -46,7 +43,7 @@ slice-aggregate-lay-table-2 : tie.Need-slice-aggregate-lay-table-2
 slice-aggregate-lay-table-2 c = search needs
 
 lay-table-requires : tie.Need-lay-table-requires
-lay-table-requires c κs = c .before .before .before .before .before .before .before .before .take-lines .ensures .on (c .before .before .before .enum-told .given .1)
+lay-table-requires c κs = c .before .before .before .before .before .before .before .take-lines .ensures .on (c .before .before .before .enum-told .given .1)
 
 enum-known-verdict : tie.Need-enum-known-verdict
 enum-known-verdict c = search needs
@@ -56,9 +53,9 @@ same-length c = search needs
 
 returns : tie.Need-returns
 returns c =
-    let st = c .before .before .before .before .before .before .before .before .before .before .before .before .before .before .before .before .before .before .before .before .before .before in
-    let shelved = c .before .before .before .before .before .before .before .before .before .before .before .before .before .before .before .before .before .shelve in
-    let taken = c .before .before .before .before .before .before .before .before .before .before .take-lines in
+    let st = c .before .before .before .before .before .before .before .before .before .before .before .before .before .before .before .before .before .before .before .before in
+    let shelved = c .before .before .before .before .before .before .before .before .before .before .before .before .before .before .before .shelve in
+    let taken = c .before .before .before .before .before .before .before .before .before .take-lines in
     let accepted = c .before .before .before .before .before .enum-told .given .1 in
     let left = laid-accepted (st .args .t) (st .args .book .now) _ _ (taken .result .count) (taken .ensures .on accepted) _ (c .before .lay-table .ensures) in
     record { sound = left .0; taken = λ h kept. result-accepted (taken .result .verdict) _ _ (taken .ensures .taken h kept ∙ ap (rowsRead (st .args .t) h 2 (lines (st .args .bytes .now))) (shelved .ensures .1)) accepted _ left }
@@ -68,9 +65,9 @@ same-length-2 c = search needs
 
 returns-2 : tie.Need-returns-2
 returns-2 c =
-    let st = c .before .before .before .before .before .before .before .before .before .before .before .before .before .before .before .before .before .before in
-    let shelved = c .before .before .before .before .before .before .before .before .before .before .before .before .before .shelve in
-    let taken = c .before .before .before .before .before .before .take-lines in
+    let st = c .before .before .before .before .before .before .before .before .before .before .before .before .before .before .before .before in
+    let shelved = c .before .before .before .before .before .before .before .before .before .before .before .shelve in
+    let taken = c .before .before .before .before .before .take-lines in
     record { sound = st .pre .2; taken = λ h kept. result-refused (taken .result .verdict) _ _ (taken .ensures .taken h kept ∙ ap (rowsRead (st .args .t) h 2 (lines (st .args .bytes .now))) (shelved .ensures .1)) _ (c .before .verdict .given .1) (st .args .book .now) }
 
 pub take-rows-spec : {M : Type 1} → statement M
@@ -82,7 +79,6 @@ take-rows-spec =
     shelve-requires
     slice-aggregate-take-lines
     slice-aggregate-take-lines-2
-    slice-aggregate-take-lines-3
     take-lines-requires
     enum-told
     slice-aggregate-lay-table
