@@ -1,13 +1,8 @@
 // The library for C, as include/workshop.h says it: each function tells its verdict by the returned number and the place.
 ghost use mathlib.Core.Path.{_≡_};
-ghost use mathlib.Core.List.{[], _∷_};
 ghost use Rattle.refusals.specs.Verdicts.{paper, values};
-ghost use Rattle.questions.specs.Calls.{typeCall, blockCall};
-ghost use Rattle.delivery.specs.Calls.{readCall, delivery};
-ghost use Rattle.cell_question.specs.CellQuestion.{cellAsked};
-ghost use Rattle.slips.specs.Calls.{slipCall};
-ghost use Rattle.writer.specs.Calls.{writeCall};
-ghost use Rattle.abi.specs.Telling.{Tells};
+ghost use Rattle.delivery.specs.Calls.{delivery};
+ghost use Rattle.abi.specs.Calls.{ReadPermits, SlipPermits, CellPermits, TypePermits, BlockPermits, WritePermits};
 use refusals::Cell;
 use refusals::Verdict;
 use rows::Row;
@@ -41,7 +36,7 @@ pub extern "C" fn workshop_read(
     book: &mut [Row],
     place: &mut [u64; 4],
 ) -> u64
-    ensures { λ r. ⌜ Tells r (now (place .exit)) (readCall (delivery (now («vehicle_type» .entry)) (now (depot .entry)) (now (stop .entry)) (now («stop_point» .entry)) (now («vehicle_block» .entry))) (now (book .entry)) .verdict) × (now (book .exit) ≡ readCall (delivery (now («vehicle_type» .entry)) (now (depot .entry)) (now (stop .entry)) (now («stop_point» .entry)) (now («vehicle_block» .entry))) (now (book .entry)) .book) ⌝ }
+    ensures { λ r. ⌜ ReadPermits (delivery (now («vehicle_type» .entry)) (now (depot .entry)) (now (stop .entry)) (now («stop_point» .entry)) (now («vehicle_block» .entry))) (now (book .entry)) r (now (place .exit)) (now (book .exit)) ⌝ }
 {
     let told = on_paper(delivery::read(vehicle_type, depot, stop, stop_point, vehicle_block, book));
     *place = told;
@@ -55,7 +50,7 @@ pub extern "C" fn workshop_slip(
     work: &mut [Row],
     place: &mut [u64; 4],
 ) -> u64
-    ensures { λ r. ⌜ Tells r (now (place .exit)) (slipCall (now (slip .entry)) (now (book .entry)) (now (work .entry)) .verdict) × (now (book .exit) ≡ slipCall (now (slip .entry)) (now (book .entry)) (now (work .entry)) .book) × (now (work .exit) ≡ slipCall (now (slip .entry)) (now (book .entry)) (now (work .entry)) .work) ⌝ }
+    ensures { λ r. ⌜ SlipPermits (now (slip .entry)) (now (book .entry)) (now (work .entry)) r (now (place .exit)) (now (book .exit)) (now (work .exit)) ⌝ }
 {
     let told = on_paper(slips::slip(slip, book, work));
     *place = told;
@@ -71,7 +66,7 @@ pub extern "C" fn workshop_cell(
     answer: &mut [u64; 4],
     place: &mut [u64; 4],
 ) -> u64
-    ensures { λ r. ⌜ Tells r (now (place .exit)) (cellAsked (now (text .entry)) table line column .verdict) × (now (answer .exit) ≡ values (cellAsked (now (text .entry)) table line column .cell)) ⌝ }
+    ensures { λ r. ⌜ CellPermits (now (text .entry)) table line column r (now (place .exit)) (now (answer .exit)) ⌝ }
 {
     let asked = cell_question::cell(text, table, line, column);
     let verdict = asked.verdict;
@@ -91,7 +86,7 @@ pub extern "C" fn workshop_type(
     answer: &mut [u64; 2],
     place: &mut [u64; 4],
 ) -> u64
-    ensures { λ r. ⌜ Tells r (now (place .exit)) (typeCall (now (book .entry)) version number .verdict) × (now (answer .exit) ≡ typeCall (now (book .entry)) version number .seconds ∷ typeCall (now (book .entry)) version number .count ∷ []) ⌝ }
+    ensures { λ r. ⌜ TypePermits (now (book .entry)) version number r (now (place .exit)) (now (answer .exit)) ⌝ }
 {
     let found = questions::type_answer(book, version, number);
     let verdict = found.verdict;
@@ -111,7 +106,7 @@ pub extern "C" fn workshop_block(
     answer: &mut [u64; 7],
     place: &mut [u64; 4],
 ) -> u64
-    ensures { λ r. ⌜ Tells r (now (place .exit)) (blockCall (now (book .entry)) version «day_type» depot block .verdict) × (now (answer .exit) ≡ blockCall (now (book .entry)) version «day_type» depot block .numbers) ⌝ }
+    ensures { λ r. ⌜ BlockPermits (now (book .entry)) version «day_type» depot block r (now (place .exit)) (now (answer .exit)) ⌝ }
 {
     let found = questions::block_answer(book, version, day_type, depot, block);
     let verdict = found.verdict;
@@ -129,7 +124,7 @@ pub extern "C" fn workshop_write(
     length: &mut [u64; 1],
     place: &mut [u64; 4],
 ) -> u64
-    ensures { λ r. ⌜ Tells r (now (place .exit)) (writeCall (now (book .entry)) (now (out .entry)) .verdict) × (now (length .exit) ≡ writeCall (now (book .entry)) (now (out .entry)) .size ∷ []) × (now (out .exit) ≡ writeCall (now (book .entry)) (now (out .entry)) .out) ⌝ }
+    ensures { λ r. ⌜ WritePermits (now (book .entry)) (now (out .entry)) r (now (place .exit)) (now (length .exit)) (now (out .exit)) ⌝ }
 {
     let written = writer::write(book, out);
     let verdict = written.verdict;

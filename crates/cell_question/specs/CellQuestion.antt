@@ -1,4 +1,5 @@
 -- The question for one cell of one text.
+use mathlib.Core.Path.{_≡_}
 use mathlib.Core.List.{List, _++_, []}
 use mathlib.Core.Bool.{_||_}
 use Prim.Native.Nat.{ℕ, _+_, _-_}
@@ -78,3 +79,10 @@ abbrev pub stretchOf : Bytes → Cell → Bytes
 stretchOf s (Number n) = []
 stretchOf s (Text start len) = take len (drop start s)
 stretchOf s Empty = []
+
+-- what the contracts of `cell` and `stretch` permit: one answer, and one stretch
+abbrev pub CellPermits : Bytes → ℕ → ℕ → ℕ → CellAnswer → Type 0
+CellPermits s table line k a = a ≡ cellAsked s table line k
+
+abbrev pub StretchPermits : Bytes → ℕ → ℕ → ℕ → Bytes → Type 0
+StretchPermits s table line k part = part ≡ stretchOf s (cellAsked s table line k .cell)

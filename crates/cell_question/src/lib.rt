@@ -9,7 +9,7 @@ ghost use Rattle.tables.specs.Listing.{listed};
 ghost use Rattle.tables.specs.Columns.{columnsOf};
 ghost use Rattle.header.specs.Heading.{headerPlaces, places, cellsKept};
 ghost use Rattle.header.specs.Header.{mostCells, headerOf, topFaults};
-ghost use Rattle.cell_question.specs.CellQuestion.{answered, said, tableCell, cellAsked, stretchOf};
+ghost use Rattle.cell_question.specs.CellQuestion.{answered, said, tableCell, cellAsked, stretchOf, CellPermits, StretchPermits};
 ghost use Rattle.cell_question.specs.Asking.{cellJudged, rowAnswer};
 use header::BOUNDS;
 use header::Places;
@@ -175,7 +175,7 @@ fn cell_in_table(bytes: &[u8], t: Table, line: u64, column: u64) -> CellAnswer
 
 // The cell of a column on a line of a table's text.
 pub fn cell(text: &[u8], table: u64, line: u64, column: u64) -> CellAnswer
-    ensures { λ r. ⌜ r ≡ cellAsked (now (text .entry)) table line column ⌝ }
+    ensures { λ r. ⌜ CellPermits (now (text .entry)) table line column r ⌝ }
 {
     let named = Table::numbered(table);
     match named {
@@ -186,7 +186,7 @@ pub fn cell(text: &[u8], table: u64, line: u64, column: u64) -> CellAnswer
 
 // The caller's own bytes: a part of the lent text, not a copy.
 pub fn stretch(text: &[u8], table: u64, line: u64, column: u64) -> &[u8]
-    ensures { λ r. ⌜ now r ≡ stretchOf (now (text .entry)) (cellAsked (now (text .entry)) table line column .cell) ⌝ }
+    ensures { λ r. ⌜ StretchPermits (now (text .entry)) table line column (now r) ⌝ }
 {
     let answer = cell(text, table, line, column);
     let held = answer.cell;

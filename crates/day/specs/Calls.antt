@@ -1,4 +1,5 @@
 -- What the call for a day answers, and what everything lent to it holds behind the call.
+use mathlib.Core.Path.{_≡_}
 use mathlib.Core.List.{List}
 use lib.Dec.{eqb}
 use lib.ListN.{length}
@@ -29,3 +30,7 @@ abbrev pub dayCall : Delivery → Bytes → List Row → List Row → Outcome
 dayCall d s book work =
     if workSized work then thenSlip (readCall d book .verdict) s (readCall d book .book) work
     else outcome (nowhere badLoan) (emptied book) work
+
+-- what the contract of `day` permits: one verdict, one book and one working area behind it
+abbrev pub DayPermits : Delivery → Bytes → List Row → List Row → Outcome → Type 0
+DayPermits d s book work o = o ≡ dayCall d s book work

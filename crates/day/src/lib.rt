@@ -2,7 +2,7 @@
 ghost use mathlib.Core.Path.{_≡_};
 ghost use Rattle.delivery.specs.Calls.{delivery};
 ghost use Rattle.slips.specs.Calls.{outcome};
-ghost use Rattle.day.specs.Calls.{emptied, dayCall};
+ghost use Rattle.day.specs.Calls.{emptied, DayPermits};
 use refusals::Check;
 use refusals::Place;
 use refusals::Verdict;
@@ -30,7 +30,7 @@ pub fn day(
     book: &mut [Row],
     work: &mut [Row],
 ) -> Verdict
-    ensures { λ r. ⌜ outcome r (now (book .exit)) (now (work .exit)) ≡ dayCall (delivery (now («vehicle_type» .entry)) (now (depot .entry)) (now (stop .entry)) (now («stop_point» .entry)) (now («vehicle_block» .entry))) (now (slip .entry)) (now (book .entry)) (now (work .entry)) ⌝ }
+    ensures { λ r. ⌜ DayPermits (delivery (now («vehicle_type» .entry)) (now (depot .entry)) (now (stop .entry)) (now («stop_point» .entry)) (now («vehicle_block» .entry))) (now (slip .entry)) (now (book .entry)) (now (work .entry)) (outcome r (now (book .exit)) (now (work .exit))) ⌝ }
 {
     if work.len() != ROWS {
         empty_book(book);

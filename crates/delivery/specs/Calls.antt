@@ -1,4 +1,5 @@
 -- What the read call answers, and what the lent book holds behind it.
+use mathlib.Core.Path.{_≡_}
 use mathlib.Core.List.{List}
 use lib.Dec.{eqb}
 use lib.ListN.{length}
@@ -32,3 +33,7 @@ readCall d slice =
 
 abbrev pub delivery : Bytes → Bytes → Bytes → Bytes → Bytes → Delivery
 delivery a b c d e = record { types = a; depots = b; stops = c; points = d; blocks = e }
+
+-- what the contract of `read` permits of a delivery and a lent book: one verdict, and one book behind it
+abbrev pub ReadPermits : Delivery → List Row → Outcome → Type 0
+ReadPermits d slice o = o ≡ readCall d slice

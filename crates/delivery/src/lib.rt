@@ -7,7 +7,7 @@ ghost use Rattle.book.specs.Room.{bookOf};
 ghost use Rattle.rules.specs.Points.{NamedIn};
 ghost use Rattle.table_reading.specs.Reading.{tableRead};
 ghost use Rattle.delivery.specs.Delivery.{reading};
-ghost use Rattle.delivery.specs.Calls.{delivery, outcome, readCall};
+ghost use Rattle.delivery.specs.Calls.{delivery, outcome, ReadPermits};
 use refusals::Check;
 use refusals::Place;
 use refusals::Verdict;
@@ -54,7 +54,7 @@ pub fn read(
     vehicle_block: &[u8],
     book: &mut [Row],
 ) -> Verdict
-    ensures { λ r. ⌜ outcome r (now (book .exit)) ≡ readCall (delivery (now («vehicle_type» .entry)) (now (depot .entry)) (now (stop .entry)) (now («stop_point» .entry)) (now («vehicle_block» .entry))) (now (book .entry)) ⌝ }
+    ensures { λ r. ⌜ ReadPermits (delivery (now («vehicle_type» .entry)) (now (depot .entry)) (now (stop .entry)) (now («stop_point» .entry)) (now («vehicle_block» .entry))) (now (book .entry)) (outcome r (now (book .exit))) ⌝ }
 {
     if book.len() != BOOK_ROWS {
         return Check::bad_loan().on(Place::NO_TABLE, Place::NO_LINE);

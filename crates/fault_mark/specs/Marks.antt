@@ -1,5 +1,6 @@
 -- Where a place of refusal stands in its table's text, for a person's eye: the line, and the cell on it.
 use mathlib.Core.Bool.{Bool, true, false, _||_}
+use mathlib.Core.Path.{_≡_}
 use mathlib.Core.List.{[], _∷_}
 use Prim.Native.Nat.{ℕ, suc, zero, _-_, _+_}
 use lib.ListN.{drop, take, length, getD}
@@ -124,3 +125,10 @@ markedBy Unknown s p = Nothing
 -- what is marked of a table's text for a place in it
 unfoldable pub markedIn : Bytes → Place → Mark
 markedIn s p = markedBy (numbered (p .table)) s p
+
+-- what the contracts of `marked` and `cell_numbered` permit: one mark, and one cell
+abbrev pub MarkPermits : Bytes → Place → Mark → Type 0
+MarkPermits s p m = m ≡ markedIn s p
+
+abbrev pub NumberedPermits : ℕ → Bytes → Bytes → Type 0
+NumberedPermits n line part = part ≡ numberedCell n line

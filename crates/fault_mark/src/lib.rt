@@ -7,7 +7,7 @@ ghost use Rattle.cells.specs.Cells.{kind, cut, cellsOf};
 ghost use Rattle.cells.specs.declared.State.the-variants.{Fresh};
 ghost use Rattle.cells.specs.Numbered.{MarksOf};
 ghost use Rattle.header.specs.Header.{header, placeFrom};
-ghost use Rattle.fault_mark.specs.Marks.{past, over, resumed, sizeFrom, beginFrom, columnsNamed, secondPlace, cellNamed, numberedCell, markedOn, markedOf, markedIn};
+ghost use Rattle.fault_mark.specs.Marks.{past, over, resumed, sizeFrom, beginFrom, columnsNamed, secondPlace, cellNamed, markedOn, markedOf, MarkPermits, NumberedPermits};
 use cells::Answer;
 use cells::Kind;
 use cells::State;
@@ -227,7 +227,7 @@ fn faulty_cell(head: &[u8], t: Table, number: u64, column: u64) -> u64
 
 // The cell of that number on a line, counted from 1; an empty part of it where there is none.
 pub fn cell_numbered(line: &[u8], cell: u64) -> &[u8]
-    ensures { λ r. ⌜ now r ≡ numberedCell cell (now (line .entry)) ⌝ }
+    ensures { λ r. ⌜ NumberedPermits cell (now (line .entry)) (now r) ⌝ }
 {
     if cell == 0 {
         return &line[0..0];
@@ -273,7 +273,7 @@ fn marked_line(text: &[u8], t: Table, place: Place) -> Mark
 
 // What is marked of a table's text for a place in it.
 pub fn marked(text: &[u8], place: Place) -> Mark
-    ensures { λ r. ⌜ r ≡ markedIn (now (text .entry)) place ⌝ }
+    ensures { λ r. ⌜ MarkPermits (now (text .entry)) place r ⌝ }
 {
     let named = Table::numbered(place.table);
     match named {

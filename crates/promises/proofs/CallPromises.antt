@@ -228,6 +228,3 @@ calls-read-afresh d b ss book work e m n =
     let after : promises.slipsCalled ss (readCall d book .book) work ≡ laid (promises.run ss b) =
     ap (λ (z : List Row). promises.slipsCalled ss z work) (rw (eq-eqb (length book) 2560 m, e)) ∙ called ss b work (d, e) n in
     (after, after ∙ rw (eq-eqb (length book) 2560 m, run-reads-afresh d b ss e))
-
-pub determined : promises.Determined
-determined A call one other e f = e ∙ sym f

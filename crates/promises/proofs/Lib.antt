@@ -21,6 +21,7 @@ pub mod CellPromises
 pub mod CallPromises
 pub mod StorePromises
 pub mod RuledOutPromises
+pub mod DeterminedPromises
 pub mod NumberedPromises
 pub mod StretchLaws
 pub mod StretchPromises

@@ -28,33 +28,65 @@ use Rattle.book.specs.Result.{refused, leaves, Result}
 use Rattle.book.specs.Book.{Book, empty, entered, rows, knows}
 use Rattle.book.specs.Room.{laid}
 use Rattle.keeping.specs.Keeping.{keepsRule}
-use Rattle.questions.specs.Calls.{typeAnswered, typeCall, blockAnswered, blockCall}
+use Rattle.questions.specs.Calls.{typeAnswered, typeCall, blockAnswered, blockCall, TypePermits, BlockPermits}
 use Rattle.questions.specs.Questions.{secondsOf, countOf, seven, ofType, total}
 use Rattle.header.specs.Header.{headerOf, topFaults, member}
+use Rattle.questions.specs.declared.TypeAnswer.{TypeAnswer}
+use Rattle.questions.specs.declared.BlockAnswer.{BlockAnswer}
 use Rattle.row_line.specs.RowLine.{rowRead}
 use Rattle.table_lines.specs.Reading.{judged}
 use Rattle.table_reading.specs.Reading.{tableRead}
 use Rattle.delivery.specs.Delivery.{Delivery, reading, Left}
-use Rattle.delivery.specs.Calls.{readCall}
-use Rattle.cell_question.specs.CellQuestion.{cellAsked, answered, cellAt, stretchOf}
+use Rattle.delivery.specs.Calls.{readCall, ReadPermits}
+use Rattle.delivery.specs.Calls as read-call
+use Rattle.cell_question.specs.CellQuestion.{cellAsked, answered, cellAt, stretchOf, CellPermits, StretchPermits}
+use Rattle.cell_question.specs.declared.CellAnswer.{CellAnswer}
 use Rattle.slip_line.specs.declared.Wish.{Wish}
 use Rattle.slip_line.specs.declared.Wish.the-variants.{Add, Replace, Delete, Unknown}
 use Rattle.slip_line.specs.SlipLine.{wish, numbers, badField, rowIn}
 use Rattle.block_change.specs.Change.{slipCheck, slipLeaves}
 use Rattle.slips.specs.Slips.{posting, posted}
-use Rattle.slips.specs.Calls.{slipCall, slipOutcome, workRows}
-use Rattle.writer.specs.Calls.{writeCall}
+use Rattle.slips.specs.Calls.{slipCall, slipOutcome, workRows, SlipPermits}
+use Rattle.writer.specs.Calls.{writeCall, WritePermits}
+use Rattle.slips.specs.Calls as slip-call
+use Rattle.day.specs.Calls.{DayPermits}
 use Rattle.writer.specs.Writing.{written, linesWritten, namesLine, rowLine}
 use Rattle.writer.specs.Calls as write-call
-use Rattle.sheet.specs.Calls.{sheetCall}
+use Rattle.sheet.specs.Calls.{sheetCall, SheetPermits}
+use Rattle.abi.specs.Calls as for-c
+use Rattle.fault_mark.specs.Marks.{MarkPermits, NumberedPermits}
+use Rattle.fault_mark.specs.declared.Mark.{Mark}
 
 -- Demand 1 ----------------------------------------------------------------------------------------------------------------
 
--- "Every call takes every input and comes back." Each call's answer, and what all that is lent holds behind it, is a function of what it is
--- handed: `readCall`, `cellAsked`, `typeCall`, `blockCall`, `slipCall`, `writeCall`, `sheetCall`, with nothing required.
--- Each public function's contract is one equation with its call, so two outcomes that it permits are the same
-abbrev pub Determined : Type 1
-Determined = (A : Type 0) (call one other : A) → one ≡ call → other ≡ call → one ≡ other
+-- "Every call takes every input and comes back." No contract of a public function has a `requires`, and each cites one relation: what it permits
+-- of the answer together with all that is lent, by what was handed in.
+-- "two permitted outcomes are proved the same"
+abbrev pub Single : (A : Type 0) → (A → Type 0) → Type 0
+Single A permits = (one other : A) → permits one → permits other → one ≡ other
+
+-- "The statement on each public function determines its answer and the final content of everything lent, for good and bad input alike"
+abbrev pub Determined : Type 0
+Determined = ((d : Delivery) (book : List Row) → Single read-call.Outcome (ReadPermits d book))
+    × ((s : Bytes) (table line k : ℕ) → Single CellAnswer (CellPermits s table line k))
+    × ((s : Bytes) (table line k : ℕ) → Single Bytes (StretchPermits s table line k))
+    × ((s : Bytes) (book work : List Row) → Single slip-call.Outcome (SlipPermits s book work))
+    × ((d : Delivery) (s : Bytes) (book work : List Row) → Single slip-call.Outcome (DayPermits d s book work))
+    × ((book : List Row) (version type : ℕ) → Single TypeAnswer (TypePermits book version type))
+    × ((book : List Row) (version day depot block : ℕ) → Single BlockAnswer (BlockPermits book version day depot block))
+    × ((book : List Row) (out : Bytes) → Single write-call.Outcome (WritePermits book out))
+    × ((v : Verdict) (book : List Row) (out : Bytes) → Single write-call.Outcome (SheetPermits v book out))
+    × ((s : Bytes) (p : Place) → Single Mark (MarkPermits s p))
+    × ((n : ℕ) (line : Bytes) → Single Bytes (NumberedPermits n line))
+
+-- and on each for C: the returned number, the place, and what else is lent
+abbrev pub DeterminedForC : Type 0
+DeterminedForC = ((d : Delivery) (book : List Row) → Single (ℕ × List ℕ × List Row) (λ o. for-c.ReadPermits d book (o .0) (o .1) (o .2)))
+    × ((s : Bytes) (book work : List Row) → Single (ℕ × List ℕ × List Row × List Row) (λ o. for-c.SlipPermits s book work (o .0) (o .1) (o .2) (o .3)))
+    × ((s : Bytes) (table line k : ℕ) → Single (ℕ × List ℕ × List ℕ) (λ o. for-c.CellPermits s table line k (o .0) (o .1) (o .2)))
+    × ((book : List Row) (version type : ℕ) → Single (ℕ × List ℕ × List ℕ) (λ o. for-c.TypePermits book version type (o .0) (o .1) (o .2)))
+    × ((book : List Row) (version day depot block : ℕ) → Single (ℕ × List ℕ × List ℕ) (λ o. for-c.BlockPermits book version day depot block (o .0) (o .1) (o .2)))
+    × ((book : List Row) (out : Bytes) → Single (ℕ × List ℕ × List ℕ × Bytes) (λ o. for-c.WritePermits book out (o .0) (o .1) (o .2) (o .3)))
 
 -- "A fault gets one number and a place, by a fixed order": the order is that of the tables (`DeliveryRefused`), of the lines of each
 -- (`RefusedAtFirst`, `SlipRefusedAtFirst`), and on a line that of the checks (`headerCheck`, `judged`, `lineJudged`). Which numbers there are, each

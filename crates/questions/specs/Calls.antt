@@ -1,4 +1,5 @@
 -- What the questions answer. Nothing that is lent to them changes.
+use mathlib.Core.Path.{_≡_}
 use mathlib.Core.List.{List, [], _∷_}
 use mathlib.Core.Bool.{Bool, not}
 use Prim.Native.Nat.{ℕ}
@@ -41,3 +42,10 @@ blockCall book version day depot block =
     let b = bookOf book in
     let key = version ∷ day ∷ depot ∷ block ∷ [] in
     blockAnswered (askedVerdict book (knows Block key b)) (seven (found 4 key (b .blocks)))
+
+-- what the contracts of `type_answer` and `block_answer` permit: one answer
+abbrev pub TypePermits : List Row → ℕ → ℕ → TypeAnswer → Type 0
+TypePermits book version type a = a ≡ typeCall book version type
+
+abbrev pub BlockPermits : List Row → ℕ → ℕ → ℕ → ℕ → BlockAnswer → Type 0
+BlockPermits book version day depot block a = a ≡ blockCall book version day depot block

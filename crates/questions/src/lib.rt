@@ -11,7 +11,7 @@ ghost use Rattle.book.specs.Holding.{Sound};
 ghost use Rattle.rules.specs.Rules.{seconds};
 ghost use Rattle.keeping.specs.Keeping.{keepsRule};
 ghost use Rattle.questions.specs.Questions.{ofType, secondsOf, countOf, seven};
-ghost use Rattle.questions.specs.Calls.{typeAnswered, typeCall, blockAnswered, blockCall};
+ghost use Rattle.questions.specs.Calls.{typeAnswered, blockAnswered, TypePermits, BlockPermits};
 use refusals::Check;
 use refusals::Place;
 use refusals::Verdict;
@@ -100,7 +100,7 @@ fn no_type(check: Check) -> TypeAnswer
 
 // 16, 15, or seconds and count of a type's blocks.
 pub fn type_answer(book: &[Row], version: u64, number: u64) -> TypeAnswer
-    ensures { λ r. ⌜ r ≡ typeCall (now (book .entry)) version number ⌝ }
+    ensures { λ r. ⌜ TypePermits (now (book .entry)) version number r ⌝ }
 {
     if !keeping::keeps_rule(book) {
         return no_type(Check::bad_loan());
@@ -157,7 +157,7 @@ pub fn block_answer(
     depot: u64,
     block: u64,
 ) -> BlockAnswer
-    ensures { λ r. ⌜ r ≡ blockCall (now (book .entry)) version «day_type» depot block ⌝ }
+    ensures { λ r. ⌜ BlockPermits (now (book .entry)) version «day_type» depot block r ⌝ }
 {
     if !keeping::keeps_rule(book) {
         return no_block(Check::bad_loan());

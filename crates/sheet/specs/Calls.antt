@@ -1,4 +1,5 @@
 -- What the sheet call answers, and what the lent output holds behind it.
+use mathlib.Core.Path.{_≡_}
 use mathlib.Core.List.{List}
 use mathlib.Core.Bool.{not}
 use lib.Dec.{ltb}
@@ -21,3 +22,7 @@ abbrev pub sheetCall : Verdict → List Row → Bytes → Outcome
 sheetCall (Refused p) book out = wrote (shortFor (refusalText p) out) (refusalText p) out
 sheetCall Accepted book out =
     wrote (nowhere (badLoan when not (keepsRule book)) before shortFor (sheetText (bookOf book)) out) (sheetText (bookOf book)) out
+
+-- what the contract of `day_sheet` permits: one verdict, one length and one output behind it
+abbrev pub SheetPermits : Verdict → List Row → Bytes → Outcome → Type 0
+SheetPermits v book out o = o ≡ sheetCall v book out

@@ -33,3 +33,7 @@ sheetText b = linesWritten (map (typeLine (b .blocks)) (b .types) ++ (sumLine b 
 -- "or only `X` with number, table, line, column"
 abbrev pub refusalText : Place → Bytes
 refusalText p = linesWritten (sheetLine (bytes "X") (p .number ∷ p .table ∷ p .line ∷ p .column ∷ []) ∷ [])
+
+-- the room that is lent for a sheet: 512 T lines of at most 28 bytes, and the S line, or the X line, fit in it
+abbrev pub sheetRoom : ℕ
+sheetRoom = 16384

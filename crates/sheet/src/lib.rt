@@ -11,7 +11,7 @@ ghost use Rattle.keeping.specs.Keeping.{keepsRule};
 ghost use Rattle.writer.specs.Writing.{linesWritten};
 ghost use Rattle.writer.specs.Calls.{outcome, wrote};
 ghost use Rattle.sheet.specs.Sheet.{sheetLine, typeLine, sheetText, refusalText};
-ghost use Rattle.sheet.specs.Calls.{shortFor, sheetCall};
+ghost use Rattle.sheet.specs.Calls.{shortFor, SheetPermits};
 use refusals::Check;
 use refusals::Place;
 use refusals::Verdict;
@@ -124,7 +124,7 @@ fn write_refusal(place: Place, out: &mut [u8]) -> Written
 
 // The sheet of a day whose delivery and slip had this verdict: T lines and the S line, or the X line.
 pub fn day_sheet(verdict: Verdict, book: &[Row], out: &mut [u8]) -> Written
-    ensures { λ r. ⌜ outcome (r .verdict) (r .size) (now (out .exit)) ≡ sheetCall verdict (now (book .entry)) (now (out .entry)) ⌝ }
+    ensures { λ r. ⌜ SheetPermits verdict (now (book .entry)) (now (out .entry)) (outcome (r .verdict) (r .size) (now (out .exit))) ⌝ }
 {
     match verdict {
         Verdict::Accepted => {

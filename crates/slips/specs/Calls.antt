@@ -1,4 +1,5 @@
 -- What the slip call answers, and what everything lent to it holds behind the call.
+use mathlib.Core.Path.{_≡_}
 use mathlib.Core.List.{List}
 use mathlib.Core.Bool.{Bool, _&&_, not}
 use Prim.Native.Nat.{ℕ}
@@ -45,3 +46,7 @@ slipOutcome (leaves b) book work = outcome Accepted (laid b) (cleared work)
 abbrev pub slipCall : Bytes → List Row → List Row → Outcome
 slipCall s book work =
     slipOutcome (unless (nowhere (badLoan when not (keepsRule book && workSized work))) (posting s (bookOf book))) book work
+
+-- what the contract of `slip` permits: one verdict, one book and one working area behind it
+abbrev pub SlipPermits : Bytes → List Row → List Row → Outcome → Type 0
+SlipPermits s book work o = o ≡ slipCall s book work

@@ -10,7 +10,7 @@ ghost use Rattle.book.specs.Holding.{Sound};
 ghost use Rattle.rules.specs.Points.{pointsNamed};
 ghost use Rattle.intake.specs.Shelving.{OnShelf, shelfBook};
 ghost use Rattle.slips.specs.Taking.{LinesTaken, behind};
-ghost use Rattle.slips.specs.Calls.{outcome, workRows, cleared, slipOutcome, slipCall};
+ghost use Rattle.slips.specs.Calls.{outcome, workRows, cleared, slipOutcome, slipCall, SlipPermits};
 ghost use Rattle.slips.specs.Slips.{linesPosted};
 use lines::MOST_BYTES;
 use refusals::Check;
@@ -106,7 +106,7 @@ fn post(slip: &[u8], book: &mut [Row], work: &mut [Row]) -> Verdict
 
 // A slip, taken whole or not at all. The working area ends all zero; one of another length stays as it came.
 pub fn slip(slip: &[u8], book: &mut [Row], work: &mut [Row]) -> Verdict
-    ensures { λ r. ⌜ outcome r (now (book .exit)) (now (work .exit)) ≡ slipCall (now (slip .entry)) (now (book .entry)) (now (work .entry)) ⌝ }
+    ensures { λ r. ⌜ SlipPermits (now (slip .entry)) (now (book .entry)) (now (work .entry)) (outcome r (now (book .exit)) (now (work .exit))) ⌝ }
 {
     if work.len() != ROWS {
         return Check::bad_loan().on(Place::NO_TABLE, Place::NO_LINE);

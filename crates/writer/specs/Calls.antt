@@ -1,4 +1,5 @@
 -- What the write call answers, and what the lent output holds behind it.
+use mathlib.Core.Path.{_≡_}
 use mathlib.Core.List.{List}
 use mathlib.Core.Bool.{not}
 use Prim.Native.Nat.{ℕ}
@@ -32,3 +33,7 @@ abbrev pub writeCall : List Row → Bytes → Outcome
 writeCall book out =
     wrote (nowhere (badLoan when not (keepsRule book)) before nowhere (outputShort when ltb (length out) (length (written (bookOf book)))))
     (written (bookOf book)) out
+
+-- what the contract of `write` permits: one verdict, one length and one output behind it
+abbrev pub WritePermits : List Row → Bytes → Outcome → Type 0
+WritePermits book out o = o ≡ writeCall book out

@@ -7,7 +7,7 @@ ghost use lib.Dec.{ltb};
 ghost use Rattle.refusals.specs.Verdicts.{nowhere, _when_, outputShort};
 ghost use Rattle.numbers.specs.Putting.{put};
 ghost use Rattle.writer.specs.Writing.{rowLine, linesWritten, namesLine};
-ghost use Rattle.writer.specs.Calls.{outcome, wrote, writeCall};
+ghost use Rattle.writer.specs.Calls.{outcome, wrote, WritePermits};
 use number_lines::LINE_FEED;
 use refusals::Check;
 use refusals::Place;
@@ -106,7 +106,7 @@ fn write_table(list: &[Row], n: usize, out: &mut [u8]) -> Written
 
 // 16, then 14 with the output untouched; bytes behind the text stay.
 pub fn write(book: &[Row], out: &mut [u8]) -> Written
-    ensures { λ r. ⌜ outcome (r .verdict) (r .size) (now (out .exit)) ≡ writeCall (now (book .entry)) (now (out .entry)) ⌝ }
+    ensures { λ r. ⌜ WritePermits (now (book .entry)) (now (out .entry)) (outcome (r .verdict) (r .size) (now (out .exit))) ⌝ }
 {
     if !keeping::keeps_rule(book) {
         return unwritten(Check::bad_loan());
