@@ -3,7 +3,7 @@ use libc::STDOUT_FILENO;
 use rows::ROWS;
 use tables::BOOK_ROWS;
 
-// Room for the longest sheet: 512 T lines of at most 28 bytes, and the S line.
+// Room for the longest sheet, `sheetRoom` of the definitions: 512 T lines of at most 28 bytes, and the S line.
 const SHEET_ROOM: usize = 16384;
 
 fn main() {

@@ -7,7 +7,7 @@ use native.Mathlib.Omega.{arith}
 use lib.ListN.{length, length-replicate, length-append, length-drop, take, drop}
 use lib.Dec.{eqb, ltb}
 use borrow.Author.Tests.{eq-eqb, ne-eqb, eqb-true, ltb-false, le-ltb, lt-ltb}
-use Rattle.words.specs.Words.{Row, Bytes}
+use Rattle.words.specs.Words.{Row, Bytes, if_then_else_}
 use Rattle.words.proofs.Lists.{and-left, take-seam}
 use Rattle.refusals.specs.declared.Place.{Place}
 use Rattle.refusals.specs.declared.Verdict.the-variants.{Refused, Accepted}
@@ -23,13 +23,14 @@ use Rattle.keeping.specs.Keeping.{keepsRule}
 use Rattle.delivery.specs.Delivery.{Delivery, reading, Left}
 use Rattle.delivery.specs.Calls.{readOutcome, readCall}
 use Rattle.delivery.specs.Calls as reading-is
-use Rattle.slips.specs.Calls.{slipOutcome, workSized, cleared, slipCall, Outcome}
+use Rattle.slips.specs.Calls.{slipOutcome, workSized, cleared, slipCall, Outcome, outcome}
 use Rattle.slips.specs.Slips.{posting, kept, posted}
+use Rattle.day.specs.Calls.{thenSlip, emptied, dayCall}
 use Rattle.writer.specs.Calls.{wrote, writeCall}
 use Rattle.writer.specs.Writing.{written}
 use Rattle.writer.specs.Calls as writing
 use Rattle.sheet.specs.Sheet.{sheetText, refusalText}
-use Rattle.sheet.specs.Calls.{shortFor}
+use Rattle.sheet.specs.Calls.{shortFor, sheetCall}
 use Rattle.promises.specs.Promises as promises
 use Rattle.promises.proofs.RulePromises.{rule-tested, left-standing}
 use Rattle.promises.proofs.RuleLaws.{standing-orderly, laid-keeps}
@@ -39,7 +40,7 @@ use Rattle.promises.proofs.BackPromises.{reads-back}
 
 -- a reading --------------------------------------------------------------------------------------------------------------
 
-read-sized : (d : Delivery) (slice : List Row) → length slice ≡ 2560 → readCall d slice ≡ readOutcome (reading d)
+pub read-sized : (d : Delivery) (slice : List Row) → length slice ≡ 2560 → readCall d slice ≡ readOutcome (reading d)
 read-sized d slice n = rw (eq-eqb (length slice) 2560 n)
 
 empties : (r : Result) (p : Place) → readOutcome r .verdict ≡ Refused p → readOutcome r .book ≡ laid empty
@@ -58,13 +59,13 @@ keeps : (r : Result) (book work : List Row) (p : Place) → slipOutcome r book w
 keeps (refused q) book work p h = refl
 keeps (leaves b) book work p h = let z : _≡_ {A = ℕ} 0 1 = cc in let y : ⊥ = omega arith in absurd y
 
-abbrev judgedSlip : Bytes → List Row → List Row → Result
+abbrev pub judgedSlip : Bytes → List Row → List Row → Result
 judgedSlip s book work = unless (nowhere (badLoan when not (keepsRule book && workSized work))) (posting s (bookOf book))
 
 pub refused-slip-keeps : promises.RefusedSlipKeeps
 refused-slip-keeps s book work p h = keeps (judgedSlip s book work) book work p h
 
-work-behind : (r : Result) (book work : List Row) → slipOutcome r book work .work ≡ cleared work
+pub work-behind : (r : Result) (book work : List Row) → slipOutcome r book work .work ≡ cleared work
 work-behind (refused q) book work = refl
 work-behind (leaves b) book work = refl
 
@@ -105,7 +106,7 @@ refused-sheet-keeps (Refused q) book out p h = untouched (shortFor (refusalText 
 pub bad-book-refused : promises.BadBookRefused
 bad-book-refused book h =
     let e : keepsRule book ≡ false = broken (keepsRule book) refl in
-    (λ s work. rw e, λ out. rw e, λ version type. rw e, λ version day depot block. rw e)
+    (λ s work. rw e, λ out. rw e, λ version type. rw e, λ version day depot block. rw e, λ out. rw e)
   where
     broken : (q : Bool) → keepsRule book ≡ q → keepsRule book ≡ false
     broken true e = let l = rule-tested book .0 e in absurd (h (l .0) (l .1) (l .2))
@@ -125,7 +126,7 @@ read-length d slice = go (eqb (length slice) 2560) refl
     go false e = rw e
 
 -- what an accepted slip leaves is again a book that some delivery leaves
-leaves-left : (s : Bytes) (b c : Book) → Left b → posting s b ≡ leaves c → Left c
+pub leaves-left : (s : Bytes) (b c : Book) → Left b → posting s b ≡ leaves c → Left c
 leaves-left s b c l e = subst (λ (z : Book). Left z) (ap (λ (r : Result). kept b r) e) (rule-kept b s l)
 
 slip-length : (s : Bytes) (book work : List Row) → length (slipCall s book work .book) ≡ length book
@@ -160,19 +161,47 @@ work-length s book work = ap length (work-behind (judgedSlip s book work) book w
 put-length : (s out : Bytes) → length s ≤ length out → length (put s out) ≡ length out
 put-length s out h = rw (length-append, length-drop) (omega arith)
 
-write-length : (book : List Row) (out : Bytes) → length (writeCall book out .out) ≡ length out
-write-length book out = go (keepsRule book) (ltb (length out) (length text)) refl
-  where
-    text : Bytes
-    text = written (bookOf book)
+-- a text is put only where there is room for it
+wrote-length : (text out : Bytes) (good short : Bool) → ltb (length out) (length text) ≡ short →
+    length (wrote (nowhere (badLoan when not good) before nowhere (outputShort when short)) text out .out) ≡ length out
+wrote-length text out true true e = refl
+wrote-length text out true false e = put-length text out (ltb-false (length out) (length text) e)
+wrote-length text out false short e = refl
 
-    go : (p q : Bool) → ltb (length out) (length text) ≡ q → length (wrote (nowhere (badLoan when not p) before nowhere (outputShort when q)) text out .out) ≡ length out
-    go true true e = refl
-    go true false e = put-length text out (ltb-false (length out) (length text) e)
-    go false q e = refl
+write-length : (book : List Row) (out : Bytes) → length (writeCall book out .out) ≡ length out
+write-length book out = wrote-length (written (bookOf book)) out (keepsRule book) _ refl
+
+sheet-length : (v : Verdict) (book : List Row) (out : Bytes) → length (sheetCall v book out .out) ≡ length out
+sheet-length Accepted book out = wrote-length (sheetText (bookOf book)) out (keepsRule book) _ refl
+sheet-length (Refused p) book out = wrote-length (refusalText p) out true _ refl
+
+then-length : (v : Verdict) (s : Bytes) (book work : List Row) →
+    (length (thenSlip v s book work .book) ≡ length book) × (length (thenSlip v s book work .work) ≡ length work)
+then-length Accepted s book work = (slip-length s book work, work-length s book work)
+then-length (Refused p) s book work = (refl, cleared-length work)
+
+emptied-length : (book : List Row) → length (emptied book) ≡ length book
+emptied-length book = go (eqb (length book) 2560) refl
+  where
+    go : (q : Bool) → eqb (length book) 2560 ≡ q → length (emptied book) ≡ length book
+    go true e = rw e (sound-laid empty orderly-empty .long ∙ sym (eqb-true (length book) 2560 e))
+    go false e = rw e
+
+day-length : (d : Delivery) (s : Bytes) (book work : List Row) → (length (dayCall d s book work .book) ≡ length book) × (length (dayCall d s book work .work) ≡ length work)
+day-length d s book work = go (workSized work)
+  where
+    read : reading-is.Outcome
+    read = readCall d book
+
+    day : Bool → Outcome
+    day q = if q then thenSlip (read .verdict) s (read .book) work else outcome (nowhere badLoan) (emptied book) work
+
+    go : (q : Bool) → (length (day q .book) ≡ length book) × (length (day q .work) ≡ length work)
+    go true = let l = then-length (read .verdict) s (read .book) work in (l .0 ∙ read-length d book, l .1)
+    go false = (emptied-length book, refl)
 
 pub lengths-kept : promises.LengthsKept
-lengths-kept = (read-length, λ s book work. (slip-length s book work, work-length s book work), write-length)
+lengths-kept = (read-length, λ s book work. (slip-length s book work, work-length s book work), write-length, day-length, sheet-length)
 
 -- what is written by the call --------------------------------------------------------------------------------------------
 

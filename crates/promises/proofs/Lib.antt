@@ -22,6 +22,8 @@ pub mod CallPromises
 pub mod StorePromises
 pub mod RuledOutPromises
 pub mod DeterminedPromises
+pub mod FaultLaws
+pub mod SheetPromises
 pub mod NumberedPromises
 pub mod StretchLaws
 pub mod StretchPromises

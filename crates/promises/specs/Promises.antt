@@ -49,13 +49,15 @@ use Rattle.slips.specs.Slips.{posting, posted}
 use Rattle.slips.specs.Calls.{slipCall, slipOutcome, workRows, SlipPermits}
 use Rattle.writer.specs.Calls.{writeCall, WritePermits}
 use Rattle.slips.specs.Calls as slip-call
-use Rattle.day.specs.Calls.{DayPermits}
+use Rattle.day.specs.Calls.{DayPermits, dayCall}
 use Rattle.writer.specs.Writing.{written, linesWritten, namesLine, rowLine}
 use Rattle.writer.specs.Calls as write-call
 use Rattle.sheet.specs.Calls.{sheetCall, SheetPermits}
+use Rattle.sheet.specs.Sheet.{sheetRoom}
 use Rattle.abi.specs.Calls as for-c
 use Rattle.fault_mark.specs.Marks.{MarkPermits, NumberedPermits}
 use Rattle.fault_mark.specs.declared.Mark.{Mark}
+use Rattle.promises.specs.Sheet.{sheet}
 
 -- Demand 1 ----------------------------------------------------------------------------------------------------------------
 
@@ -211,6 +213,22 @@ abbrev pub WrongWorkStays : Type 0
 WrongWorkStays = (s : Bytes) (book work : List Row) → (length work ≡ workRows → ⊥) →
     (slipCall s book work .verdict ≡ Refused (place 16 0 0 0)) × (slipCall s book work .book ≡ book) × (slipCall s book work .work ≡ work)
 
+-- lent to a day likewise, "before all else: that one stays as it came, and the rest ends as after any refusal": the book empty, the working
+-- area all zero
+abbrev pub WrongDayLoanStays : Type 0
+WrongDayLoanStays = (d : Delivery) (s : Bytes) (book work : List Row) →
+    let day = dayCall d s book work in
+    ((length book ≡ bookRows → ⊥) → (day .verdict ≡ Refused (place 16 0 0 0)) × (day .book ≡ book))
+    × ((length work ≡ workRows → ⊥) → (day .verdict ≡ Refused (place 16 0 0 0)) × (day .work ≡ work))
+    × (length book ≡ bookRows → (length work ≡ workRows → ⊥) → day .book ≡ laid empty)
+    × (length work ≡ workRows → day .work ≡ replicate workRows zeros)
+
+-- no answer comes of what the lent rows held before a reading, nor before a day, nor of the working area of a slip or a day
+abbrev pub LentRowsUnread : Type 0
+LentRowsUnread = ((d : Delivery) (book other : List Row) → length book ≡ bookRows → length other ≡ bookRows → readCall d book ≡ readCall d other)
+    × ((s : Bytes) (book work area : List Row) → length work ≡ workRows → length area ≡ workRows → slipCall s book work ≡ slipCall s book area)
+    × ((d : Delivery) (s : Bytes) (book other work area : List Row) → length book ≡ bookRows → length other ≡ bookRows → length work ≡ workRows → length area ≡ workRows → dayCall d s book work ≡ dayCall d s other area)
+
 -- 16 is the answer too to a book that no accepted delivery leaves
 abbrev pub BadBookRefused : Type 0
 BadBookRefused = (book : List Row) → ((b : Book) → Left b → book ≡ laid b → ⊥) →
@@ -218,12 +236,15 @@ BadBookRefused = (book : List Row) → ((b : Book) → Left b → book ≡ laid 
     × ((out : Bytes) → writeCall book out .verdict ≡ Refused (place 16 0 0 0))
     × ((version type : ℕ) → typeCall book version type ≡ typeAnswered (Refused (place 16 0 0 0)) 0 0)
     × ((version day depot block : ℕ) → blockCall book version day depot block ≡ blockAnswered (Refused (place 16 0 0 0)) [])
+    × ((out : Bytes) → sheetCall Accepted book out .verdict ≡ Refused (place 16 0 0 0))
 
 -- and every lent slice ends as long as it came
 abbrev pub LengthsKept : Type 0
 LengthsKept = ((d : Delivery) (slice : List Row) → length (readCall d slice .book) ≡ length slice)
     × ((s : Bytes) (book work : List Row) → (length (slipCall s book work .book) ≡ length book) × (length (slipCall s book work .work) ≡ length work))
     × ((book : List Row) (out : Bytes) → length (writeCall book out .out) ≡ length out)
+    × ((d : Delivery) (s : Bytes) (book work : List Row) → (length (dayCall d s book work .book) ≡ length book) × (length (dayCall d s book work .work) ≡ length work))
+    × ((v : Verdict) (book : List Row) (out : Bytes) → length (sheetCall v book out .out) ≡ length out)
 
 -- Demand 2 ----------------------------------------------------------------------------------------------------------------
 
@@ -397,6 +418,32 @@ abbrev pub WriteCallAnswers : Type 0
 WriteCallAnswers = (b : Book) (out : Bytes) → Left b →
     (length (written b) ≤ length out → writeCall (laid b) out ≡ write-call.outcome Accepted (length (written b)) (written b ++ drop (length (written b)) out))
     × (length out < length (written b) → writeCall (laid b) out ≡ write-call.outcome (Refused (place 14 0 0 0)) 0 out)
+
+-- a day is the reading, and then the slip on the book that an accepted one leaves, whatever was lent
+abbrev pub DayCallAnswers : Type 0
+DayCallAnswers = (d : Delivery) (s : Bytes) (book work : List Row) → length book ≡ bookRows → length work ≡ workRows →
+    ((p : Place) → reading d ≡ refused p → dayCall d s book work ≡ slip-call.outcome (Refused p) (laid empty) (replicate workRows zeros))
+    × ((b : Book) → reading d ≡ leaves b → dayCall d s book work ≡ slipOutcome (posting s b) (laid b) work)
+
+-- "one `T` line a type .. then `S` ..; or only `X`": what the calls for a day and then for its sheet leave in the output is the sheet of the
+-- delivery and the slip, 16 and 14 aside
+abbrev pub SheetCallAnswers : Type 0
+SheetCallAnswers = (d : Delivery) (s : Bytes) (book work : List Row) (out : Bytes) →
+    length book ≡ bookRows → length work ≡ workRows → length (sheet d s) ≤ length out →
+    let day = dayCall d s book work in
+    sheetCall (day .verdict) (day .book) out ≡ write-call.outcome Accepted (length (sheet d s)) (sheet d s ++ drop (length (sheet d s)) out)
+
+-- no sheet is longer than what `daysheet` lends for it
+abbrev pub SheetFits : Type 0
+SheetFits = (d : Delivery) (s : Bytes) → length (sheet d s) ≤ sheetRoom
+
+-- so the bytes that the sheet call counts, which `daysheet` prints, are the sheet
+abbrev pub SheetPrinted : Type 0
+SheetPrinted = (d : Delivery) (s : Bytes) (book work : List Row) (out : Bytes) →
+    length book ≡ bookRows → length work ≡ workRows → length out ≡ sheetRoom →
+    let day = dayCall d s book work in
+    let written = sheetCall (day .verdict) (day .book) out in
+    take (written .size) (written .out) ≡ sheet d s
 
 -- reading, writing and reading by the calls: the same book again, whatever was lent
 abbrev pub CallsReadBack : Type 0
