@@ -9,7 +9,7 @@ ghost use Rattle.tables.specs.Listing.{listed};
 ghost use Rattle.tables.specs.Columns.{columnsOf};
 ghost use Rattle.header.specs.Heading.{headerPlaces, places, cellsKept};
 ghost use Rattle.header.specs.Header.{mostCells, headerOf, topFaults};
-ghost use Rattle.cell_question.specs.CellQuestion.{answered, said, tableCell, cellAsked, stretchOf, CellPermits, StretchPermits};
+ghost use Rattle.cell_question.specs.CellQuestion.{answered, said, tableCell, CellPermits, StretchPermits};
 ghost use Rattle.cell_question.specs.Asking.{cellJudged, rowAnswer};
 use header::BOUNDS;
 use header::Places;

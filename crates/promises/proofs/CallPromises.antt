@@ -11,7 +11,7 @@ use Rattle.words.specs.Words.{Row, Bytes, if_then_else_}
 use Rattle.words.proofs.Lists.{and-left, take-seam}
 use Rattle.refusals.specs.declared.Place.{Place}
 use Rattle.refusals.specs.declared.Verdict.the-variants.{Refused, Accepted}
-use Rattle.refusals.specs.Verdicts.{_when_, nowhere, badLoan, place, _before_, outputShort}
+use Rattle.refusals.specs.Verdicts.{_when_, nowhere, badLoan, place, _before_, outputShort, paper}
 use Rattle.refusals.specs.declared.Verdict.{Verdict}
 use Rattle.numbers.specs.Putting.{put}
 use Rattle.rows.specs.Room.{zeros}
@@ -81,7 +81,7 @@ wrong-work-stays s book work n =
     let e : eqb (length work) 512 ≡ false = ne-eqb (length work) 512 n in
     let f : (keepsRule book && workSized work) ≡ false = ap (λ (q : Bool). keepsRule book && q) e ∙ and-false (keepsRule book) in
     let g : judgedSlip s book work ≡ refused (place 16 0 0 0) = ap (λ (q : Bool). unless (nowhere (badLoan when not q)) (posting s (bookOf book))) f in (
-      ap (λ (r : Result). slipOutcome r book work .verdict) g,
+      ap (λ (r : Result). paper (slipOutcome r book work .verdict)) g,
       ap (λ (r : Result). slipOutcome r book work .book) g,
       work-behind (judgedSlip s book work) book work ∙ rw e,
     )
@@ -106,7 +106,7 @@ refused-sheet-keeps (Refused q) book out p h = untouched (shortFor (refusalText 
 pub bad-book-refused : promises.BadBookRefused
 bad-book-refused book h =
     let e : keepsRule book ≡ false = broken (keepsRule book) refl in
-    (λ s work. rw e, λ out. rw e, λ version type. rw e, λ version day depot block. rw e, λ out. rw e)
+    (λ s work. rw e, λ out. rw e, λ version type. (rw e, rw e, rw e), λ version day depot block. (rw e, rw e), λ out. rw e)
   where
     broken : (q : Bool) → keepsRule book ≡ q → keepsRule book ≡ false
     broken true e = let l = rule-tested book .0 e in absurd (h (l .0) (l .1) (l .2))
@@ -217,7 +217,10 @@ write-laid b out l =
 pub write-call-answers : promises.WriteCallAnswers
 write-call-answers b out l = (
   λ h. write-laid b out l ∙ ap (λ (q : Bool). wrote (nowhere (outputShort when q)) (written b) out) (le-ltb (length out) (length (written b)) h),
-  λ h. write-laid b out l ∙ ap (λ (q : Bool). wrote (nowhere (outputShort when q)) (written b) out) (lt-ltb (length out) (length (written b)) h),
+  λ h.
+      let w : writeCall (laid b) out ≡ writing.outcome (nowhere outputShort) 0 out =
+      write-laid b out l ∙ ap (λ (q : Bool). wrote (nowhere (outputShort when q)) (written b) out) (lt-ltb (length out) (length (written b)) h) in
+      (ap (λ (z : writing.Outcome). paper (z .verdict)) w, ap (λ (z : writing.Outcome). z .size) w, ap (λ (z : writing.Outcome). z .out) w),
 )
 
 pub calls-read-back : promises.CallsReadBack

@@ -36,7 +36,7 @@ use Rattle.header.specs.Header.{Header, under, contentsFrom, cutCheck, contents
 use Rattle.row_line.specs.RowLine.{rowRead}
 use Rattle.table_lines.specs.Reading.{judged}
 use Rattle.delivery.specs.Delivery.{Delivery, reading}
-use Rattle.cell_question.specs.CellQuestion.{answered, cellSaid, cellAt, cellVerdict, cellStart, tableCell, askedOf, cellAsked}
+use Rattle.cell_question.specs.CellQuestion.{answered, cellSaid, cellAt, cellVerdict, cellStart, tableCell, askedOf, cellAsked, cellPaper}
 use Rattle.promises.specs.Promises.{rowLinesOf, rowAt, textOf, CellsAccepted, CellsAgree}
 use Rattle.promises.proofs.TestLaws.{both, unfailed}
 use Rattle.promises.proofs.DeliveryLaws.{ReadTo, left-by}
@@ -204,7 +204,7 @@ pub cells-agree : CellsAgree
 cells-agree d b t i k e h low high =
     let s : Bytes = textOf t d in
     let x = rows-exactly d b t e in (
-      cells-at d b t i e h k low high,
+      ap cellPaper (cells-at d b t i e h k low high),
       found-copy (keyWidth t) (rowAt t s i) (rows t b) (rising-true (keyWidth t) (rows t b) (left-by d b e .standing t .rising))
           (omega (arith, x .2 (rowAt t s i), copy-at (rowRead t (headerOf t s)) (rowLinesOf s) i h)),
     )

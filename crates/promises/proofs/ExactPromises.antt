@@ -5,9 +5,9 @@ use mathlib.Core.Logic.{_⊎_, inl, inr, ⊎-elim}
 use mathlib.Core.Bool.{Bool, true, false}
 use Prim.Native.Nat.{ℕ, zero, suc, _+_, _<_}
 use native.Mathlib.Omega.{arith}
-use lib.ListN.{length}
+use lib.ListN.{length, getD}
 use Rattle.words.specs.Words.{Bytes}
-use Rattle.refusals.specs.Verdicts.{placed, place, _when_, inText, textTooLong}
+use Rattle.refusals.specs.Verdicts.{placed, place, paper, _when_, inText, textTooLong}
 use Rattle.refusals.specs.declared.Place.{Place}
 use Rattle.refusals.specs.declared.Check.{Check}
 use Rattle.refusals.specs.declared.Check.the-variants.{Passes, Fails}
@@ -152,9 +152,18 @@ short-slip : (t : Bool) → inText 5 (textTooLong when t) ≡ Accepted → t ≡
 short-slip true h = let z : _≡_ {A = ℕ} 0 1 = cc in let y : ⊥ = omega arith in absurd y
 short-slip false h = refl
 
-long-slip : (t : Bool) (p : Place) → inText 5 (textTooLong when t) ≡ Refused p → (t ≡ true) × (p ≡ place 1 5 0 0)
-long-slip true p h = let e : p ≡ place 1 5 0 0 = cc in (refl, e)
+long-slip : (t : Bool) (p : Place) → inText 5 (textTooLong when t) ≡ Refused p → (t ≡ true) × (paper (Refused p) ≡ 1 ∷ 5 ∷ 0 ∷ 0 ∷ [])
+long-slip true p h = (refl, ap paper (sym h))
 long-slip false p h = let z : _≡_ {A = ℕ} 0 1 = cc in let y : ⊥ = omega arith in absurd y
+
+-- a place is its four numbers on paper
+paper-place : (p : Place) (n t i k : ℕ) → paper (Refused p) ≡ n ∷ t ∷ i ∷ k ∷ [] → p ≡ place n t i k
+paper-place p n t i k e =
+    let a : p .number ≡ n = ap (λ (l : List ℕ). getD l 0 0) e in
+    let b : p .table ≡ t = ap (λ (l : List ℕ). getD l 1 0) e in
+    let c : p .line ≡ i = ap (λ (l : List ℕ). getD l 2 0) e in
+    let d : p .column ≡ k = ap (λ (l : List ℕ). getD l 3 0) e in
+    rw (← a, ← b, ← c, ← d)
 
 pub slip-accepted-exactly : SlipAcceptedExactly
 unfolding posting
@@ -179,7 +188,7 @@ slip-refused-at-first s b p = (
       ⊎-elim (λ v. inl (long-slip (overlong s) p v))
       (λ v. inr (short-slip (overlong s) (v .0), turn-fault slipCheck slipLeaves 5 1 (slipLines s) b p (sym (slip-in-turn 1 (slipLines s) b) ∙ v .1)))
       (unless-refused (inText 5 (textTooLong when overlong s)) (linesPosted 1 (slipLines s) b) p e),
-  ⊎-elim (λ v. rw (v .0) (ap (λ (z : Place). refused z) (sym (v .1))))
+  ⊎-elim (λ v. rw (v .0) (ap (λ (z : Place). refused z) (sym (paper-place p 1 5 0 0 (v .1)))))
       (λ v. rw (v .0) (slip-in-turn 1 (slipLines s) b ∙ fault-turn slipCheck slipLeaves 5 1 (slipLines s) b p (v .1 .at) (v .1 .inside) (v .1 .fault) (v .1 .above))),
 )
 

@@ -22,8 +22,8 @@ pub mod CallPromises
 pub mod StorePromises
 pub mod RuledOutPromises
 pub mod DeterminedPromises
-pub mod FaultLaws
-pub mod SheetPromises
+pub mod TextLaws
 pub mod NumberedPromises
+pub mod SheetPromises
 pub mod StretchLaws
 pub mod StretchPromises

@@ -1,24 +1,26 @@
 -- Demand 1: a fault gets one of the paper's numbers, and a place in its own table. Assumes nothing.
-use mathlib.Core.Bool.{Bool, true, false, not, _&&_}
-use mathlib.Core.Path.{_≡_, refl, subst}
+use mathlib.Core.Bool.{Bool, true, false, not, _&&_, _||_}
+use mathlib.Core.Path.{_≡_, refl, subst, sym}
 use mathlib.Core.List.{List, [], _∷_, map}
-use mathlib.Core.Logic.{_⊎_, inl, inr, ⊎-elim}
-use Prim.Native.Nat.{ℕ, _≤_, _<_, suc, _+_, _-_}
+use mathlib.Core.Logic.{⊎-elim}
+use Prim.Native.Nat.{ℕ, _≤_, _<_, zero, suc, _+_, _-_}
 use native.Mathlib.Omega.{arith}
 use lib.ListN.{length, getD, take}
 use lib.Dec.{eqb, leb, ltb}
-use borrow.Author.Tests.{eq-eqb, ne-eqb, lt-ltb, le-leb, ltb-true}
+use borrow.Author.Tests.{eq-eqb, ne-eqb, eqb-true, lt-ltb, ltb-true, ltb-false, le-leb, leb-true}
 use Rattle.words.specs.Words.{Bytes, Row, if_then_else_}
+use Rattle.words.proofs.Lists.{and-left, and-right, every}
 use Rattle.refusals.specs.declared.Check.{Check}
 use Rattle.refusals.specs.declared.Check.the-variants.{Passes, Fails}
 use Rattle.refusals.specs.Verdicts.{_when_, _⊳_, placed, place, tooManyRows, columnTwice, columnMissing, tooManyCells, cellCount, cellFault, endsEarly, keyStands, noRow, _before_, inText, inHeader, textTooLong, paper}
 use Rattle.refusals.specs.declared.Place.{Place}
 use Rattle.refusals.specs.declared.Verdict.the-variants.{Refused, Accepted}
 use Rattle.refusals.specs.declared.Verdict.{Verdict}
-use Rattle.lines.specs.Lines.{lines, headLine, overlong, slipLines}
+use Rattle.lines.specs.Lines.{lines, headLine, overlong, slipLines, mostBytes}
 use Rattle.cells.specs.Cells.{cut, faultyCell, cellsOf, content}
+use Rattle.cells.specs.declared.State.the-variants.{Fresh}
 use Rattle.fields.specs.Fields.{fields}
-use Rattle.tables.specs.Columns.{Column, columnsOf, references, number, noColumn, columnNumber}
+use Rattle.tables.specs.Columns.{Column, columnsOf, references, number, noColumn, columnNumber, columnAt}
 use Rattle.tables.proofs.Names.{column-number-most}
 use Rattle.tables.specs.declared.Table.{Table}
 use Rattle.tables.specs.declared.Reference.{Reference}
@@ -31,12 +33,15 @@ use Rattle.header.specs.Header.{Header, header, member, repeated, missing, miss
 use Rattle.row_line.specs.RowLine.{rowRead}
 use Rattle.table_lines.specs.Reading.{judged}
 use Rattle.table_reading.specs.Reading.{tableRead}
+use Rattle.delivery.specs.Delivery.{Delivery, reading}
+use Rattle.slips.specs.Slips.{posting}
 use Rattle.slip_line.specs.SlipLine.{badField, numbers, wish, rowIn}
 use Rattle.slip_line.specs.declared.Wish.{Wish}
 use Rattle.slip_line.specs.declared.Wish.the-variants.{Add, Replace, Delete, Unknown}
 use Rattle.block_change.specs.Change.{missingBlock, lineJudged, slipCheck, slipLeaves}
-use Rattle.promises.specs.Promises.{Numbered, anyColumn, endColumn, referringColumn, textNumbers, headerNumbers, rowNumbers, slipNumbers, among, givenIn, givenInSlip, FaultyTable, in-types, in-depots, in-stops, in-points, in-blocks, ReadingNumbered, onward, FirstFault, SlipNumbered}
-use Rattle.promises.proofs.TestLaws.{and-both, or-later}
+use Rattle.promises.specs.Promises.{Numbered, _naming_, unnamed, anyCell, anyColumn, requiredColumn, endColumn, referringColumn, rowLinesOf, rowStep, textNumbers, headerNumbers, rowNumbers, slipNumbers, among, givenIn, givenInSlip, FaultyTable, in-types, in-depots, in-stops, in-points, in-blocks, ReadingNumbered, onward, FirstFault, SlipNumbered}
+use Rattle.promises.proofs.TestLaws.{and-both, and-three, or-later}
+use Rattle.promises.proofs.TextLaws.{slip-lines-few, head-within, row-within, rows-few, cut-few}
 use Rattle.promises.proofs.ExactPromises.{refused-at-first, delivery-refused, slip-refused-at-first}
 
 -- a column that is missing is a required one
@@ -131,16 +136,22 @@ module _ (t : Table) where
       (given-when xs 11 11 (timeFault t row) (λ e. late (end-timed t row e)))
       (given-chain xs (keyStands when knows t row b) (unknown t row b) (given-when xs 9 0 (knows t row b) (λ e. stood)) (given-unknown xs (references t) row b referred))
 
-  given-row : (h : Header) (l : Bytes) (b : Book) → given (rowNumbers t) (judged t h l b) ≡ true
+  -- a line no longer than a text has no cell behind the 65,537th
+  given-cut : (xs : List Numbered) (l : Bytes) → length l ≤ mostBytes → ((k : ℕ) → anyCell k ≡ true → among xs 6 k ≡ true) → given xs (badCut (cut l)) ≡ true
+  given-cut xs l n h =
+      let k : ℕ = faultyCell (cut l) in
+      given-when xs 6 k (ltb 0 k) (λ e. h k (and-both (ltb 0 k) (leb k (suc mostBytes)) e (le-leb k (suc mostBytes) (omega (arith, cut-few Fresh l)))))
+
+  given-row : (h : Header) (l : Bytes) (b : Book) → length l ≤ mostBytes → given (rowNumbers t) (judged t h l b) ≡ true
   unfolding judged among
-  given-row h l b =
+  given-row h l b n =
       let xs = rowNumbers t in
       let cs = contents t h (cellsOf (cut l)) in
       let row = rowRead t h l in
       given-chain xs (tooManyRows when full t b) (cutCheck h (cut l) ⊳ badCell 1 (columnsOf t) cs ⊳ ruled t row b) (given-when xs 5 0 (full t b) (λ e. refl))
       (given-chain xs (cutCheck h (cut l)) (badCell 1 (columnsOf t) cs ⊳ ruled t row b)
       (given-chain xs (badCut (cut l)) (cellCount when not (eqb (length (cellsOf (cut l))) (length h)))
-      (given-when xs 6 (faultyCell (cut l)) (ltb 0 (faultyCell (cut l))) (λ e. e))
+      (given-cut xs l n (λ k e. e))
       (given-when xs 7 0 (not (eqb (length (cellsOf (cut l))) (length h))) (λ e. refl)))
       (given-chain xs (badCell 1 (columnsOf t) cs) (ruled t row b) (given-cells xs 1 (columnsOf t) cs (column-any t))
       (given-ruled xs row b (λ e. e) refl (λ k e. e))))
@@ -158,16 +169,16 @@ module _ (t : Table) where
       go true ih = column-number-most t (content c)
       go false ih = ih
 
-  given-header : (l : Bytes) → given (headerNumbers t) (headerCheck t l) ≡ true
+  given-header : (l : Bytes) → length l ≤ mostBytes → given (headerNumbers t) (headerCheck t l) ≡ true
   unfolding headerCheck among
-  given-header l =
+  given-header l n =
       let xs = headerNumbers t in
       let u = cut l in
       let h = header t (cellsOf u) in
       let c2 = columnMissing (missing t h) when ltb 0 (missing t h) in
       let c3 = columnTwice (repeated [] h) when ltb 0 (repeated [] h) in
       let c4 = tooManyCells when ltb 32 (length h) in
-      given-chain xs (badCut u) (c4 ⊳ c3 ⊳ c2) (given-when xs 6 (faultyCell u) (ltb 0 (faultyCell u)) (λ e. e))
+      given-chain xs (badCut u) (c4 ⊳ c3 ⊳ c2) (given-cut xs l n (λ k e. e))
       (given-chain xs c4 (c3 ⊳ c2) (given-when xs 4 0 (ltb 32 (length h)) (λ e. refl))
       (given-chain xs c3 c2
       (given-when xs 3 (repeated [] h) (ltb 0 (repeated [] h)) (λ e. column-any t (repeated [] h) (ltb-true 0 (repeated [] h) e) (omega (arith, repeated-most [] (cellsOf u)))))
@@ -192,28 +203,42 @@ given-line Delete fs row b =
 
 -- the tables ---------------------------------------------------------------------------------------------------------------
 
-one-of : (v w : Verdict) (p : Place) → (v before w) ≡ Refused p → (v ≡ Refused p) ⊎ (w ≡ Refused p)
-one-of Accepted w p h = inr h
-one-of (Refused q) w p h = inl h
-
 -- what is given on a line of a text stands in its place on paper
 module _ (t : Table) (p : Place) where
-  on-paper : (xs : List Numbered) (line : ℕ) → (among xs (p .number) (p .column) ≡ true) × (p .table ≡ number t) × (p .line ≡ line) →
+  on-paper : (xs : List Numbered) (line : ℕ) → line ≤ suc mostBytes → (among xs (p .number) (p .column) ≡ true) × (p .table ≡ number t) × (p .line ≡ line) →
       (if eqb line 0 then textNumbers else if eqb line 1 then headerNumbers t else rowNumbers t) ≡ xs → givenIn t (paper (Refused p)) ≡ true
-  on-paper xs line h e = rw (h .2, e, h .1, eq-eqb (number t) (number t) refl) (h .0)
+  on-paper xs line n h e = rw (h .2, le-leb line (suc mostBytes) n, e, h .1, eq-eqb (number t) (number t) refl) (h .0)
 
   row-line : (i : ℕ) → (if eqb (2 + i) 0 then textNumbers else if eqb (2 + i) 1 then headerNumbers t else rowNumbers t) ≡ rowNumbers t
   row-line i = rw (ne-eqb (2 + i) 0 (λ e. omega arith), ne-eqb (2 + i) 1 (λ e. omega arith))
 
+  -- the top of a text: 1 by itself, and else a text that is not too long
+  abbrev topOf : Bytes → Bool → Verdict
+  topOf s long = inText (number t) (textTooLong when long) before inHeader (number t) (headerCheck t (headLine (lines s)))
+
+  top-given : (s : Bytes) (q : Bool) → overlong s ≡ q → topOf s q ≡ Refused p → givenIn t (paper (Refused p)) ≡ true
+  unfolding among given
+  top-given s true f e = on-paper textNumbers 0 (omega arith) (given-placed textNumbers (number t) 0 textTooLong p refl e) refl
+  top-given s false f e =
+      let short : length s ≤ mostBytes = ltb-false mostBytes (length s) f in
+      on-paper (headerNumbers t) 1 (omega arith)
+      (given-placed (headerNumbers t) (number t) 1 (headerCheck t (headLine (lines s))) p (given-header t (headLine (lines s)) (omega (arith, head-within s))) e) refl
+
+  top-short : (s : Bytes) (q : Bool) → overlong s ≡ q → topOf s q ≡ Accepted → length s ≤ mostBytes
+  top-short s true f e = let z : _≡_ {A = ℕ} 0 1 = cc in let y : ⊥ = omega arith in absurd y
+  top-short s false f e = ltb-false mostBytes (length s) f
+
   table-given : (s : Bytes) (b : Book) → tableRead t s b ≡ refused p → givenIn t (paper (Refused p)) ≡ true
-  unfolding among
   table-given s b e =
-      ⊎-elim
-      (λ v.
-      ⊎-elim (λ q. on-paper textNumbers 0 (given-placed textNumbers (number t) 0 (textTooLong when overlong s) p (given-when textNumbers 1 0 (overlong s) (λ e. refl)) q) refl)
-      (λ q. on-paper (headerNumbers t) 1 (given-placed (headerNumbers t) (number t) 1 (headerCheck t (headLine (lines s))) p (given-header t (headLine (lines s))) q) refl)
-      (one-of (inText (number t) (textTooLong when overlong s)) (inHeader (number t) (headerCheck t (headLine (lines s)))) p v))
-      (λ f. on-paper (rowNumbers t) (2 + f .1 .at) (given-placed (rowNumbers t) (number t) (2 + f .1 .at) _ p (given-row t (headerOf t s) _ _) (f .1 .fault)) (row-line (f .1 .at)))
+      ⊎-elim (λ v. top-given s (overlong s) refl v)
+      (λ f.
+      let short : length s ≤ mostBytes = top-short s (overlong s) refl (f .0) in
+      let at : f .1 .at < length (rowLinesOf s) = f .1 .inside in
+      let l : Bytes = getD (rowLinesOf s) (f .1 .at) [] in
+      let x : Book = onward (rowStep t s) (take (f .1 .at) (rowLinesOf s)) b in
+      on-paper (rowNumbers t) (2 + f .1 .at) (omega (arith, rows-few s))
+      (given-placed (rowNumbers t) (number t) (2 + f .1 .at) (judged t (headerOf t s) l x) p (given-row t (headerOf t s) l x (omega (arith, row-within s (f .1 .at)))) (f .1 .fault))
+      (row-line (f .1 .at)))
       (refused-at-first t s b p .0 e)
 
 pub reading-numbered : ReadingNumbered
@@ -226,18 +251,146 @@ reading-numbered d p e = go (delivery-refused d p .0 e)
     go (in-points b c x g h i f) = (StopPoint, table-given StopPoint p (d .points) x f)
     go (in-blocks b c x y g h i j f) = (Block, table-given Block p (d .blocks) y f)
 
-slip-on-paper : (p : Place) (xs : List Numbered) (line : ℕ) → (among xs (p .number) (p .column) ≡ true) × (p .table ≡ 5) × (p .line ≡ line) →
+slip-on-paper : (p : Place) (xs : List Numbered) (line : ℕ) → line ≤ suc mostBytes → (among xs (p .number) (p .column) ≡ true) × (p .table ≡ 5) × (p .line ≡ line) →
     (if eqb line 0 then textNumbers else slipNumbers) ≡ xs → givenInSlip (paper (Refused p)) ≡ true
-slip-on-paper p xs line h e = rw (h .2, e, h .1) (h .0)
+slip-on-paper p xs line n h e = rw (h .2, le-leb line (suc mostBytes) n, e, h .1) (h .0)
 
 pub slip-numbered : SlipNumbered
 unfolding among
-slip-numbered s b p e =
-    ⊎-elim (λ v. rw (v .1)) (λ f. on-line (f .1)) (slip-refused-at-first s b p .0 e)
+slip-numbered s b p e = ⊎-elim (λ v. subst (λ (l : List ℕ). givenInSlip l ≡ true) (sym (v .1)) refl) (λ f. on-line (ltb-false mostBytes (length s) (f .0)) (f .1)) (slip-refused-at-first s b p .0 e)
   where
-    on-line : FirstFault slipCheck slipLeaves 5 1 (slipLines s) b p → givenInSlip (paper (Refused p)) ≡ true
-    on-line f =
+    on-line : length s ≤ mostBytes → FirstFault slipCheck slipLeaves 5 1 (slipLines s) b p → givenInSlip (paper (Refused p)) ≡ true
+    on-line short f =
+        let at : f .at < length (slipLines s) = f .inside in
         let l : Bytes = getD (slipLines s) (f .at) [] in
         let x : Book = onward slipLeaves (take (f .at) (slipLines s)) b in
-        slip-on-paper p slipNumbers (1 + f .at)
-        (given-placed slipNumbers 5 (1 + f .at) (slipCheck l x) p (given-line (wish (fields l)) (numbers (fields l)) (rowIn l) x) (f .fault)) (rw (ne-eqb (1 + f .at) 0 (λ e. omega arith)))
+        slip-on-paper p slipNumbers (1 + f .at) (omega (arith, slip-lines-few s))
+        (given-placed slipNumbers 5 (1 + f .at) (slipCheck l x) p (given-line (wish (fields l)) (numbers (fields l)) (rowIn l) x) (f .fault))
+        (rw (ne-eqb (1 + f .at) 0 (λ e. omega arith)))
+
+-- how large the numbers of a place can be -------------------------------------------------------------------------------------
+
+-- two digits and a column that a text can have
+pub record Bounded (home : ℕ) (p : Place) : Type 0 where
+  pub number : p .number ≤ 99
+  pub table : p .table ≡ home
+  pub line : p .line ≤ suc mostBytes
+  pub column : p .column ≤ suc mostBytes
+
+record Near (x : Numbered) : Type 0 where
+  number : x .number ≤ 99
+  column : (k : ℕ) → (x .column) k ≡ true → k ≤ suc mostBytes
+
+unfoldable EachNear : List Numbered → Type 0
+EachNear [] = Unit {0}
+EachNear (x ∷ xs) = Near x × EachNear xs
+
+among-near : (xs : List Numbered) (n k : ℕ) → EachNear xs → among xs n k ≡ true → (n ≤ 99) × (k ≤ suc mostBytes)
+unfolding among EachNear
+among-near [] n k h e = let z : _≡_ {A = ℕ} 0 1 = cc in let y : ⊥ = omega arith in absurd y
+among-near (x ∷ xs) n k h e = go (eqb n (x .number)) refl (among-near xs n k (h .1)) e
+  where
+    near : Near x
+    near = h .0
+
+    go : (q : Bool) → eqb n (x .number) ≡ q → (among xs n k ≡ true → (n ≤ 99) × (k ≤ suc mostBytes)) →
+        (if q then (x .column) k else among xs n k) ≡ true → (n ≤ 99) × (k ≤ suc mostBytes)
+    go true f ih e = (omega (arith, eqb-true n (x .number) f, near .number), near .column k e)
+    go false f ih e = ih e
+
+near-unnamed : (k : ℕ) → unnamed k ≡ true → k ≤ suc mostBytes
+near-unnamed k e = omega (arith, eqb-true k 0 e)
+
+near-cell : (k : ℕ) → anyCell k ≡ true → k ≤ suc mostBytes
+near-cell k e = leb-true k (suc mostBytes) (and-right (ltb 0 k) (leb k (suc mostBytes)) e)
+
+columns-few : (t : Table) → length (columnsOf t) ≤ 11
+unfolding columnsOf
+columns-few VehicleType = omega arith
+columns-few Depot = omega arith
+columns-few Stop = omega arith
+columns-few StopPoint = omega arith
+columns-few Block = omega arith
+
+near-column : (t : Table) (k : ℕ) → anyColumn t k ≡ true → k ≤ suc mostBytes
+near-column t k e = omega (arith, columns-few t, leb-true k (length (columnsOf t)) (and-right (ltb 0 k) (leb k (length (columnsOf t))) e))
+
+-- behind the last column none is required
+required-inside : (cols : List Column) (i : ℕ) → getD cols i noColumn .rules .required ≡ true → i < length cols
+required-inside [] zero e = let z : _≡_ {A = ℕ} 0 1 = cc in let y : ⊥ = omega arith in absurd y
+required-inside [] (suc i) e = let z : _≡_ {A = ℕ} 0 1 = cc in let y : ⊥ = omega arith in absurd y
+required-inside (x ∷ cols) zero e = omega arith
+required-inside (x ∷ cols) (suc i) e = omega (arith, required-inside cols i e)
+
+near-required : (t : Table) (k : ℕ) → requiredColumn t k ≡ true → k ≤ suc mostBytes
+near-required t k e =
+    omega (arith, columns-few t, required-inside (columnsOf t) (k - 1) (and-right (ltb 0 k) (columnAt t (k - 1) .rules .required) e))
+
+near-member : (ks : List ℕ) (k : ℕ) → every (λ j. leb j 11) ks ≡ true → member k ks ≡ true → k ≤ 11
+unfolding member
+near-member [] k h e = let z : _≡_ {A = ℕ} 0 1 = cc in let y : ⊥ = omega arith in absurd y
+near-member (j ∷ ks) k h e = go (eqb k j) refl (near-member ks k (and-right (leb j 11) (every (λ j. leb j 11) ks) h)) e
+  where
+    go : (q : Bool) → eqb k j ≡ q → (member k ks ≡ true → k ≤ 11) → (q || member k ks) ≡ true → k ≤ 11
+    go true f ih e = omega (arith, eqb-true k j f, leb-true j 11 (and-left (leb j 11) (every (λ j. leb j 11) ks) h))
+    go false f ih e = ih e
+
+references-near : (t : Table) → every (λ j. leb j 11) (map (λ x. x .column) (references t)) ≡ true
+references-near VehicleType = refl
+references-near Depot = refl
+references-near Stop = refl
+references-near StopPoint = refl
+references-near Block = refl
+
+near-referring : (t : Table) (k : ℕ) → referringColumn t k ≡ true → k ≤ suc mostBytes
+near-referring t k e = omega (arith, near-member (map (λ x. x .column) (references t)) k (references-near t) e)
+
+near-end : (t : Table) (k : ℕ) → endColumn t k ≡ true → k ≤ suc mostBytes
+near-end t k e = omega (arith, eqb-true k 11 (and-right (eqb (number t) (number Block)) (eqb k 11) e))
+
+near : {n : ℕ} {f : ℕ → Bool} → n ≤ 99 → ((k : ℕ) → f k ≡ true → k ≤ suc mostBytes) → Near (n naming f)
+near h g = record { number = h; column = g }
+
+text-near : EachNear textNumbers
+unfolding EachNear
+text-near = (near (omega arith) near-unnamed, tt)
+
+header-near : (t : Table) → EachNear (headerNumbers t)
+unfolding EachNear
+header-near t = (near (omega arith) near-cell, (near (omega arith) near-unnamed, (near (omega arith) (near-column t), (near (omega arith) (near-required t), tt))))
+
+row-near : (t : Table) → EachNear (rowNumbers t)
+unfolding EachNear
+row-near t = (near (omega arith) near-unnamed, (near (omega arith) near-cell, (near (omega arith) near-unnamed, (near (omega arith) (near-column t), (near (omega arith) (near-end t), (near (omega arith) near-unnamed, (near (omega arith) (near-referring t), tt)))))))
+
+slip-near : EachNear slipNumbers
+unfolding EachNear
+slip-near = (near (omega arith) near-unnamed, (near (omega arith) near-unnamed, (near (omega arith) (near-column Block), (near (omega arith) (near-end Block), (near (omega arith) near-unnamed, (near (omega arith) near-unnamed, (near (omega arith) (near-referring Block), tt)))))))
+
+-- what is given on paper is so bounded
+paper-bounded : (home : ℕ) (p : Place) (xs : List Numbered) → EachNear xs → (leb (p .line) (suc mostBytes) && eqb (p .table) home && among xs (p .number) (p .column)) ≡ true → Bounded home p
+paper-bounded home p xs h e =
+    let k = and-three (leb (p .line) (suc mostBytes)) (eqb (p .table) home) (among xs (p .number) (p .column)) e in
+    let m = among-near xs (p .number) (p .column) h (k .2) in
+    record { number = m .0; table = eqb-true (p .table) home (k .1); line = leb-true (p .line) (suc mostBytes) (k .0); column = m .1 }
+
+by-line : (t : Table) (line : ℕ) → EachNear (if eqb line 0 then textNumbers else if eqb line 1 then headerNumbers t else rowNumbers t)
+by-line t line = go (eqb line 0) (eqb line 1)
+  where
+    go : (p q : Bool) → EachNear (if p then textNumbers else if q then headerNumbers t else rowNumbers t)
+    go true q = text-near
+    go false true = header-near t
+    go false false = row-near t
+
+slip-by-line : (line : ℕ) → EachNear (if eqb line 0 then textNumbers else slipNumbers)
+slip-by-line line = go (eqb line 0)
+  where
+    go : (p : Bool) → EachNear (if p then textNumbers else slipNumbers)
+    go true = text-near
+    go false = slip-near
+
+pub reading-bounded : (d : Delivery) (p : Place) → reading d ≡ refused p → (t : Table) × Bounded (number t) p
+reading-bounded d p e = let r = reading-numbered d p e in let t : Table = r .0 in (t, paper-bounded (number t) p _ (by-line t (p .line)) (r .1))
+
+pub slip-bounded : (s : Bytes) (b : Book) (p : Place) → posting s b ≡ refused p → Bounded 5 p
+slip-bounded s b p e = paper-bounded 5 p _ (slip-by-line (p .line)) (slip-numbered s b p e)

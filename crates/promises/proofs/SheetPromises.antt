@@ -13,7 +13,7 @@ use Rattle.words.proofs.Lists.{and-left, and-right, take-seam}
 use Rattle.refusals.specs.declared.Place.{Place}
 use Rattle.refusals.specs.declared.Verdict.{Verdict}
 use Rattle.refusals.specs.declared.Verdict.the-variants.{Accepted, Refused}
-use Rattle.refusals.specs.Verdicts.{_when_, nowhere, badLoan, _before_, outputShort}
+use Rattle.refusals.specs.Verdicts.{_when_, nowhere, badLoan, _before_, outputShort, paper}
 use Rattle.cells.specs.Cells.{parted}
 use Rattle.numbers.specs.Numbers.{decimal}
 use Rattle.numbers.specs.Putting.{put}
@@ -54,7 +54,7 @@ use Rattle.promises.proofs.TestLaws.{and-three}
 use Rattle.promises.proofs.RuleLaws.{standing-orderly, standing-lawful, laid-keeps}
 use Rattle.promises.proofs.RulePromises.{left-standing}
 use Rattle.promises.proofs.CallPromises.{read-sized, judgedSlip, work-behind, leaves-left, slip-call-answers}
-use Rattle.promises.proofs.FaultLaws.{Bounded, reading-bounded, slip-bounded}
+use Rattle.promises.proofs.NumberedPromises.{Bounded, reading-bounded, slip-bounded}
 
 -- a day ------------------------------------------------------------------------------------------------------------------------
 
@@ -79,8 +79,8 @@ unsized d s book work n = rw (ne-eqb (length work) 512 n)
 
 pub wrong-day-loan-stays : WrongDayLoanStays
 wrong-day-loan-stays d s book work = (
-  λ m. wrong-book m (workSized work),
-  λ n. let u = unsized d s book work n in (ap (λ (o : Outcome). o .verdict) u, ap (λ (o : Outcome). o .work) u),
+  λ m. let w = wrong-book m (workSized work) in (ap paper (w .0), w .1),
+  λ n. let u = unsized d s book work n in (ap (λ (o : Outcome). paper (o .verdict)) u, ap (λ (o : Outcome). o .work) u),
   λ m n. ap (λ (o : Outcome). o .book) (unsized d s book work n) ∙ rw (eq-eqb (length book) 2560 m),
   λ n. ap (λ (o : Outcome). o .work) (day-sized d s book work n) ∙ work-left (readCall d book .verdict) (readCall d book .book) ∙ rw (eq-eqb (length work) 512 n),
 )
@@ -160,9 +160,9 @@ tables-few Stop = omega arith
 tables-few StopPoint = omega arith
 tables-few Block = omega arith
 
-refusal-short : (top table : ℕ) (p : Place) → top ≤ 13 → table ≤ 6 → Bounded top table p → length (refusalText p) ≤ 19
+refusal-short : (table : ℕ) (p : Place) → table ≤ 6 → Bounded table p → length (refusalText p) ≤ 19
 unfolding bytes linesWritten
-refusal-short top table p n t h =
+refusal-short table p t h =
     let ns : List ℕ = p .number ∷ p .table ∷ p .line ∷ p .column ∷ [] in
     let l : length (sheetLine (bytes "X") ns ++ (10 ∷ [])) ≡ length (sheetLine (bytes "X") ns) + 1 = length-append (sheetLine (bytes "X") ns) (10 ∷ []) in
     omega (
@@ -253,11 +253,11 @@ unfolding sheet
 sheet-fits d s = omega (arith, go (reading d) refl)
   where
     behind : (b : Book) → reading d ≡ leaves b → (r : Result) → posting s b ≡ r → length (printed r) ≤ 14346
-    behind b e (refused p) f = omega (arith, refusal-short 13 5 p (omega arith) (omega arith) (slip-bounded s b p f))
+    behind b e (refused p) f = omega (arith, refusal-short 5 p (omega arith) (slip-bounded s b p f))
     behind b e (leaves c) f = sheet-short c (left-standing c (leaves-left s b c (d, e) f))
 
     go : (r : Result) → reading d ≡ r → length (printed (r ▹ posting s)) ≤ 14346
-    go (refused p) e = let r = reading-bounded d p e in omega (arith, refusal-short 11 (number (r .0)) p (omega arith) (tables-few (r .0)) (r .1))
+    go (refused p) e = let r = reading-bounded d p e in omega (arith, refusal-short (number (r .0)) p (tables-few (r .0)) (r .1))
     go (leaves b) e = behind b e (posting s b) refl
 
 -- a text for which there is room is put at the head of the output

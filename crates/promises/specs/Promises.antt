@@ -3,7 +3,7 @@ use mathlib.Core.Path.{_≡_}
 use mathlib.Core.List.{List, [], _∷_, map, _++_}
 use mathlib.Core.Logic.{_↔_, _⊎_}
 use mathlib.Core.Bool.{false, true, not, Bool, _&&_, _||_}
-use Prim.Native.Nat.{_≤_, ℕ, _<_, _+_, _-_}
+use Prim.Native.Nat.{_≤_, ℕ, suc, _<_, _+_, _-_}
 use lib.ListN.{length, replicate, getD, take, drop}
 use lib.Dec.{eqb, ltb, leb}
 use Rattle.words.specs.Words.{Bytes, Row, if_then_else_, same}
@@ -13,8 +13,7 @@ use Rattle.refusals.specs.declared.Verdict.{Verdict}
 use Rattle.refusals.specs.Verdicts.{place, placed, _when_, nowhere, notThere, passes, paper}
 use Rattle.refusals.specs.declared.Check.{Check}
 use Rattle.refusals.specs.declared.Check.the-variants.{Passes, Fails}
-use Rattle.refusals.specs.declared.Cell.the-variants.{Number}
-use Rattle.lines.specs.Lines.{lines, rowLines, slipLines, overlong}
+use Rattle.lines.specs.Lines.{lines, rowLines, slipLines, overlong, mostBytes}
 use Rattle.cells.specs.Cells.{stretch}
 use Rattle.fields.specs.Fields.{fields}
 use Rattle.rows.specs.Room.{zeros}
@@ -39,7 +38,7 @@ use Rattle.table_reading.specs.Reading.{tableRead}
 use Rattle.delivery.specs.Delivery.{Delivery, reading, Left}
 use Rattle.delivery.specs.Calls.{readCall, ReadPermits}
 use Rattle.delivery.specs.Calls as read-call
-use Rattle.cell_question.specs.CellQuestion.{cellAsked, answered, cellAt, stretchOf, CellPermits, StretchPermits}
+use Rattle.cell_question.specs.CellQuestion.{cellAsked, cellPaper, cellAt, stretchOf, CellPermits, StretchPermits}
 use Rattle.cell_question.specs.declared.CellAnswer.{CellAnswer}
 use Rattle.slip_line.specs.declared.Wish.{Wish}
 use Rattle.slip_line.specs.declared.Wish.the-variants.{Add, Replace, Delete, Unknown}
@@ -97,9 +96,9 @@ DeterminedForC = ((d : Delivery) (book : List Row) → Single (ℕ × List ℕ �
 abbrev pub unnamed : ℕ → Bool
 unnamed k = eqb k 0
 
--- a "cell counted from 1", known or not
+-- a "cell counted from 1", known or not: a text of 65,536 bytes has none behind the 65,537th
 abbrev pub anyCell : ℕ → Bool
-anyCell k = ltb 0 k
+anyCell k = ltb 0 k && leb k (suc mostBytes)
 
 -- a column of the table, a required one, one that refers to another table
 abbrev pub anyColumn : Table → ℕ → Bool
@@ -161,18 +160,19 @@ unfoldable pub among : List Numbered → ℕ → ℕ → Bool
 among [] n k = false
 among (x ∷ xs) n k = if eqb n (x .number) then (x .column) k else among xs n k
 
--- a refusal on paper: number, table, line, column. In a text of table t, by its line
+-- a refusal on paper: number, table, line, column. In a text of table t, by its line, of which a text has no more than bytes
 abbrev pub givenIn : Table → List ℕ → Bool
 givenIn t p =
     let line = getD p 2 0 in
     let numbers = if eqb line 0 then textNumbers else if eqb line 1 then headerNumbers t else rowNumbers t in
-    eqb (getD p 1 0) (number t) && among numbers (getD p 0 0) (getD p 3 0)
+    leb line (suc mostBytes) && eqb (getD p 1 0) (number t) && among numbers (getD p 0 0) (getD p 3 0)
 
 -- in a slip, whose table number is 5
 abbrev pub givenInSlip : List ℕ → Bool
 givenInSlip p =
-    let numbers = if eqb (getD p 2 0) 0 then textNumbers else slipNumbers in
-    eqb (getD p 1 0) 5 && among numbers (getD p 0 0) (getD p 3 0)
+    let line = getD p 2 0 in
+    let numbers = if eqb line 0 then textNumbers else slipNumbers in
+    leb line (suc mostBytes) && eqb (getD p 1 0) 5 && among numbers (getD p 0 0) (getD p 3 0)
 
 -- a reading gives no other number at no other place
 abbrev pub ReadingNumbered : Type 0
@@ -181,6 +181,11 @@ ReadingNumbered = (d : Delivery) (p : Place) → reading d ≡ refused p → (t 
 -- nor does a slip
 abbrev pub SlipNumbered : Type 0
 SlipNumbered = (s : Bytes) (b : Book) (p : Place) → posting s b ≡ refused p → givenInSlip (paper (Refused p)) ≡ true
+
+-- "this paper's number and values": of a verdict its number, table, line and column (`paper`), of a cell's answer its four (`values`).
+-- "(0 for 0, 14, 15, 16)": a number without a place
+abbrev pub unplaced : ℕ → List ℕ
+unplaced n = n ∷ 0 ∷ 0 ∷ 0 ∷ []
 
 -- "A refused reading leaves an empty book"
 abbrev pub RefusedReadingEmpties : Type 0
@@ -207,19 +212,19 @@ RefusedSheetKeeps = (v : Verdict) (book : List Row) (out : Bytes) (p : Place) �
 -- what is lent at another length is 16 and stays as it came
 abbrev pub WrongBookStays : Type 0
 WrongBookStays = (d : Delivery) (slice : List Row) → (length slice ≡ bookRows → ⊥) →
-    (readCall d slice .verdict ≡ Refused (place 16 0 0 0)) × (readCall d slice .book ≡ slice)
+    (paper (readCall d slice .verdict) ≡ unplaced 16) × (readCall d slice .book ≡ slice)
 
 abbrev pub WrongWorkStays : Type 0
 WrongWorkStays = (s : Bytes) (book work : List Row) → (length work ≡ workRows → ⊥) →
-    (slipCall s book work .verdict ≡ Refused (place 16 0 0 0)) × (slipCall s book work .book ≡ book) × (slipCall s book work .work ≡ work)
+    (paper (slipCall s book work .verdict) ≡ unplaced 16) × (slipCall s book work .book ≡ book) × (slipCall s book work .work ≡ work)
 
 -- lent to a day likewise, "before all else: that one stays as it came, and the rest ends as after any refusal": the book empty, the working
 -- area all zero
 abbrev pub WrongDayLoanStays : Type 0
 WrongDayLoanStays = (d : Delivery) (s : Bytes) (book work : List Row) →
     let day = dayCall d s book work in
-    ((length book ≡ bookRows → ⊥) → (day .verdict ≡ Refused (place 16 0 0 0)) × (day .book ≡ book))
-    × ((length work ≡ workRows → ⊥) → (day .verdict ≡ Refused (place 16 0 0 0)) × (day .work ≡ work))
+    ((length book ≡ bookRows → ⊥) → (paper (day .verdict) ≡ unplaced 16) × (day .book ≡ book))
+    × ((length work ≡ workRows → ⊥) → (paper (day .verdict) ≡ unplaced 16) × (day .work ≡ work))
     × (length book ≡ bookRows → (length work ≡ workRows → ⊥) → day .book ≡ laid empty)
     × (length work ≡ workRows → day .work ≡ replicate workRows zeros)
 
@@ -232,11 +237,15 @@ LentRowsUnread = ((d : Delivery) (book other : List Row) → length book ≡ boo
 -- 16 is the answer too to a book that no accepted delivery leaves
 abbrev pub BadBookRefused : Type 0
 BadBookRefused = (book : List Row) → ((b : Book) → Left b → book ≡ laid b → ⊥) →
-    ((s : Bytes) (work : List Row) → slipCall s book work .verdict ≡ Refused (place 16 0 0 0))
-    × ((out : Bytes) → writeCall book out .verdict ≡ Refused (place 16 0 0 0))
-    × ((version type : ℕ) → typeCall book version type ≡ typeAnswered (Refused (place 16 0 0 0)) 0 0)
-    × ((version day depot block : ℕ) → blockCall book version day depot block ≡ blockAnswered (Refused (place 16 0 0 0)) [])
-    × ((out : Bytes) → sheetCall Accepted book out .verdict ≡ Refused (place 16 0 0 0))
+    ((s : Bytes) (work : List Row) → paper (slipCall s book work .verdict) ≡ unplaced 16)
+    × ((out : Bytes) → paper (writeCall book out .verdict) ≡ unplaced 16)
+    × ((version type : ℕ) →
+    let answer = typeCall book version type in
+    (paper (answer .verdict) ≡ unplaced 16) × (answer .seconds ≡ 0) × (answer .count ≡ 0))
+    × ((version day depot block : ℕ) →
+    let answer = blockCall book version day depot block in
+    (paper (answer .verdict) ≡ unplaced 16) × (answer .numbers ≡ replicate 7 0))
+    × ((out : Bytes) → paper (sheetCall Accepted book out .verdict) ≡ unplaced 16)
 
 -- and every lent slice ends as long as it came
 abbrev pub LengthsKept : Type 0
@@ -300,7 +309,7 @@ SlipAcceptedExactly = (s : Bytes) (b c : Book) → (posting s b ≡ leaves c) �
 abbrev pub SlipRefusedAtFirst : Type 0
 SlipRefusedAtFirst = (s : Bytes) (b : Book) (p : Place) →
     (posting s b ≡ refused p)
-    ↔ (((overlong s ≡ true) × (p ≡ place 1 5 0 0)) ⊎ ((overlong s ≡ false) × FirstFault slipCheck slipLeaves 5 1 (slipLines s) b p))
+    ↔ (((overlong s ≡ true) × (paper (Refused p) ≡ 1 ∷ 5 ∷ 0 ∷ 0 ∷ [])) ⊎ ((overlong s ≡ false) × FirstFault slipCheck slipLeaves 5 1 (slipLines s) b p))
 
 -- the five tables in order: each is read on the book that the ones before it leave
 pub record InOrder (d : Delivery) (b : Book) : Type 0 where
@@ -389,7 +398,7 @@ CellsAccepted = (d : Delivery) (b : Book) (t : Table) (i k : ℕ) → reading d 
 -- and in a column that the book keeps the answer is the number in that line's row, which stands in the book
 abbrev pub CellsAgree : Type 0
 CellsAgree = (d : Delivery) (b : Book) (t : Table) (i k : ℕ) → reading d ≡ leaves b → i < length (rowLinesOf (textOf t d)) → 1 ≤ k → k ≤ keptWidth t →
-    (cellAsked (textOf t d) (number t) (2 + i) k ≡ answered Accepted (Number (column k (rowAt t (textOf t d) i))))
+    (cellPaper (cellAsked (textOf t d) (number t) (2 + i) k) ≡ 0 ∷ 0 ∷ 0 ∷ 0 ∷ 1 ∷ column k (rowAt t (textOf t d) i) ∷ 0 ∷ 0 ∷ [])
     × (found (keyWidth t) (rowAt t (textOf t d) i) (rows t b) ≡ rowAt t (textOf t d) i)
 
 -- "The stretch is the caller's own bytes between the quotes, or the whole cell where unquoted": it stands in the text where the answer says
@@ -411,13 +420,15 @@ WritesAgain = (d : Delivery) (b c : Book) → reading d ≡ leaves b → reading
 
 -- what is written is never too long to be read
 abbrev pub WrittenFits : Type 0
-WrittenFits = (b : Book) → Left b → length (written b) ≤ 65536
+WrittenFits = (b : Book) → Left b → length (written b) ≤ mostBytes
 
 -- a write call answers the text's length and puts the text at the head of the output, or is 14 where there is no room for it
 abbrev pub WriteCallAnswers : Type 0
 WriteCallAnswers = (b : Book) (out : Bytes) → Left b →
     (length (written b) ≤ length out → writeCall (laid b) out ≡ write-call.outcome Accepted (length (written b)) (written b ++ drop (length (written b)) out))
-    × (length out < length (written b) → writeCall (laid b) out ≡ write-call.outcome (Refused (place 14 0 0 0)) 0 out)
+    × (length out < length (written b) →
+    let w = writeCall (laid b) out in
+    (paper (w .verdict) ≡ unplaced 14) × (w .size ≡ 0) × (w .out ≡ out))
 
 -- a day is the reading, and then the slip on the book that an accepted one leaves, whatever was lent
 abbrev pub DayCallAnswers : Type 0
@@ -607,7 +618,7 @@ RefusedAlike = (d : Delivery) (b : Book) (ss : List Bytes) (s : Bytes) (i : ℕ)
     let line = getD (slipLines s) i [] in
     let blocks = midway ss s i b .blocks in
     wellFormed line ≡ true → wish (fields line) ≡ Add → reading (with-blocks (writtenWith (rowIn line) blocks) d) ≡ refused p →
-    (checkAt slipCheck slipLeaves (slipLines s) i (run ss b) ≡ Fails (p .number) (p .column)) × (p .table ≡ 4) × (p .line ≡ 2 + length blocks)
+    (checkAt slipCheck slipLeaves (slipLines s) i (run ss b) ≡ Fails (p .number) (p .column)) × (p .table ≡ number Block) × (p .line ≡ 2 + length blocks)
 
 -- some line of a slip does this, as the book stands before that line
 unfoldable pub someLine : (Bytes → Book → Bool) → List Bytes → Book → Bool
