@@ -6,6 +6,7 @@ use Rattle.refusals.specs.Verdicts.{_when_, noBlock, _⊳_, tooManyRows, endsEa
 use Rattle.refusals.specs.declared.Check.{Check}
 use Rattle.fields.specs.Fields.{fields}
 use Rattle.rows.specs.Rows.{replaced, removed}
+use Rattle.tables.specs.Columns.{keyWidth}
 use Rattle.tables.specs.declared.Table.the-variants.{Block}
 use Rattle.book.specs.Book.{Book, knows, full, entered, with-rows}
 use Rattle.rules.specs.Rules.{timeFault, unknown, ruled}
@@ -37,8 +38,8 @@ lineJudged Delete fs row b =
 abbrev pub granted : Wish → Row → Book → Book
 granted Unknown row b = b
 granted Add row b = entered Block row b
-granted Replace row b = with-rows Block (replaced 4 row (b .blocks)) b
-granted Delete row b = with-rows Block (removed 4 row (b .blocks)) b
+granted Replace row b = with-rows Block (replaced (keyWidth Block) row (b .blocks)) b
+granted Delete row b = with-rows Block (removed (keyWidth Block) row (b .blocks)) b
 
 -- a line, and what it leaves
 abbrev pub slipCheck : Bytes → Book → Check

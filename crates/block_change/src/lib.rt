@@ -14,11 +14,10 @@ ghost use Rattle.slip_line.specs.SlipLine.{wish};
 ghost use Rattle.block_change.specs.Taking.{Taken};
 use fields::Fields;
 use refusals::Check;
+use rows::NUMBERS;
 use rows::ROWS;
 use rows::Row;
 use rows::Spot;
-use slip_line::BLOCK_NUMBERS;
-use slip_line::KEY_NUMBERS;
 use slip_line::Wish;
 use tables::Columns;
 use tables::Table;
@@ -59,7 +58,7 @@ fn add_block(
             count: n,
         };
     }
-    let read = slip_line::read_fields(line, marks, columns, BLOCK_NUMBERS);
+    let read = slip_line::read_fields(line, marks, columns, NUMBERS);
     let row = read.row;
     let fields = read.check;
     match fields {
@@ -107,7 +106,7 @@ fn replace_block(
     requires { ⌜ FieldsOf (now line) marks × (wish (fields (now line)) ≡ Wish.Replace) × OnShelf Table.Block (now book) (now slots) (now order) n × (now columns ≡ listed Table.Block) ⌝ }
     ensures { λ r. ⌜ Taken (now (line .entry)) (now (book .entry)) (now (slots .entry)) (now (slots .exit)) (now (order .entry)) (now (order .entry)) n r ⌝ }
 {
-    let read = slip_line::read_fields(line, marks, columns, BLOCK_NUMBERS);
+    let read = slip_line::read_fields(line, marks, columns, NUMBERS);
     let row = read.row;
     match intake::spot_of(Table::Block, &slots[..], order, n, &row) {
         Spot::At(at) => {
@@ -146,7 +145,7 @@ fn delete_block(
     requires { ⌜ FieldsOf (now line) marks × (wish (fields (now line)) ≡ Wish.Delete) × OnShelf Table.Block (now book) (now slots) (now order) n × (now columns ≡ listed Table.Block) ⌝ }
     ensures { λ r. ⌜ Taken (now (line .entry)) (now (book .entry)) (now (slots .entry)) (now (slots .entry)) (now (order .entry)) (now (order .exit)) n r ⌝ }
 {
-    let read = slip_line::read_fields(line, marks, columns, KEY_NUMBERS);
+    let read = slip_line::read_fields(line, marks, columns, Table::BLOCK_KEY);
     let row = read.row;
     let fields = read.check;
     match intake::spot_of(Table::Block, slots, &order[..], n, &row) {

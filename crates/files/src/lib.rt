@@ -2,7 +2,7 @@
 ghost use mathlib.Core.Path.{_≡_};
 ghost use Prim.Native.Nat.{_≤_};
 ghost use Rattle.io.specs.Counts.{Counts};
-ghost use Rattle.files.specs.Texts.{Roomy, textAt};
+ghost use Rattle.files.specs.Texts.{Roomy, textAt, textRoom};
 
 // How many bytes each text of a delivery has, TEXT_ROOM where the file has more.
 pub struct Lengths {
@@ -14,7 +14,7 @@ pub struct Lengths {
 }
 
 // Room for a text: one byte more than it may have, so that one that is too long is told.
-pub const TEXT_ROOM: usize = 65537;
+pub const TEXT_ROOM: usize = lines::MOST_BYTES + 1;
 
 // Where each text of a folder begins in the room, and how much room they need together.
 pub const VEHICLE_TYPE: usize = 0;
@@ -65,7 +65,7 @@ pub fn load_or_tell(path: &[u8], buffer: &mut [u8]) -> usize
 
 // A file at its place in the room.
 fn load_at(path: &[u8], room: &mut [u8], from: usize, tell: bool) -> usize
-    ensures { λ r. ⌜ r ≤ 65537 ⌝ }
+    ensures { λ r. ⌜ r ≤ textRoom ⌝ }
 {
     if SLIP < from {
         return 0;
@@ -100,7 +100,7 @@ pub fn load_delivery(room: &mut [u8], tell: bool) -> Lengths
 
 // The day's slip.
 pub fn load_slip(room: &mut [u8]) -> usize
-    ensures { λ r. ⌜ r ≤ 65537 ⌝ }
+    ensures { λ r. ⌜ r ≤ textRoom ⌝ }
 {
     load_at(b"slip.txt", room, SLIP, false)
 }

@@ -14,6 +14,7 @@ ghost use Rattle.book.specs.Book.{rows};
 ghost use Rattle.rules.specs.Points.{Referable};
 ghost use Rattle.keeping.specs.Keeping.{ranged, lawful, keepsRule};
 use refusals::Check;
+use rows::NUMBERS;
 use rows::Row;
 use tables::BOOK_ROWS;
 use tables::Columns;
@@ -54,7 +55,7 @@ fn rest_zero(t: Table, row: Row) -> bool
 {
     let mut zero = true;
     let mut i = t.kept();
-    'columns: while i < 11 {
+    'columns: while i < NUMBERS {
         if row[i] != 0 {
             zero = false;
             break 'columns;

@@ -9,6 +9,7 @@ use Rattle.refusals.specs.Verdicts.{_when_, _before_, nowhere, badLoan, notTher
 use Rattle.refusals.specs.declared.Verdict.{Verdict}
 use Rattle.refusals.specs.declared.Verdict.the-variants.{Accepted, Refused}
 use Rattle.rows.specs.Rows.{found}
+use Rattle.tables.specs.Columns.{keyWidth}
 use Rattle.tables.specs.declared.Table.the-variants.{VehicleType, Block}
 use Rattle.book.specs.Book.{knows}
 use Rattle.book.specs.Room.{bookOf}
@@ -41,7 +42,7 @@ abbrev pub blockCall : List Row → ℕ → ℕ → ℕ → ℕ → BlockAnswer
 blockCall book version day depot block =
     let b = bookOf book in
     let key = version ∷ day ∷ depot ∷ block ∷ [] in
-    blockAnswered (askedVerdict book (knows Block key b)) (seven (found 4 key (b .blocks)))
+    blockAnswered (askedVerdict book (knows Block key b)) (seven (found (keyWidth Block) key (b .blocks)))
 
 -- what the contracts of `type_answer` and `block_answer` permit: one answer
 abbrev pub TypePermits : List Row → ℕ → ℕ → TypeAnswer → Type 0

@@ -6,6 +6,7 @@ ghost use Rattle.words.specs.Words.{if_then_else_};
 ghost use Rattle.refusals.specs.Verdicts.{nowhere};
 ghost use Rattle.rows.specs.Rows.{wide, found};
 ghost use Rattle.rows.specs.Spots.{rowOf};
+ghost use Rattle.tables.specs.Columns.{keyWidth};
 ghost use Rattle.book.specs.Room.{bookOf};
 ghost use Rattle.book.specs.Holding.{Sound};
 ghost use Rattle.rules.specs.Rules.{seconds};
@@ -125,7 +126,7 @@ fn block_key(version: u64, day_type: u64, depot: u64, block: u64) -> Row
 // The block of a key, or zeros.
 fn block_of(book: &[Row], row: Row) -> Row
     requires { ⌜ Sound (now book) ⌝ }
-    ensures { λ r. ⌜ r ≡ rowOf (found 4 row (bookOf (now (book .entry)) .blocks)) ⌝ }
+    ensures { λ r. ⌜ r ≡ rowOf (found (keyWidth Table.Block) row (bookOf (now (book .entry)) .blocks)) ⌝ }
 {
     let k = Table::Block.keys();
     let table = book::table_of(book, Table::Block);

@@ -5,10 +5,14 @@ use Prim.Native.Nat.{ℕ, _-_}
 use lib.ListN.{replicate, length}
 use lib.Dec.{eqb}
 use Rattle.words.specs.Words.{Row, if_then_else_, same}
-use Rattle.rows.specs.Rows.{column}
+use Rattle.rows.specs.Rows.{column, rowNumbers}
+
+-- "There are at most 512 rows in each table."
+abbrev pub mostRows : ℕ
+mostRows = 512
 
 abbrev pub zeros : Row
-zeros = replicate 11 0
+zeros = replicate rowNumbers 0
 
 -- rows, filled up with rows of zeros to the room that there is
 abbrev pub filled : ℕ → List Row → List Row

@@ -8,9 +8,13 @@ use Rattle.words.specs.Words.{Row, if_then_else_}
 use Rattle.rows.specs.declared.Order.{Order}
 use Rattle.rows.specs.declared.Order.the-variants.{Less, Same, More}
 
--- a row of the book has 11 numbers: those that are kept, and zeros behind them
+-- "the 11 numbers of each block": as many has every row of the book
+abbrev pub rowNumbers : ℕ
+rowNumbers = 11
+
+-- the numbers that are kept of a row, and zeros behind them
 abbrev pub wide : List ℕ → Row
-wide ns = ns ++ replicate (11 - length ns) 0
+wide ns = ns ++ replicate (rowNumbers - length ns) 0
 
 -- the number in column k, counted from 1
 abbrev pub column : ℕ → Row → ℕ

@@ -11,8 +11,10 @@ ghost use Rattle.rows.specs.Room.{filled, used, zeros, sameRows};
 ghost use Rattle.rows.specs.Spots.{Holds, spot, rowOf, holds};
 ghost use Rattle.rows.specs.declared.Order.the-variants.{Less};
 
-// A row's numbers; its key is the first k of them.
-pub type Row = [u64; 11];
+// How many numbers a row has; its key is the first k of them.
+pub const NUMBERS: usize = 11;
+
+pub type Row = [u64; NUMBERS];
 
 pub enum Order {
     Less,
@@ -26,10 +28,10 @@ pub enum Spot {
     Gap(usize),
 }
 
-// The room of a table: a list of rows is made as `[[0; 11]; ROWS]` and handed on as a slice.
+// The room of a table: a list of rows is made as `[NO_ROW; ROWS]` and handed on as a slice.
 pub const ROWS: usize = 512;
 
-pub const NO_ROW: Row = [0; 11];
+pub const NO_ROW: Row = [0; NUMBERS];
 
 // The order of two rows by their first k numbers, for every k: past their end both rows read as 0.
 pub fn compare(a: &Row, b: &Row, k: usize) -> Order
@@ -40,7 +42,7 @@ pub fn compare(a: &Row, b: &Row, k: usize) -> Order
     let right = &b[..];
     let mut order = Order::Same;
     let mut i = 0;
-    'keys: while i < 11 {
+    'keys: while i < NUMBERS {
         if i == k {
             break 'keys;
         }
@@ -118,7 +120,7 @@ pub fn row_of(list: &[Row], k: usize, row: Row) -> Row
 {
     match seek(list, k, row) {
         Spot::At(i) => list[i],
-        Spot::Gap(_) => [0; 11],
+        Spot::Gap(_) => NO_ROW,
     }
 }
 
@@ -139,7 +141,7 @@ pub fn clear(list: &mut [Row])
 {
     let mut i = 0;
     'rows: while i < list.len() {
-        list[i] = [0; 11];
+        list[i] = [0; NUMBERS];
         i += 1;
     }
 }
@@ -217,7 +219,7 @@ fn blank(row: &Row) -> bool
     let numbers = &row[..];
     let mut zero = true;
     let mut i = 0;
-    'columns: while i < 11 {
+    'columns: while i < NUMBERS {
         if numbers[i] != 0 {
             zero = false;
             break 'columns;

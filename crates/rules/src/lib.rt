@@ -4,7 +4,7 @@ ghost use mathlib.Core.Bool.{true};
 ghost use Prim.Native.Nat.{_≤_, _<_};
 ghost use lib.ListN.{length, getD};
 ghost use Rattle.refusals.specs.Verdicts.{passes};
-ghost use Rattle.rows.specs.Rows.{wide, column};
+ghost use Rattle.rows.specs.Rows.{wide, column, rowNumbers};
 ghost use Rattle.tables.specs.Columns.{references, ref};
 ghost use Rattle.book.specs.Room.{bookOf};
 ghost use Rattle.book.specs.Holding.{Sound};
@@ -62,7 +62,7 @@ pub fn time_fault(t: Table, row: Row) -> bool
 
 // The key that a column names in a table: of a stop point its stop's number stands one column before.
 fn named(to: Table, column: usize, row: Row) -> Row
-    requires { ⌜ (2 ≤ column) × (column ≤ 11) ⌝ }
+    requires { ⌜ (2 ≤ column) × (column ≤ rowNumbers) ⌝ }
     ensures { λ r. ⌜ r ≡ wide (named to column row) ⌝ }
 {
     match to {

@@ -6,6 +6,7 @@ ghost use Prim.Native.Nat.{ℕ, _+_, _≤_, _<_, _*_};
 ghost use lib.ListN.{length, getD};
 ghost use Rattle.words.specs.Words.{bytes};
 ghost use Rattle.numbers.specs.Putting.{put};
+ghost use Rattle.rows.specs.Room.{mostRows};
 ghost use Rattle.book.specs.Room.{bookOf};
 ghost use Rattle.keeping.specs.Keeping.{keepsRule};
 ghost use Rattle.writer.specs.Writing.{linesWritten};
@@ -60,7 +61,7 @@ fn type_numbers(book: &[Row], i: usize) -> [u64; 4]
 // How long the lines of all types are; and the lines, each at the place the last one ended.
 fn types_length(book: &[Row], n: usize) -> usize
     requires { ⌜ (keepsRule (now book) ≡ true) × (n ≡ length (bookOf (now book) .types)) ⌝ }
-    ensures { λ r. ⌜ (r ≡ length (linesWritten (map (typeLine (bookOf (now (book .entry)) .blocks)) (bookOf (now (book .entry)) .types)))) × (r ≤ 512 * 86) ⌝ }
+    ensures { λ r. ⌜ (r ≡ length (linesWritten (map (typeLine (bookOf (now (book .entry)) .blocks)) (bookOf (now (book .entry)) .types)))) × (r ≤ mostRows * 86) ⌝ }
 {
     let mut size = 0;
     let mut i = 0;

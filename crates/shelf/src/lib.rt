@@ -2,7 +2,7 @@
 ghost use mathlib.Core.Path.{_≡_};
 ghost use mathlib.Core.Bool.{true};
 ghost use mathlib.Core.List.{_∷_, _++_};
-ghost use Prim.Native.Nat.{_≤_, suc, _-_, _<_};
+ghost use Prim.Native.Nat.{_≤_, suc, _-_, _<_, _^_};
 ghost use lib.ListN.{length, getD, take, drop, set};
 ghost use Rattle.rows.specs.Rows.{rising};
 ghost use Rattle.rows.specs.Spots.{spot};
@@ -12,9 +12,9 @@ use rows::Order;
 use rows::Row;
 use rows::Spot;
 
-// The order of a shelf on which nothing has moved.
+// The order of a shelf on which nothing has moved: no more slots than two bytes tell apart.
 pub fn number_slots(order: &mut [u16])
-    requires { ⌜ length (now order) ≤ 65536 ⌝ }
+    requires { ⌜ length (now order) ≤ 2 ^ 16 ⌝ }
     ensures { λ _. ⌜ now (order .exit) ≡ upFrom 0 (length (now (order .entry))) ⌝ }
 {
     let mut i = 0;

@@ -7,6 +7,7 @@ use Rattle.words.specs.Words.{Bytes}
 use Rattle.cells.specs.Marks.{BoundsOf}
 use Rattle.numbers.specs.Numbers.{value}
 use Rattle.fields.specs.Fields.{fields}
+use Rattle.fields.specs.Marks.{fieldBounds}
 use Rattle.fields.specs.declared.Fields.{Fields}
 use Rattle.rows.specs.Rows.{wide}
 use Rattle.values.specs.Judged.{rowed}
@@ -19,4 +20,4 @@ fieldsRead fs = rowed (badField fs) (wide (map value fs))
 
 -- where the fields of a line stand on it
 abbrev pub FieldsOf : Bytes → Fields → Type 0
-FieldsOf line marks = (marks .count ≡ length (fields line)) × BoundsOf (fields line) 13 (marks .bounds)
+FieldsOf line marks = (marks .count ≡ length (fields line)) × BoundsOf (fields line) fieldBounds (marks .bounds)

@@ -7,7 +7,7 @@ use Rattle.words.specs.Words.{Bytes, if_then_else_, bytes, same, Row}
 use Rattle.refusals.specs.declared.Check.{Check}
 use Rattle.numbers.specs.Numbers.{value}
 use Rattle.fields.specs.Fields.{fields}
-use Rattle.tables.specs.Columns.{columnsOf}
+use Rattle.tables.specs.Columns.{columnsOf, keyWidth, keptWidth}
 use Rattle.tables.specs.declared.Table.the-variants.{Block}
 use Rattle.values.specs.Values.{badCell}
 use Rattle.slip_line.specs.declared.Wish.{Wish}
@@ -24,9 +24,9 @@ letter f = if same f (bytes "A") then Add else if same f (bytes "R") then Replac
 
 -- "`A` and 11 numbers: add. `R` and 11: replace. `D` and the 4 key numbers: delete."
 abbrev pub counted : Wish → ℕ → Wish
-counted Add n = if eqb n 11 then Add else Unknown
-counted Replace n = if eqb n 11 then Replace else Unknown
-counted Delete n = if eqb n 4 then Delete else Unknown
+counted Add n = if eqb n (keptWidth Block) then Add else Unknown
+counted Replace n = if eqb n (keptWidth Block) then Replace else Unknown
+counted Delete n = if eqb n (keyWidth Block) then Delete else Unknown
 counted Unknown n = Unknown
 
 -- 12, where it is Unknown: "slip line of unknown kind or field count"

@@ -5,12 +5,14 @@ ghost use Prim.Native.Nat.{_≤_};
 ghost use lib.ListN.{length};
 ghost use Rattle.words.specs.Words.{same};
 ghost use Rattle.fields.specs.Fields.{fields};
+ghost use Rattle.rows.specs.Rows.{rowNumbers};
 ghost use Rattle.tables.specs.Listing.{listed};
 ghost use Rattle.slip_line.specs.SlipLine.{counted, letter, wish, numbers};
 ghost use Rattle.slip_line.specs.Marks.{FieldsOf, fieldsRead};
 use fields::Fields;
 use refusals::Check;
 use rows::NO_ROW;
+use rows::NUMBERS;
 use tables::Columns;
 use tables::Table;
 use values::Judged;
@@ -24,11 +26,6 @@ pub enum Wish {
     Unknown,
 }
 
-// How many numbers a line has that adds or replaces a block, and one that deletes it.
-pub const BLOCK_NUMBERS: usize = 11;
-
-pub const KEY_NUMBERS: usize = 4;
-
 impl Wish {
     // Whether a line of this wish has that many numbers: otherwise its kind is unknown.
     fn with_numbers(self, n: usize) -> Wish
@@ -36,21 +33,21 @@ impl Wish {
     {
         match self {
             Wish::Add => {
-                if n == BLOCK_NUMBERS {
+                if n == NUMBERS {
                     Wish::Add
                 } else {
                     Wish::Unknown
                 }
             }
             Wish::Replace => {
-                if n == BLOCK_NUMBERS {
+                if n == NUMBERS {
                     Wish::Replace
                 } else {
                     Wish::Unknown
                 }
             }
             Wish::Delete => {
-                if n == KEY_NUMBERS {
+                if n == Table::BLOCK_KEY {
                     Wish::Delete
                 } else {
                     Wish::Unknown
@@ -91,7 +88,7 @@ pub fn wish_of(line: &[u8], marks: Fields) -> Wish
     ensures { λ r. ⌜ r ≡ wish (fields (now (line .entry))) ⌝ }
 {
     let n = marks.count - 1;
-    if BLOCK_NUMBERS < n {
+    if NUMBERS < n {
         return Wish::Unknown;
     }
     let bounds = marks.bounds;
@@ -102,7 +99,7 @@ pub fn wish_of(line: &[u8], marks: Fields) -> Wish
 
 // 8, and the row of a line of n numbers.
 pub fn read_fields(line: &[u8], marks: Fields, columns: &Columns, n: usize) -> Judged
-    requires { ⌜ FieldsOf (now line) marks × (length (numbers (fields (now line))) ≡ n) × (n ≤ 11) × (now columns ≡ listed Table.Block) ⌝ }
+    requires { ⌜ FieldsOf (now line) marks × (length (numbers (fields (now line))) ≡ n) × (n ≤ rowNumbers) × (now columns ≡ listed Table.Block) ⌝ }
     ensures { λ r. ⌜ r ≡ fieldsRead (numbers (fields (now (line .entry)))) ⌝ }
 {
     let bounds = marks.bounds;

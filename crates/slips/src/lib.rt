@@ -3,7 +3,7 @@ ghost use mathlib.Core.Path.{_≡_};
 ghost use mathlib.Core.Bool.{true};
 ghost use Prim.Native.Nat.{_≤_};
 ghost use lib.ListN.{length};
-ghost use Rattle.lines.specs.Lines.{slipLines};
+ghost use Rattle.lines.specs.Lines.{slipLines, mostBytes};
 ghost use Rattle.tables.specs.Listing.{listed};
 ghost use Rattle.book.specs.Room.{bookOf};
 ghost use Rattle.book.specs.Holding.{Sound};
@@ -36,7 +36,7 @@ fn take_lines(
     order: &mut [u16],
     n: usize,
 ) -> Posted
-    requires { ⌜ OnShelf Table.Block (now book) (now slots) (now order) n × (length (now slip) ≤ 65536) × (now columns ≡ listed Table.Block) ⌝ }
+    requires { ⌜ OnShelf Table.Block (now book) (now slots) (now order) n × (length (now slip) ≤ mostBytes) × (now columns ≡ listed Table.Block) ⌝ }
     ensures { λ r. ⌜ LinesTaken (now (slip .entry)) (now (book .entry)) (now (slots .entry)) (now (slots .exit)) (now (order .entry)) (now (order .exit)) n r ⌝ }
 {
     let mut verdict = Verdict::Accepted;
@@ -77,7 +77,7 @@ fn lay_accepted(verdict: Verdict, book: &mut [Row], slots: &[Row], order: &[u16]
 
 // All lines or none: they are taken on a shelf, so that the book is touched only where all of them pass.
 fn take_whole(slip: &[u8], book: &mut [Row], work: &mut [Row]) -> Verdict
-    requires { ⌜ Sound (now book) × (pointsNamed (bookOf (now book)) ≡ true) × (length (now slip) ≤ 65536) × (length (now work) ≡ workRows) ⌝ }
+    requires { ⌜ Sound (now book) × (pointsNamed (bookOf (now book)) ≡ true) × (length (now slip) ≤ mostBytes) × (length (now work) ≡ workRows) ⌝ }
     ensures { λ r. ⌜ outcome r (now (book .exit)) (cleared (now (work .entry))) ≡ slipOutcome (linesPosted 1 (slipLines (now (slip .entry))) (bookOf (now (book .entry)))) (now (book .entry)) (now (work .entry)) ⌝ }
 {
     let columns = Table::Block.column_rules();

@@ -3,6 +3,7 @@ use fault_mark::Mark;
 use libc::STDOUT_FILENO;
 use refusals::Place;
 use refusals::Verdict;
+use rows::NO_ROW;
 use rows::Row;
 use tables::BOOK_ROWS;
 use tables::Table;
@@ -244,7 +245,7 @@ fn fault(p: Place, types: &[u8], depots: &[u8], stops: &[u8], points: &[u8], blo
 
 // Reads the delivery and says what came of it.
 fn answer(types: &[u8], depots: &[u8], stops: &[u8], points: &[u8], blocks: &[u8]) {
-    let mut book = [[0u64; 11]; BOOK_ROWS];
+    let mut book = [NO_ROW; BOOK_ROWS];
     let verdict = delivery::read(types, depots, stops, points, blocks, &mut book);
     match verdict {
         Verdict::Accepted => good(&book),

@@ -6,6 +6,7 @@ use Prim.Native.String.{String}
 use lib.Dec.{eqb, leb}
 use lib.ListN.{getD}
 use Rattle.words.specs.Words.{Bytes, bytes, if_then_else_, same}
+use Rattle.rows.specs.Rows.{rowNumbers}
 use Rattle.tables.specs.declared.Rules.{Rules}
 use Rattle.tables.specs.declared.Sort.the-variants.{Decimal, Text}
 use Rattle.tables.specs.declared.Table.{Table}
@@ -116,11 +117,11 @@ keyWidth Block = 4
 
 -- "The book holds the keys of tables 1 to 3 and the 11 numbers of each block", and the keys of stop points: how many of a row's numbers it keeps
 abbrev pub keptWidth : Table → ℕ
-keptWidth VehicleType = 2
-keptWidth Depot = 2
-keptWidth Stop = 2
-keptWidth StopPoint = 3
-keptWidth Block = 11
+keptWidth VehicleType = keyWidth VehicleType
+keptWidth Depot = keyWidth Depot
+keptWidth Stop = keyWidth Stop
+keptWidth StopPoint = keyWidth StopPoint
+keptWidth Block = rowNumbers
 
 -- a column and the table in which its number stands, "each together with VERSION"
 abbrev pub ref : ℕ → Table → Reference

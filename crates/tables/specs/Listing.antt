@@ -29,9 +29,13 @@ listing zero xs = []
 listing (suc n) [] = six (noColumn .rules) ∷ listing n []
 listing (suc n) (x ∷ xs) = six (x .rules) ∷ listing n xs
 
--- the columns of a table: no table has more than twelve
+-- no table has more columns than this
+abbrev pub columnRoom : ℕ
+columnRoom = 12
+
+-- the columns of a table
 unfoldable pub listed : Table → List (List ℕ)
-listed t = listing 12 (columnsOf t)
+listed t = listing columnRoom (columnsOf t)
 
 -- what a table is counted by
 abbrev pub figuresOf : Table → TableFigures

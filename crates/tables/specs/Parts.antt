@@ -2,6 +2,7 @@
 use mathlib.Core.List.{List, [], _∷_}
 use Prim.Native.Nat.{ℕ, _+_}
 use lib.ListN.{take}
+use Rattle.rows.specs.Room.{mostRows}
 use Rattle.tables.specs.declared.Table.{Table}
 use Rattle.tables.specs.declared.Table.the-variants.{VehicleType, Depot, Stop, StopPoint, Block}
 
@@ -19,11 +20,11 @@ tables = VehicleType ∷ Depot ∷ Stop ∷ StopPoint ∷ Block ∷ []
 
 -- "There are at most 512 rows in each table."
 abbrev pub room : Table → ℕ
-room VehicleType = 512
-room Depot = 512
-room Stop = 512
-room StopPoint = 512
-room Block = 512
+room VehicleType = mostRows
+room Depot = mostRows
+room Stop = mostRows
+room StopPoint = mostRows
+room Block = mostRows
 
 -- what some tables have room for together
 abbrev pub rooms : List Table → ℕ

@@ -5,16 +5,19 @@ ghost use lib.ListN.{getD, length};
 ghost use lib.Dec.{eqb};
 ghost use Rattle.words.specs.Words.{if_then_else_};
 ghost use Rattle.tables.specs.Columns.{columnAt, references, ref, columnsOf, number, keyWidth, keptWidth, numbered};
-ghost use Rattle.tables.specs.Listing.{listed, figuresOf};
+ghost use Rattle.tables.specs.Listing.{columnRoom, listed, figuresOf};
 ghost use Rattle.tables.specs.Parts.{tables, room, begin};
 use refusals::Place;
+use rows::NUMBERS;
 use rows::ROWS;
 
 // A column as six numbers.
 pub type Column = [u64; 6];
 
-// The columns of a table, with room for twelve: handed out once for a table, and lent on.
-pub type Columns = [Column; 12];
+// How many columns a table has room for. The columns are handed out once for a table, and lent on.
+pub const COLUMN_ROOM: usize = 12;
+
+pub type Columns = [Column; COLUMN_ROOM];
 
 pub enum Table {
     VehicleType,
@@ -185,11 +188,11 @@ const ARRIVAL_POINT: Reference = Reference {
 };
 
 // How many rows a lent book has: the rooms of all tables.
-pub const BOOK_ROWS: usize = 5 * ROWS;
+pub const BOOK_ROWS: usize = Table::COUNT * ROWS;
 
 // What the cells of the column at place i, counted from 0, must keep to, of the columns that a table handed out.
 pub fn rules_at(columns: &Columns, i: usize) -> Rules
-    requires { ⌜ i < 12 ⌝ }
+    requires { ⌜ i < columnRoom ⌝ }
     ensures { λ r. ⌜ ((t : Table) → now (columns .entry) ≡ listed t → r ≡ columnAt t i .rules) ⌝ }
 {
     let column = columns[i];
@@ -204,7 +207,7 @@ pub fn rules_at(columns: &Columns, i: usize) -> Rules
 }
 
 fn block_reference(i: usize) -> Reference
-    requires { ⌜ i < 6 ⌝ }
+    requires { ⌜ i < length (references Table.Block) ⌝ }
     ensures { λ r. ⌜ r ≡ getD (references Table.Block) i (ref 0 Table.VehicleType) ⌝ }
 {
     match i {
@@ -261,7 +264,7 @@ impl Table {
         number: Place::VEHICLE_BLOCK,
         columns: 11,
         keys: Table::BLOCK_KEY,
-        kept: 11,
+        kept: NUMBERS,
         references: 6,
     };
 
@@ -359,9 +362,9 @@ impl Table {
     pub const COUNT: usize = 5;
 
     // How many rows each table has room for, and where its part of the book begins: behind the rooms of the tables before it.
-    pub const ROOM: [usize; 5] = [ROWS, ROWS, ROWS, ROWS, ROWS];
+    pub const ROOM: [usize; Table::COUNT] = [ROWS, ROWS, ROWS, ROWS, ROWS];
 
-    pub const BEGIN: [usize; 5] = [0, ROWS, 2 * ROWS, 3 * ROWS, 4 * ROWS];
+    pub const BEGIN: [usize; Table::COUNT] = [0, ROWS, 2 * ROWS, 3 * ROWS, 4 * ROWS];
 
     pub fn room(self) -> usize
         ensures { λ r. ⌜ r ≡ room self ⌝ }

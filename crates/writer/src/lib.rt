@@ -6,6 +6,7 @@ ghost use lib.ListN.{length, take};
 ghost use lib.Dec.{ltb};
 ghost use Rattle.refusals.specs.Verdicts.{nowhere, _when_, outputShort};
 ghost use Rattle.numbers.specs.Putting.{put};
+ghost use Rattle.rows.specs.Room.{mostRows};
 ghost use Rattle.writer.specs.Writing.{rowLine, linesWritten, namesLine};
 ghost use Rattle.writer.specs.Calls.{outcome, wrote, WritePermits};
 use number_lines::LINE_FEED;
@@ -43,7 +44,7 @@ pub fn write_row(out: &mut [u8], row: Row) -> usize
 
 // The lines of the first n rows of a list: at most 231 bytes each.
 fn lines_length(list: &[Row], n: usize) -> usize
-    requires { ⌜ (n ≤ length (now list)) × (length (now list) ≤ 512) ⌝ }
+    requires { ⌜ (n ≤ length (now list)) × (length (now list) ≤ mostRows) ⌝ }
     ensures { λ r. ⌜ (r ≡ length (linesWritten (map rowLine (take n (now (list .entry)))))) × (r ≤ n * 231) ⌝ }
 {
     let mut size = 0;
@@ -89,7 +90,7 @@ pub fn unwritten(check: Check) -> Written
 
 // 14, or the header line and the lines of the first n rows of a list.
 fn write_table(list: &[Row], n: usize, out: &mut [u8]) -> Written
-    requires { ⌜ (n ≤ length (now list)) × (length (now list) ≤ 512) ⌝ }
+    requires { ⌜ (n ≤ length (now list)) × (length (now list) ≤ mostRows) ⌝ }
     ensures { λ r. ⌜ outcome (r .verdict) (r .size) (now (out .exit)) ≡ wrote (nowhere (outputShort when ltb (length (now (out .entry))) (length (linesWritten (namesLine ∷ map rowLine (take n (now (list .entry)))))))) (linesWritten (namesLine ∷ map rowLine (take n (now (list .entry))))) (now (out .entry)) ⌝ }
 {
     let size = HEADER + lines_length(list, n);
