@@ -6,6 +6,7 @@ ghost use lib.ListN.{length};
 ghost use Rattle.cells.specs.Cells.{parted};
 ghost use Rattle.numbers.specs.Putting.{put};
 ghost use Rattle.numbers.specs.Numbers.{decimal};
+ghost use Rattle.rows.specs.Rows.{rowNumbers};
 
 pub const LINE_FEED: u8 = 10;
 
@@ -34,7 +35,7 @@ fn write_cell(out: &mut [u8], n: u64, end: u8) -> usize
 
 // How long numbers are that a byte parts, with the line feed behind the last. A number has at most 20 digits.
 pub fn numbers_length(numbers: &[u64]) -> usize
-    requires { ⌜ (1 ≤ length (now numbers)) × (length (now numbers) ≤ 11) ⌝ }
+    requires { ⌜ (1 ≤ length (now numbers)) × (length (now numbers) ≤ rowNumbers) ⌝ }
     ensures { λ r. ⌜ ((separator : ℕ) → r ≡ length (parted separator (map decimal (now (numbers .entry)))) + 1) × (r ≤ length (now (numbers .entry)) * 21) ⌝ }
 {
     let mut size = 0;

@@ -262,7 +262,7 @@ impl Table {
 
     pub const BLOCK: TableFigures = TableFigures {
         number: Place::VEHICLE_BLOCK,
-        columns: 11,
+        columns: NUMBERS,
         keys: Table::BLOCK_KEY,
         kept: NUMBERS,
         references: 6,

@@ -6,6 +6,7 @@ ghost use lib.ListN.{length, take};
 ghost use lib.Dec.{ltb};
 ghost use Rattle.refusals.specs.Verdicts.{nowhere, _when_, outputShort};
 ghost use Rattle.numbers.specs.Putting.{put};
+ghost use Rattle.rows.specs.Rows.{rowNumbers};
 ghost use Rattle.rows.specs.Room.{mostRows};
 ghost use Rattle.writer.specs.Writing.{rowLine, linesWritten, namesLine};
 ghost use Rattle.writer.specs.Calls.{outcome, wrote, WritePermits};
@@ -29,7 +30,7 @@ const HEADER: usize = column_names::BLOCK_NAMES.len() + 1;
 
 // How long a row's line is, with its line feed: short enough that the lines of 512 rows add up without wrapping.
 fn line_length(row: Row) -> usize
-    ensures { λ r. ⌜ (r ≡ length (rowLine row) + 1) × (r ≤ 231) ⌝ }
+    ensures { λ r. ⌜ (r ≡ length (rowLine row) + 1) × (r ≤ rowNumbers * 21) ⌝ }
 {
     number_lines::numbers_length(&row)
 }
@@ -45,7 +46,7 @@ pub fn write_row(out: &mut [u8], row: Row) -> usize
 // The lines of the first n rows of a list: at most 231 bytes each.
 fn lines_length(list: &[Row], n: usize) -> usize
     requires { ⌜ (n ≤ length (now list)) × (length (now list) ≤ mostRows) ⌝ }
-    ensures { λ r. ⌜ (r ≡ length (linesWritten (map rowLine (take n (now (list .entry)))))) × (r ≤ n * 231) ⌝ }
+    ensures { λ r. ⌜ (r ≡ length (linesWritten (map rowLine (take n (now (list .entry)))))) × (r ≤ n * (rowNumbers * 21)) ⌝ }
 {
     let mut size = 0;
     let mut i = 0;
