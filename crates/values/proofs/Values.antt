@@ -20,7 +20,8 @@ use Rattle.tables.specs.Columns.{inRange, columnAt, keptWidth}
 use Rattle.tables.specs.declared.Table.{Table}
 use Rattle.tables.proofs.Figures.{kept-decimal, kept-required, decimal-width}
 use Rattle.values.specs.Values.{breaks, cellCheck, fits}
-use Rattle.values.specs.Judged.{kept, valueOf, checkOf}
+use Rattle.values.specs.Judged.{kept, valueOf, checkOf, keptNumber}
+use Rattle.values.specs.declared.Value.{Value}
 use Rattle.values.specs.declared.Value.the-variants as value-is
 
 -- a value's check is the cell's
@@ -33,6 +34,13 @@ check-of-value k x s = go (breaks x s) (x .sort) (eqb (length s) 0) refl
     go false Decimal false e = rw e
     go false Text true e = rw e
     go false Text false e = rw e
+
+-- a column that is not kept has no number
+pub kept-none : (v : Value) (b : Bool) → b ≡ false → keptNumber v b ≡ 0
+kept-none (value-is.Number n) b e = rw e
+kept-none value-is.Text b e = refl
+kept-none value-is.Empty b e = refl
+kept-none value-is.Bad b e = refl
 
 -- the range, asked at its two ends
 pub range-low : (x : Rules) (n : ℕ) → n < x .low → inRange x n ≡ false

@@ -1,5 +1,6 @@
 -- What the code takes content, and a line, for.
 -- Inner: no promise and no contract of a public function speaks of it.
+use mathlib.Core.Bool.{Bool}
 use Prim.Native.Nat.{ℕ}
 use lib.Dec.{eqb}
 use lib.ListN.{length}
@@ -32,7 +33,18 @@ checkOf k value-is.Text = Passes
 checkOf k value-is.Empty = Passes
 checkOf k value-is.Bad = cellFault k
 
+-- the number that a row keeps of a value; `b` is whether the book keeps its column
+abbrev pub keptNumber : Value → Bool → ℕ
+keptNumber (value-is.Number n) b = if b then n else 0
+keptNumber value-is.Text b = 0
+keptNumber value-is.Empty b = 0
+keptNumber value-is.Bad b = 0
+
+-- what a line with a fault comes to
+abbrev pub unkept : Check → Judged
+unkept fault = record { check = fault; row = zeros }
+
 -- a line that passes is its row
 abbrev pub rowed : Check → Row → Judged
 rowed Passes row = record { check = Passes; row = row }
-rowed (Fails n k) row = record { check = Fails n k; row = zeros }
+rowed (Fails n k) row = unkept (Fails n k)

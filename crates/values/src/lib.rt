@@ -1,14 +1,13 @@
 // What content is to a column, and what the cells of a line come to.
 ghost use mathlib.Core.Path.{_≡_};
 ghost use mathlib.Core.List.{List};
-ghost use mathlib.Core.Bool.{true, false};
 ghost use Prim.Native.Nat.{_≤_, ℕ};
 ghost use lib.ListN.{length};
 ghost use Rattle.words.specs.Words.{if_then_else_};
 ghost use Rattle.cells.specs.Cells.{content};
 ghost use Rattle.numbers.specs.Decimals.{decimalOf};
 ghost use Rattle.tables.specs.Columns.{inRange};
-ghost use Rattle.values.specs.Judged.{valueOf, checkOf, rowed};
+ghost use Rattle.values.specs.Judged.{valueOf, checkOf, unkept, keptNumber};
 use numbers::Digits;
 use refusals::Check;
 use rows::NO_ROW;
@@ -131,7 +130,7 @@ impl Value {
 
 // Nothing is kept of a line that has a fault.
 pub fn no_row(fault: Check) -> Judged
-    ensures { λ r. ⌜ ((n k : ℕ) (row : List ℕ) → fault ≡ Check.Fails n k → r ≡ rowed (Check.Fails n k) row) ⌝ }
+    ensures { λ r. ⌜ r ≡ unkept fault ⌝ }
 {
     Judged {
         check: fault,
@@ -139,9 +138,9 @@ pub fn no_row(fault: Check) -> Judged
     }
 }
 
-// The number that a row keeps of a value; 0 in a column that the book does not keep.
+// The number that a row keeps of a value; 0 where it is no number, and in a column that the book does not keep.
 pub fn kept_number(value: Value, kept: bool) -> u64
-    ensures { λ r. ⌜ ((n : ℕ) → value ≡ Value.Number n → kept ≡ true → r ≡ n) × (kept ≡ false → r ≡ 0) ⌝ }
+    ensures { λ r. ⌜ r ≡ keptNumber value kept ⌝ }
 {
     match value {
         Value::Number(n) => if kept { n } else { 0 },

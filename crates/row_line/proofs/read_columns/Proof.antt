@@ -14,7 +14,7 @@ use Rattle.tables.specs.Columns.{columnsOf, columnAt, keptWidth}
 use Rattle.tables.specs.Listing.{listed}
 use Rattle.tables.proofs.Figures.{columns-few}
 use Rattle.values.specs.Judged.{valueOf, checkOf}
-use Rattle.values.proofs.Values.{column-narrow}
+use Rattle.values.proofs.Values.{column-narrow, kept-none}
 use Rattle.header.specs.Heading.{mostColumns, places}
 use Rattle.row_line.proofs.Filling.{Columned, columned-none, columned-fault, columned-next, columned-bad, columned-all}
 use Rattle.row_line.proofs.read_columns.Statement.{statement}
@@ -101,7 +101,7 @@ columns-again c =
           let l : w .k < length (columnsOf t) = omega (arith, n, c .before .before .before .before .before .before .before .before .before .columns-test .taken) in
           let q : value .result ≡ valueOf (columnAt t (w .k) .rules) (content (found .result .now)) = value .ensures ∙ ap (λ (x : Rules). valueOf x (content (found .result .now))) (c .before .before .before .before .before .before .before .before .rules-at .ensures t e) in
           let d : c .before .before .before .check .result ≡ checkOf (w .k + 1) (value .result) = c .before .before .before .check .ensures ∙ ap (λ (j : ℕ). checkOf j (value .result)) (c .before .before .before .before .wide .ensures) in
-          columned-next t h (a .line .now) (w .row) (a .at .now) (w .k) (w .inv .3 t h e n m p) p l (found .result .now) (found .ensures) (value .result) q (c .before .before .before .check .result) d (c .before .enum-told .given .1) (c .kept-number .result) (λ j r z. c .kept-number .ensures .0 j r (ap (ltb (w .k)) m ∙ z)) (λ z. c .kept-number .ensures .1 (ap (ltb (w .k)) m ∙ z)),
+          columned-next t h (a .line .now) (w .row) (a .at .now) (w .k) (w .inv .3 t h e n m p) p l (found .result .now) (found .ensures) (value .result) q (c .before .before .before .check .result) d (c .before .enum-told .given .1) (c .kept-number .result) (λ j r z. c .kept-number .ensures ∙ rw (r, ap (ltb (w .k)) m ∙ z)) (λ z. c .kept-number .ensures ∙ kept-none (value .result) _ (ap (ltb (w .k)) m ∙ z)),
     )
 
 returns : tie.Need-returns Inv-columns μ-columns

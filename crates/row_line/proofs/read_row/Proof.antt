@@ -5,7 +5,7 @@ use Rattle.refusals.specs.Verdicts.{_⊳_}
 use Rattle.refusals.specs.declared.Check.{Check}
 use Rattle.refusals.specs.declared.Check.the-variants.{Passes, Fails}
 use Rattle.cells.specs.Cells.{cut}
-use Rattle.values.specs.Judged.{rowed}
+use Rattle.values.specs.Judged.{rowed, unkept}
 use Rattle.header.specs.Header.{cutCheck}
 use Rattle.header.specs.Heading.{cellsKept}
 use Rattle.row_line.specs.RowLine.{rowRead}
@@ -54,7 +54,7 @@ returns-2 c =
     λ h k.
     let e : cutCheck h (cut line) ≡ Fails (g .0 .0) (g .0 .1 .0) = sym (c .before .before .before .before .before .cut-row .ensures .is h (ap cellsKept k)) ∙ g .1 in
     let z : (cutCheck h (cut line) ⊳ cellsCheck (a .t) h line) ≡ Fails (g .0 .0) (g .0 .1 .0) = rw e in
-    c .no-row .ensures (g .0 .0) (g .0 .1 .0) (rowRead (a .t) h line) (g .1) ∙ ap (λ (q : Check). rowed q (rowRead (a .t) h line)) (sym z)
+    c .no-row .ensures ∙ ap unkept (g .1) ∙ ap (λ (q : Check). rowed q (rowRead (a .t) h line)) (sym z)
 
 pub read-row-spec : {M : Type 1} → statement M
 read-row-spec =

@@ -118,7 +118,7 @@ columns-again c =
       omega (arith, inside k, st .pre .1),
       at .columns .inv .1,
       ap (λ (l : Row). set l i (c .kept-number .result)) (at .columns .inv .2)
-          ∙ row-more fs i (c .kept-number .result) (inside k) (omega (arith, inside k, few k)) (c .kept-number .ensures .0 _ (field-number fs (few k) i v (k .check .result) (inside k) (value-is k) (k .check .ensures) p) refl),
+          ∙ row-more fs i (c .kept-number .result) (inside k) (omega (arith, inside k, few k)) (c .kept-number .ensures ∙ rw (field-number fs (few k) i v (k .check .result) (inside k) (value-is k) (k .check .ensures) p)),
       at .columns .inv .3 ∙ field-passes fs (few k) i v (k .check .result) (inside k) (value-is k) (k .check .ensures) p,
     )
 
