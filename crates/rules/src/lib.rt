@@ -52,11 +52,8 @@ pub fn time_fault(t: Table, row: Row) -> bool
     ensures { λ r. ⌜ r ≡ timeFault t row ⌝ }
 {
     match t {
-        Table::VehicleType => false,
-        Table::Depot => false,
-        Table::Stop => false,
-        Table::StopPoint => false,
         Table::Block => ends_early(row),
+        _ => false,
     }
 }
 

@@ -1,11 +1,12 @@
 -- `rules::named` meets its contract. Only the key of a stop point has three numbers. Assumes nothing.
 use mathlib.Core.Path.{_≡_, sym, ap, _∙_}
-use mathlib.Core.Logic.{⊎-elim}
+use mathlib.Core.List.{[], _∷_}
 use Prim.Native.Nat.{_-_}
 use native.Mathlib.Omega.{arith}
 use borrow.Author.Needs.{needs}
 use Rattle.rows.specs.Rows.{wide}
 use Rattle.tables.specs.declared.Table.the-variants.{StopPoint}
+use Rattle.tables.proofs.References.{other-table}
 use Rattle.rules.proofs.Referring.{named-pair}
 use Rattle.rules.proofs.named.Statement.{statement}
 use Rattle.rules.proofs.named.Tie as tie
@@ -57,9 +58,8 @@ returns c =
 returns-2 : tie.Need-returns-2
 returns-2 c =
     let a = c .before .before .args in
-    let h = c .before .match .keys2 in
     c .key .ensures
-    ∙ ap wide (sym (named-pair (a .to) (a .column) (a .t3) (λ (e : a .to ≡ StopPoint). ⊎-elim (λ n. omega (arith, n)) (⊎-elim (λ n. omega (arith, n)) (⊎-elim (λ n. omega (arith, n)) (λ n. omega (arith, n)))) (rw e at h))))
+    ∙ ap wide (sym (named-pair (a .to) (a .column) (a .t3) (other-table (a .to) StopPoint (0 ∷ 1 ∷ 2 ∷ 4 ∷ []) tt (c .before .match .keys2))))
 
 pub named-spec : {M : Type 1} → statement M
 named-spec =

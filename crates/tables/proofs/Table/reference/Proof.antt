@@ -1,10 +1,9 @@
 -- `tables::Table::reference` meets its contract. Only stop points and blocks have references, a stop point one. Assumes nothing.
-use mathlib.Core.Path.{_≡_}
-use mathlib.Core.Logic.{⊎-elim}
-use native.Mathlib.Omega.{arith}
+use mathlib.Core.List.{[], _∷_}
 use borrow.Author.Needs.{needs}
 use Rattle.tables.specs.declared.Table.the-variants.{Block}
 use Rattle.tables.proofs.Figures.{reference-of-point}
+use Rattle.tables.proofs.References.{other-table}
 use Rattle.tables.proofs.Table.reference.Statement.{statement}
 use Rattle.tables.proofs.Table.reference.Tie as tie
 
@@ -20,8 +19,7 @@ returns c = rw (c .before .enum-told .given .1) (c .block-reference .ensures)
 returns-2 : tie.Need-returns-2
 returns-2 c =
     let a = c .before .args in
-    let h = c .match .keys2 in
-    reference-of-point (a .self) (a .i) (λ (e : a .self ≡ Block). ⊎-elim (λ n. omega (arith, n)) (⊎-elim (λ n. omega (arith, n)) (⊎-elim (λ n. omega (arith, n)) (λ n. omega (arith, n)))) (rw e at h)) (c .before .pre)
+    reference-of-point (a .self) (a .i) (other-table (a .self) Block (0 ∷ 1 ∷ 2 ∷ 3 ∷ []) tt (c .match .keys2)) (c .before .pre)
 
 pub reference-spec : {M : Type 1} → statement M
 reference-spec =
