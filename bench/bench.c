@@ -1,6 +1,6 @@
 /* The benchmark: the library and the plain reader do the same work by turns in one process, and each time both must give
  * the same answers. Printed are medians of many turns: times, their ratio, bytes per second, and how the time grows as the
- * number of rows doubles. */
+ * number of rows doubles. By radio the library is measured against its own reading of the whole. */
 #include "plain.h"
 #include "../second/dice.h"
 #include "../second/sides.h"
@@ -16,7 +16,7 @@ enum { SIZES = 4, SMALLEST = 64, MOST_SAMPLES = 2001, DEFAULT_SAMPLES = 201, TEX
 enum { LIBRARY, PLAIN_C, SIDES };
 
 static const struct side plain_side = {"the plain reader", plain_read, plain_slip, plain_cell, plain_type, plain_block,
-    plain_write};
+    plain_write, NULL, NULL, NULL, NULL};
 
 static const struct side *sides[SIDES] = {&library_side, &plain_side};
 
@@ -433,6 +433,105 @@ static void print_worst(const char *words, size_t first, size_t last)
     printf("  %-8s %6.2f\n", words, worst);
 }
 
+/* ---- By radio */
+
+/* How a delivery of 512 rows is cut, and in how many turns it is measured: a part costs more than its bytes, so the smaller
+ * the parts the fewer the turns. */
+static const struct cut {
+    const char *words;
+    size_t bytes;        /* of a part; 0: a table is one */
+    size_t turns_in_200; /* of 200 that the whole reading has */
+} cuts[] = {
+    {"a table in one part", 0, 200},
+    {"parts of 1,024 bytes", 1024, 200},
+    {"parts of 64 bytes", 64, 20},
+    {"parts of 1 byte", 1, 1},
+};
+
+/* What the library keeps between the calls; the book is the one that is held. */
+static struct {
+    uint64_t kept[RADIO_KEPT];
+    uint8_t lines[RADIO_LINES];
+    struct second_radio own;
+} kept_by_radio;
+
+static void send_table(const struct radio *radio, const struct growing *text, size_t bytes)
+{
+    const struct side *side = sides[LIBRARY];
+    size_t size = bytes ? bytes : text->length;
+    size_t at;
+
+    side->radio_announce(text->length, radio, held[LIBRARY].place);
+    for (at = 0; at < text->length; at += size) {
+        struct text part;
+
+        part.bytes = text->bytes + at;
+        part.length = size < text->length - at ? size : text->length - at;
+        side->radio_part(part, radio, held[LIBRARY].place);
+    }
+    held[LIBRARY].returned = side->radio_close(radio, held[LIBRARY].place);
+}
+
+static void send_delivery(size_t bytes)
+{
+    struct radio radio = {held[LIBRARY].book, kept_by_radio.kept, kept_by_radio.lines, &kept_by_radio.own, right_lengths};
+    size_t t;
+
+    sides[LIBRARY]->radio_open(&radio, held[LIBRARY].place);
+    for (t = 0; t < TABLES; t++)
+        send_table(&radio, &work_load.texts[RISING][t], bytes);
+}
+
+/* Times of the whole reading and of the radio by turns; both must leave the book that the load was made with. */
+static void measure_cut(const struct cut *cut, size_t samples)
+{
+    static uint64_t whole[MOST_SAMPLES], parts[MOST_SAMPLES];
+    size_t turns = (samples * cut->turns_in_200 + 199) / 200;
+    size_t calls = 1;
+    double whole_time, parts_time;
+    size_t i, t;
+
+    for (i = 0; i < turns; i++) {
+        uint64_t began;
+
+        prepare(LIBRARY);
+        began = now();
+        turn_read(LIBRARY, &operations[0]);
+        whole[i] = now() - began;
+        prepare(LIBRARY);
+        began = now();
+        send_delivery(cut->bytes);
+        parts[i] = now() - began;
+        if (held[LIBRARY].returned != 0 || memcmp(held[LIBRARY].book, work_load.book, sizeof work_load.book) != 0) {
+            printf("FAILED: by radio, %s: another answer than the whole reading's\n", cut->words);
+            exit(1);
+        }
+    }
+    for (t = 0; t < TABLES; t++) {
+        size_t length = work_load.texts[RISING][t].length;
+
+        calls += 2 + (cut->bytes ? (length + cut->bytes - 1) / cut->bytes : 1);
+    }
+    whole_time = median(whole, turns);
+    parts_time = median(parts, turns);
+    printf("%-26s %6" PRIu64 " %11.1f %11.1f %9.2f %9.1f\n", cut->words, (uint64_t)calls, parts_time / 1000,
+        whole_time / 1000, parts_time / whole_time, parts_time / 1000 / (double)calls);
+}
+
+static void measure_radio(size_t samples)
+{
+    size_t i;
+
+    if (!sides[LIBRARY]->radio_open)
+        return;
+    printf("by radio at %" PRIu64 " rows, in key order, against the library's own reading of the whole:\n",
+        (uint64_t)work_load.rows);
+    printf("%-26s %6s %11s %11s %9s %9s\n", "", "calls", "by radio", "whole", "ratio", "a call");
+    printf("%-26s %6s %11s %11s %9s %9s\n", "", "", "us", "us", "", "us");
+    for (i = 0; i < sizeof cuts / sizeof cuts[0]; i++)
+        measure_cut(&cuts[i], samples);
+}
+
 int main(int words, char **word)
 {
     size_t samples = DEFAULT_SAMPLES;
@@ -463,5 +562,6 @@ int main(int words, char **word)
     print_worst("slip", 3, 4);
     print_worst("question", 5, 5);
     print_worst("writing", 6, 6);
+    measure_radio(samples); /* on the load of the full size, which was made last */
     return 0;
 }

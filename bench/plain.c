@@ -5,7 +5,7 @@
 
 #include <string.h>
 
-enum { ROWS = 512, BOOK_ROWS = 2560, TEXT_BYTES = 65536, HEADER_CELLS = 32, DAY = 86400 };
+enum { ROWS = 512, BOOK_ROWS = 2560, TEXT_BYTES = 65536, LINE_BYTES = 2048, HEADER_CELLS = 32, DAY = 86400 };
 
 /* The tables' numbers, and the slip's in places. */
 enum { TYPES = 1, DEPOTS = 2, STOPS = 3, BLOCKS = 4, SLIP = 5, POINTS = 6 };
@@ -178,6 +178,23 @@ static inline int take_cell(struct reader *r, struct cell *cell)
     return end_line(r);
 }
 
+/* The bytes of the line that begins there, its line end left out. */
+static size_t line_length(const uint8_t *start, const uint8_t *end)
+{
+    const uint8_t *p = start;
+
+    while (p < end && *p != '\n')
+        p++;
+    return (size_t)(p - start) - (p < end && p > start && p[-1] == '\r');
+}
+
+/* Whether a line is too long, after its cells were taken: a good one is behind the reader, of a broken one the end is still
+ * to be found. */
+static inline int too_long(const uint8_t *start, const struct reader *r, int behind)
+{
+    return (behind == BROKEN || r->at - start > LINE_BYTES) && line_length(start, r->end) > LINE_BYTES;
+}
+
 /* Digits to a number in the column's range; the bytes are no more than nine. */
 static inline int take_number(const uint8_t *p, size_t length, const struct col *col, uint64_t *value)
 {
@@ -231,6 +248,7 @@ static unsigned named(const struct tab *tab, const struct cell *cell)
 static uint64_t take_header(unsigned t, struct reader *r, struct header *header, uint64_t place[4])
 {
     const struct tab *tab = &tabs[t];
+    const uint8_t *start = r->at;
     unsigned twice = 0;
     unsigned count = 0;
     unsigned c;
@@ -242,9 +260,7 @@ static uint64_t take_header(unsigned t, struct reader *r, struct header *header,
 
         behind = take_cell(r, &cell);
         count++;
-        if (behind == BROKEN)
-            return refuse(place, 6, t, 1, count);
-        if (count > HEADER_CELLS)
+        if (behind == BROKEN || count > HEADER_CELLS)
             continue;
         c = named(tab, &cell);
         header->col_of[count - 1] = (uint8_t)c;
@@ -254,6 +270,10 @@ static uint64_t take_header(unsigned t, struct reader *r, struct header *header,
             header->present |= (uint32_t)1 << (c - 1);
     } while (behind == NEXT_CELL);
     header->cells = count;
+    if (too_long(start, r, behind))
+        return refuse(place, 17, t, 1, 0);
+    if (behind == BROKEN)
+        return refuse(place, 6, t, 1, count);
     if (count > HEADER_CELLS)
         return refuse(place, 4, t, 1, 0);
     if (twice)
@@ -266,12 +286,13 @@ static uint64_t take_header(unsigned t, struct reader *r, struct header *header,
 
 /* ---- Rows */
 
-/* Takes a line: its numbers by column, or its 6, 7 or 8. A bad cell is only noted, as a later cell's 6 or the line's 7 come
- * first, and the lowest column's 8. */
+/* Takes a line: its numbers by column, or its 17, 6, 7 or 8. A bad cell is only noted, as the line's 17, a later cell's 6 or
+ * the line's 7 come first, and the lowest column's 8. */
 static inline uint64_t take_row(unsigned t, struct reader *r, uint64_t line, const struct header *header, row numbers,
     uint64_t place[4])
 {
     const struct col *cols = tabs[t].cols;
+    const uint8_t *start = r->at;
     uint32_t bad = 0;
     unsigned count = 0;
     int behind;
@@ -281,15 +302,17 @@ static inline uint64_t take_row(unsigned t, struct reader *r, uint64_t line, con
 
         behind = take_cell(r, &cell);
         count++;
-        if (behind == BROKEN)
-            return refuse(place, 6, t, line, count);
-        if (count <= header->cells) {
+        if (behind != BROKEN && count <= header->cells) {
             unsigned c = header->col_of[count - 1];
 
             if (c && !judge(&cell, &cols[c - 1], &numbers[c - 1]))
                 bad |= (uint32_t)1 << (c - 1);
         }
     } while (behind == NEXT_CELL);
+    if (too_long(start, r, behind))
+        return refuse(place, 17, t, line, 0);
+    if (behind == BROKEN)
+        return refuse(place, 6, t, line, count);
     if (count != header->cells)
         return refuse(place, 7, t, line, 0);
     if (bad) {
@@ -670,6 +693,7 @@ uint64_t plain_cell(const uint8_t *text, size_t length, uint64_t table, uint64_t
     struct reader r = {text, text + length};
     struct header header;
     struct cell asked = {text, 0, 0};
+    const uint8_t *start;
     uint64_t number, value;
     unsigned t = (unsigned)table;
     unsigned count = 0;
@@ -689,16 +713,19 @@ uint64_t plain_cell(const uint8_t *text, size_t length, uint64_t table, uint64_t
             ;
     if (line < 2 || r.at == r.end)
         return refuse(place, 15, 0, 0, 0);
+    start = r.at;
     do {
         struct cell cell;
 
         behind = take_cell(&r, &cell);
         count++;
-        if (behind == BROKEN)
-            return refuse(place, 6, t, line, count);
-        if (count <= header.cells && header.col_of[count - 1] == column)
+        if (behind != BROKEN && count <= header.cells && header.col_of[count - 1] == column)
             asked = cell;
     } while (behind == NEXT_CELL);
+    if (too_long(start, &r, behind))
+        return refuse(place, 17, t, line, 0);
+    if (behind == BROKEN)
+        return refuse(place, 6, t, line, count);
     if (count != header.cells)
         return refuse(place, 7, t, line, 0);
     if (!(header.present >> (column - 1) & 1))

@@ -1,5 +1,5 @@
-/* The plain reader: the six functions of include/workshop.h as a C programmer would write them for speed. The benchmark
- * measures the library against it. What each takes, answers and leaves is said in workshop.h. */
+/* The plain reader: the functions of include/workshop.h but those by radio, as a C programmer would write them for speed. The
+ * benchmark measures the library against it. What each takes, answers and leaves is said in workshop.h. */
 #ifndef BENCH_PLAIN_H
 #define BENCH_PLAIN_H
 

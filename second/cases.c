@@ -14,6 +14,7 @@ enum {
     MOST_CELLS = 48,  /* of a line: past 32 */
     MOST_BYTES = 140000,
     TEXT_LIMIT = 65536,
+    LINE_LIMIT = 2048,
     DAY = 86400
 };
 
@@ -469,6 +470,7 @@ static struct {
     struct raw cell[MOST_ROWS + 1][MOST_CELLS];
     uint8_t returns[MOST_ROWS + 1]; /* whether a carriage return stands before the line feed */
     int last_lacks;                 /* whether the last line lacks its line feed */
+    int bare_return;                /* and ends in a carriage return without it */
     struct growing pool;
 } sheet;
 
@@ -579,6 +581,27 @@ static struct raw raw_optional(const struct column *column)
     if (chance(35))
         return raw_empty();
     return raw_value(column, column->most ? roll() % (column->most + 1) : 0);
+}
+
+/* A cell of exactly that many bytes as it stands, well quoted. In quotes some of those inside are doubled, often the last. */
+static struct raw raw_of_length(size_t length)
+{
+    struct raw raw = open_raw();
+    int quoted = length >= 2 && chance(50);
+    size_t inside = quoted ? length - 2 : length;
+    int last_doubled = quoted && chance(50);
+
+    put(&sheet.pool, quoted ? "\"" : "");
+    while (inside > 0)
+        if (quoted && inside >= 2 && (chance(2) || (last_doubled && inside == 2))) {
+            put(&sheet.pool, "\"\"");
+            inside -= 2;
+        } else {
+            put_byte(&sheet.pool, (uint8_t)('a' + inside % 26));
+            inside--;
+        }
+    put(&sheet.pool, quoted ? "\"" : "");
+    return close_raw(raw);
 }
 
 static struct raw raw_unknown(void)
@@ -734,6 +757,7 @@ static void choose_line_ends(void)
     for (line = 0; line < sheet.lines; line++)
         sheet.returns[line] = (uint8_t)chance(returns);
     sheet.last_lacks = chance(25);
+    sheet.bare_return = 0;
 }
 
 static void make_sheet(unsigned t)
@@ -968,7 +992,48 @@ static void fault_times(size_t line)
     set_number(line, 11, end);
 }
 
-enum fault { F_HEADER_QUOTES, F_MANY_CELLS, F_TWICE, F_MISSING, F_QUOTES, F_COUNT, F_VALUE, F_KEY, F_REFERENCE, F_TIMES };
+static size_t line_length(size_t line)
+{
+    size_t length = sheet.cells[line] > 0 ? sheet.cells[line] - 1 : 0;
+    size_t i;
+
+    for (i = 0; i < sheet.cells[line]; i++)
+        length += sheet.cell[line][i].length;
+    return length;
+}
+
+/* The line of each table's text that was made long, or 0: one to ask for. */
+static uint64_t long_line[LAST_TABLE + 1];
+
+/* 17, or just none yet: one cell makes the line as long as that, mostly a cell of an unknown column. The last line may lack
+ * its line feed, and then a carriage return counts. */
+static void fault_long_line(size_t line)
+{
+    static const size_t lengths[] = {2046, 2047, 2047, 2048, 2048, 2048, 2049, 2049, 2049, 2050, 2051, 2500, 6000};
+    size_t wanted = lengths[below(sizeof lengths / sizeof lengths[0])];
+    size_t at, others;
+
+    if (cell_of(0) == MOST_CELLS)
+        insert_column_anywhere(0, raw_unknown_name());
+    at = sheet.cells[line] > 0 && chance(15) ? below(sheet.cells[line]) : cell_of(0);
+    if (at >= sheet.cells[line])
+        return;
+    others = line_length(line) - sheet.cell[line][at].length;
+    if (others > wanted)
+        return;
+    sheet.cell[line][at] = raw_of_length(wanted - others);
+    long_line[sheet.table] = line + 1;
+    if (line + 1 < sheet.lines || chance(40))
+        return;
+    sheet.last_lacks = 1;
+    sheet.bare_return = chance(50);
+}
+
+/* Those of a header first. */
+enum fault {
+    F_LONG_HEADER, F_HEADER_QUOTES, F_MANY_CELLS, F_TWICE, F_MISSING,
+    F_LONG_LINE, F_QUOTES, F_COUNT, F_VALUE, F_KEY, F_REFERENCE, F_TIMES
+};
 
 static void make_fault(enum fault fault, size_t line)
 {
@@ -980,6 +1045,8 @@ static void make_fault(enum fault fault, size_t line)
     if ((!refers && fault == F_REFERENCE) || (!blocks && fault == F_TIMES))
         fault = chance(50) ? F_KEY : F_VALUE;
     switch (fault) {
+    case F_LONG_HEADER: fault_long_line(0); break;
+    case F_LONG_LINE: fault_long_line(line); break;
     case F_HEADER_QUOTES: fault_quotes(0); break;
     case F_MANY_CELLS: fault_many_cells(); break;
     case F_TWICE: fault_twice(); break;
@@ -996,8 +1063,8 @@ static void make_fault(enum fault fault, size_t line)
 /* A fault of a row; those between rows and tables are the more telling ones. */
 static enum fault any_row_fault(void)
 {
-    static const enum fault faults[] = {F_QUOTES, F_COUNT, F_VALUE, F_VALUE, F_KEY, F_KEY, F_REFERENCE, F_REFERENCE, F_TIMES,
-        F_TIMES};
+    static const enum fault faults[] = {F_LONG_LINE, F_QUOTES, F_COUNT, F_VALUE, F_VALUE, F_KEY, F_KEY, F_REFERENCE,
+        F_REFERENCE, F_TIMES, F_TIMES};
 
     return faults[below(sizeof faults / sizeof faults[0])];
 }
@@ -1053,37 +1120,46 @@ static void print_sheet(void)
     text->room = MOST_BYTES;
     for (line = 0; line < sheet.lines; line++) {
         print_line(text, line);
-        if (line + 1 == sheet.lines && sheet.last_lacks)
+        if (line + 1 == sheet.lines && sheet.last_lacks) {
+            if (sheet.bare_return)
+                put_byte(text, '\r');
             return;
+        }
         if (sheet.returns[line])
             put_byte(text, '\r');
         put_byte(text, '\n');
     }
 }
 
-/* Makes the sheet's text exactly that long, by an unknown column with one long cell. */
+/* Makes the sheet's text exactly that long, by an unknown column whose cells make the lines long, as evenly as can be or one
+ * after the other. None comes over 2,048 bytes but the last, where the others do not suffice. */
 static void pad_sheet(size_t wanted)
 {
-    size_t line = below(sheet.lines);
-    size_t now = 0;
-    size_t i, others;
-    struct raw raw;
+    int evenly = chance(50);
+    size_t missing, i;
 
     print_sheet();
-    now = table_text[sheet.table].length;
-    others = sheet.lines; /* a semicolon on each line */
-    if (sheet.cells[0] == 32 || now + others >= wanted)
+    missing = table_text[sheet.table].length + sheet.lines; /* with a semicolon on each line */
+    if (sheet.cells[0] == 32 || missing >= wanted)
         return;
+    missing = wanted - missing;
     for (i = 0; i < sheet.lines; i++)
         if (sheet.cells[i] == 0)
             return;
     insert_column(sheet.cells[0], 0, raw_words(""));
-    for (i = 0; i < sheet.lines; i++)
-        sheet.cell[i][sheet.cells[i] - 1] = raw_words("");
-    raw = open_raw();
-    for (i = now + others; i < wanted; i++)
-        put_byte(&sheet.pool, (uint8_t)('a' + i % 26));
-    sheet.cell[line][sheet.cells[line] - 1] = close_raw(raw);
+    for (i = 0; i < sheet.lines; i++) {
+        size_t last = sheet.cells[i] - 1;
+        size_t length = line_length(i) - sheet.cell[i][last].length;
+        size_t room = length < LINE_LIMIT ? LINE_LIMIT - length : 0;
+        size_t share = evenly ? (missing + sheet.lines - i - 1) / (sheet.lines - i) : missing;
+
+        if (share > room)
+            share = room;
+        if (i + 1 == sheet.lines)
+            share = missing;
+        sheet.cell[i][last] = raw_of_length(share);
+        missing -= share;
+    }
 }
 
 /* ---- Books */
@@ -1258,6 +1334,8 @@ static void ask_cell(const struct cases_host *host, const struct growing *text, 
     uint64_t line = lines < 2 || chance(3) ? lines + 1 : between(2, lines);
     uint64_t column = between(1, tables[t].column_count);
 
+    if (long_line[t] > 1 && chance(40))
+        line = long_line[t];
     if (chance(4))
         table = chance(50) ? below(8) : strange_number();
     if (chance(6))
@@ -1602,6 +1680,296 @@ static struct growing make_long_slip(const row *book)
     return slip;
 }
 
+/* ---- By radio */
+
+/* A number of another length than the right one. */
+static size_t other_length(size_t right)
+{
+    const size_t lengths[] = {0, 1, right - 1, right + 1, right / 2, right * 2, 511, 513, 2047, 2048, 2049, 600};
+    size_t length;
+
+    do
+        length = lengths[below(sizeof lengths / sizeof lengths[0])];
+    while (length == right);
+    return length;
+}
+
+/* Where a text is cut. */
+enum cutting { IN_ONE_PART, ANYWHERE, AT_TELLING_PLACES, INTO_BYTES, SOME_BYTES };
+
+enum { MOST_PARTS = 8, MOST_SINGLE_BYTES = 120, SOME_SINGLE_BYTES = 16 };
+
+/* The delivery that is on its way. */
+static struct {
+    const struct cases_host *host;
+    size_t closed;  /* how many tables are closed */
+    int announced;  /* whether the next one is announced */
+    unsigned odd;   /* how often, in a hundred, a call stands between that is none of the delivery */
+} sending;
+
+static struct text text_at(const uint8_t *bytes, size_t length)
+{
+    struct text text;
+
+    text.bytes = bytes;
+    text.length = length;
+    return text;
+}
+
+static void open_radio(void)
+{
+    sending.host->radio_open(sending.host->self, right_lengths);
+    sending.closed = 0;
+    sending.announced = 0;
+}
+
+static void announce(uint64_t length)
+{
+    sending.host->radio_announce(sending.host->self, length, right_lengths);
+    sending.announced = 1;
+}
+
+static void send_part(const uint8_t *bytes, size_t length)
+{
+    sending.host->radio_part(sending.host->self, text_at(bytes, length), right_lengths);
+}
+
+static void close_table(void)
+{
+    sending.host->radio_close(sending.host->self, right_lengths);
+    sending.announced = 0;
+    sending.closed++;
+}
+
+/* Some bytes that belong to no delivery. */
+static struct text stray_bytes(void)
+{
+    static const char *const words[] = {"", "", "\n", "\"", "1;3\n", "VERSION;DEPOT_NR\n1;3\n", "\r", ";", "x"};
+    const char *chosen = words[below(sizeof words / sizeof words[0])];
+
+    return text_at((const uint8_t *)chosen, strlen(chosen));
+}
+
+/* One of the four calls, lent at these lengths, in turn or out of it. */
+static void any_call(struct radio_lengths lengths, size_t way)
+{
+    const struct cases_host *host = sending.host;
+
+    switch (way) {
+    case 0: host->radio_announce(host->self, chance(50) ? below(100) : strange_number(), lengths); break;
+    case 1: host->radio_part(host->self, stray_bytes(), lengths); break;
+    case 2: host->radio_close(host->self, lengths); break;
+    default: host->radio_open(host->self, lengths); break;
+    }
+}
+
+/* 15: what may not come now. */
+static void call_out_of_turn(void)
+{
+    if (sending.announced)
+        any_call(right_lengths, 0);
+    else
+        any_call(right_lengths, sending.closed == TABLES ? below(3) : between(1, 2));
+}
+
+/* 16: one of the lengths is wrong, or more. */
+static void call_at_wrong_length(void)
+{
+    struct radio_lengths lengths = right_lengths;
+    size_t wrong = between(1, 7);
+
+    if (wrong & 1)
+        lengths.rows = other_length(BOOK_ROWS);
+    if (wrong & 2)
+        lengths.kept = other_length(RADIO_KEPT);
+    if (wrong & 4)
+        lengths.lines = other_length(RADIO_LINES);
+    any_call(lengths, below(4));
+}
+
+static struct damage any_damage(void)
+{
+    static const uint64_t numbers[] = {0, 1, 2, 3, 4, 5, 6, 10, 11, 17, 18, 19, 2047, 2048, 2049, 2050, 65535, 65536, 65537,
+        4294967296u, UINT64_MAX, (uint64_t)1 << 63};
+    static const uint8_t bytes[] = {0, '\n', '\r', '"', ';', '0', '1', 'x', 127, 255};
+    struct damage damage;
+
+    damage.where = chance(20) ? IN_BOOK : chance(60) ? IN_KEPT : IN_LINES;
+    damage.row = chance(60) ? (size_t)TABLE_ROWS * below(TABLES) + below(6) : below(BOOK_ROWS);
+    damage.at = below(NUMBERS);
+    damage.how = chance(50) ? SET : chance(60) ? ADD : FLIP;
+    damage.number = numbers[below(sizeof numbers / sizeof numbers[0])];
+    if (damage.how == ADD)
+        damage.number = chance(50) ? 1 : (uint64_t)0 - 1;
+    else if (damage.how == FLIP)
+        damage.number = (uint64_t)1 << (chance(70) ? below(8) : below(64));
+    if (damage.where == IN_LINES) {
+        /* what stands where is the library's own: the beginning, the middle, the end, and anywhere */
+        damage.at = below(RADIO_LINES);
+        if (chance(70))
+            damage.at = chance(50) ? below(120) : chance(90) ? LINE_LIMIT + below(60) : RADIO_LINES - 1;
+        if (damage.how == SET)
+            damage.number = bytes[below(sizeof bytes)];
+    }
+    return damage;
+}
+
+/* What is kept is damaged, and the delivery goes on for some calls and up to its last close, whatever is answered. Then it
+ * goes on as if nothing had been. */
+static void damage_and_go_on(void)
+{
+    const struct cases_host *host = sending.host;
+    size_t i;
+
+    for (i = chance(80) ? 1 : 2; i > 0; i--) {
+        struct damage damage = any_damage();
+
+        host->radio_damage(host->self, &damage);
+    }
+    for (i = between(1, 4); i > 0; i--)
+        any_call(right_lengths, below(3));
+    for (i = sending.closed; i <= TABLES; i++) {
+        any_call(right_lengths, 2);
+        if (chance(60))
+            any_call(right_lengths, 0);
+        else
+            host->radio_announce(host->self, 0, right_lengths);
+        if (chance(20))
+            any_call(right_lengths, 1);
+    }
+    host->radio_mend(host->self);
+}
+
+/* A call, now and then, that the delivery does not need. */
+static void disturb(void)
+{
+    static const uint8_t nothing[1];
+
+    if (!chance(sending.odd))
+        return;
+    switch (below(4)) {
+    case 0: call_out_of_turn(); break;
+    case 1: call_at_wrong_length(); break;
+    case 2: damage_and_go_on(); break;
+    default: if (sending.announced) send_part(nothing, 0); break;
+    }
+}
+
+/* The next place behind `at` with one of these before it and one behind it, or the text's end. */
+static size_t telling_cut(struct text text, size_t at)
+{
+    static const struct {
+        uint8_t before, behind; /* 0: any byte */
+    } places[] = {{'\r', '\n'}, {'"', '"'}, {0, '\n'}, {'\n', 0}, {';', 0}, {0, '"'}, {'"', 0}, {'\r', 0}};
+    size_t way = below(sizeof places / sizeof places[0]);
+    size_t i = at + 1 + below((text.length - at + 2) / 3);
+
+    for (; i < text.length; i++)
+        if ((!places[way].before || text.bytes[i - 1] == places[way].before)
+            && (!places[way].behind || text.bytes[i] == places[way].behind))
+            return i;
+    return text.length;
+}
+
+/* Where the part that begins at `at` ends. */
+static size_t cut_behind(struct text text, size_t at, size_t parts, enum cutting cutting)
+{
+    size_t rest = text.length - at;
+
+    switch (cutting) {
+    case INTO_BYTES: return at + 1;
+    case SOME_BYTES: return parts == 0 ? at + below(rest) : parts <= SOME_SINGLE_BYTES ? at + 1 : text.length;
+    case ANYWHERE: return parts < MOST_PARTS ? at + between(1, chance(50) ? rest : (rest + 7) / 8) : text.length;
+    case AT_TELLING_PLACES: return parts < MOST_PARTS ? telling_cut(text, at) : text.length;
+    default: return text.length;
+    }
+}
+
+static void send_in_parts(struct text text)
+{
+    static const enum cutting ways[] = {IN_ONE_PART, IN_ONE_PART, ANYWHERE, ANYWHERE, AT_TELLING_PLACES, AT_TELLING_PLACES,
+        SOME_BYTES, INTO_BYTES};
+    enum cutting cutting = ways[below(sizeof ways / sizeof ways[0])];
+    size_t at = 0;
+    size_t parts;
+
+    if (cutting == INTO_BYTES && text.length > MOST_SINGLE_BYTES)
+        cutting = SOME_BYTES;
+    for (parts = 0; at < text.length; parts++) {
+        size_t end = cut_behind(text, at, parts, cutting);
+
+        disturb();
+        send_part(text.bytes + at, end - at);
+        at = end;
+    }
+    disturb();
+}
+
+/* What is announced for a text of that length, where it is to be something else. */
+static uint64_t wrong_announcement(size_t length)
+{
+    switch (below(8)) {
+    case 0: return (uint64_t)length + 1;
+    case 1: return (uint64_t)length - 1; /* of nothing the greatest number there is */
+    case 2: return 0;
+    case 3: return length + below(3000);
+    case 4: return TEXT_LIMIT;
+    case 5: return TEXT_LIMIT + 1;
+    case 6: return strange_number();
+    default: return ((uint64_t)1 << 32) + length;
+    }
+}
+
+static void send_surplus(void)
+{
+    static uint8_t many[70000];
+    struct text stray = stray_bytes();
+
+    send_part(stray.bytes, stray.length);
+    if (!chance(20))
+        return;
+    memset(many, chance(50) ? '\n' : 'x', sizeof many);
+    send_part(many, sizeof many);
+    send_part(many, below(sizeof many));
+}
+
+/* A table, announced and sent as it is, or with some bytes more or fewer than announced. */
+static void send_table(struct text text, int wrong)
+{
+    disturb();
+    announce(wrong && chance(60) ? wrong_announcement(text.length) : text.length);
+    if (wrong && chance(30))
+        text.length = chance(50) ? below(text.length + 1) : text.length - (text.length > 0);
+    send_in_parts(text);
+    if (wrong && chance(30))
+        send_surplus();
+    close_table();
+}
+
+/* Sends the texts that were read also by radio: mostly as they are, at times with one table announced wrongly, begun anew on
+ * the way, or with calls between that do not belong there. */
+static void send_by_radio(const struct cases_host *host)
+{
+    size_t wrong = chance(75) ? TABLES : below(TABLES);
+    size_t again = chance(95) ? TABLES : below(TABLES);
+    size_t i;
+
+    sending.host = host;
+    sending.odd = chance(60) ? 0 : 5;
+    open_radio();
+    for (i = 0; i < TABLES; i++) {
+        if (i == again) {
+            again = TABLES;
+            if (chance(50))
+                announce(below(100));
+            open_radio();
+            i = 0;
+        }
+        send_table(text_of(&table_text[reading_order[i]]), i == wrong);
+    }
+    disturb();
+}
+
 /* ---- Stories */
 
 static void read_texts(const struct cases_host *host, size_t book_rows)
@@ -1612,6 +1980,8 @@ static void read_texts(const struct cases_host *host, size_t book_rows)
     for (i = 0; i < TABLES; i++)
         texts[i] = text_of(&table_text[reading_order[i]]);
     host->read(host->self, texts, book_rows);
+    if (chance(40))
+        send_by_radio(host);
 }
 
 /* A delivery, good or with faults, and what can be asked of its texts and of the book it leaves. */
@@ -1645,12 +2015,13 @@ static void story_of_a_delivery(const struct cases_host *host)
     }
 }
 
-/* One fault at one place, each in its turn, so that none is left to luck: 3, 2 and 8 at every column of every table. */
+/* One fault at one place, each in its turn, so that none is left to luck: 3, 2 and 8 at every column of every table, and
+ * lines about as long as they may be. */
 static void story_of_a_place(const struct cases_host *host, uint64_t turn)
 {
-    static const enum fault faults[] = {F_TWICE, F_MISSING, F_VALUE};
-    enum fault fault = faults[turn % 3];
-    uint64_t place = turn / 3 % (11 + 2 + 3 + 3 + 11);
+    static const enum fault faults[] = {F_TWICE, F_MISSING, F_VALUE, F_LONG_LINE};
+    enum fault fault = faults[turn % 4];
+    uint64_t place = turn / 4 % (11 + 2 + 3 + 3 + 11);
     unsigned meant;
     size_t i;
 
@@ -1783,7 +2154,7 @@ static void story_of_long_texts(const struct cases_host *host)
     unsigned first = any_table();
     size_t i;
 
-    make_any_delivery();
+    make_delivery(60, 60, 60, 60, 60); /* enough lines for 65,536 bytes, and one more */
     for (i = 0; i < TABLES; i++) {
         unsigned t = reading_order[i];
 
@@ -1919,17 +2290,6 @@ static void story_of_broken_books(const struct cases_host *host)
 
 /* ---- Lent lengths */
 
-static size_t other_length(size_t right)
-{
-    const size_t lengths[] = {0, 1, right - 1, right + 1, right / 2, right * 2, 511, 513, 2047, 2048, 2049, 600};
-    size_t length;
-
-    do
-        length = lengths[below(sizeof lengths / sizeof lengths[0])];
-    while (length == right);
-    return length;
-}
-
 static void story_of_lengths(const struct cases_host *host)
 {
     struct growing slip;
@@ -1974,6 +2334,7 @@ void cases_play(uint64_t seed, uint64_t number, const struct cases_host *host)
     roll();
     main_version = chance(70) ? 1 : between(1, 99);
     meant_column = 0;
+    memset(long_line, 0, sizeof long_line);
     if (number % PLACES_EACH == 0) {
         story_of_a_place(host, number / PLACES_EACH);
         return;

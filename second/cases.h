@@ -5,6 +5,15 @@
 
 #include "sides.h"
 
+/* One number or byte of what a delivery by radio keeps, and what becomes of it. */
+struct damage {
+    enum { IN_BOOK, IN_KEPT, IN_LINES } where;
+    size_t row; /* of the book */
+    size_t at;  /* the number or byte there, counted from 0 */
+    enum { SET, ADD, FLIP } how;
+    uint64_t number;
+};
+
 /* What a story asks of the host, one call for each thing that is done on both sides. The bytes and rows that are handed
  * over hold for the time of the call. The standing book is the one that the last reading, put_book or slip left; where
  * `book_rows` or `work_rows` is another number than the fixed one, that is the length to lend. */
@@ -19,6 +28,14 @@ struct cases_host {
     void (*type)(void *self, size_t book_rows, uint64_t version, uint64_t number);
     void (*block)(void *self, size_t book_rows, const uint64_t key[4]);
     void (*write)(void *self, size_t book_rows, size_t out_length);
+    /* by radio, what is kept lent at these lengths */
+    void (*radio_open)(void *self, struct radio_lengths lengths);
+    void (*radio_announce)(void *self, uint64_t length, struct radio_lengths lengths);
+    void (*radio_part)(void *self, struct text part, struct radio_lengths lengths);
+    void (*radio_close)(void *self, struct radio_lengths lengths);
+    /* damages a copy of what the library keeps; it goes on alone with the copy, up to radio_mend */
+    void (*radio_damage)(void *self, const struct damage *damage);
+    void (*radio_mend)(void *self);
     /* the standing book, as the second reader has it: stories go on from what really stands there */
     const row *(*book)(void *self);
 };

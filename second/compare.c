@@ -10,7 +10,7 @@
 #include <stdlib.h>
 #include <string.h>
 
-enum { DEFAULT_SEED = 1, DEFAULT_COUNT = 10000, WANTED_EACH = 20, SHOWN_FAILURES = 10, REFUSALS = 17, GUARD = 64 };
+enum { DEFAULT_SEED = 1, DEFAULT_COUNT = 10000, WANTED_EACH = 20, SHOWN_FAILURES = 10, REFUSALS = 19, GUARD = 64 };
 
 /* The two sides of everything that is lent: 0 the library's, 1 the second reader's. */
 enum { SIDES = 2, SECOND = 1 };
@@ -224,16 +224,20 @@ static void end_text(struct text copy, struct text original)
 }
 
 /* Garbage, the same for both sides: what a call may not rely on. */
-static void fill_with_garbage(row *room, size_t rows)
+static void fill_with_garbage(uint64_t *room, size_t count)
 {
     uint64_t state = host.seed * 31 + host.number * 7 + host.calls;
-    size_t i, c;
+    size_t i;
 
-    for (i = 0; i < rows; i++)
-        for (c = 0; c < NUMBERS; c++) {
-            state = state * 6364136223846793005u + 1442695040888963407u;
-            room[i][c] = state >> (state & 1 ? 60 : 11);
-        }
+    for (i = 0; i < count; i++) {
+        state = state * 6364136223846793005u + 1442695040888963407u;
+        room[i] = state >> (state & 1 ? 60 : 11);
+    }
+}
+
+static void fill_rows_with_garbage(row *room, size_t rows)
+{
+    fill_with_garbage(room[0], rows * NUMBERS);
 }
 
 /* A book to lend. Those of the right length are lent so often that they have a place of their own. */
@@ -328,7 +332,7 @@ static void call_read(void *self, const struct text texts[TABLES], size_t book_r
         struct text copies[TABLES];
 
         books[s] = open_book(s, book_rows);
-        fill_with_garbage(books[s], book_rows);
+        fill_rows_with_garbage(books[s], book_rows);
         for (i = 0; i < TABLES; i++)
             copies[i] = copy_of_text(texts[i]);
         answers.returned[s] = side_read(sides[s], copies, books[s], book_rows, answers.place[s]);
@@ -407,7 +411,7 @@ static void call_slip(void *self, struct text slip, size_t book_rows, size_t wor
 
         books[s] = lend_book(s, book_rows);
         works[s] = room_of(work_rows * sizeof works[s][0]);
-        fill_with_garbage(works[s], work_rows);
+        fill_rows_with_garbage(works[s], work_rows);
         answers.returned[s] = sides[s]->slip(copy.bytes, copy.length, books[s], book_rows, works[s], work_rows,
             answers.place[s]);
         end_text(copy, slip);
@@ -519,6 +523,279 @@ static void call_write(void *self, size_t book_rows, size_t out_length)
         free(outs[s]);
 }
 
+/* ---- The calls by radio */
+
+/* What is kept between the calls, all that the library's side is lent. */
+struct kept {
+    row book[BOOK_ROWS];
+    uint64_t kept[RADIO_KEPT];
+    uint8_t lines[RADIO_LINES];
+};
+
+static struct {
+    struct kept kept[SIDES];
+    struct second_radio own[SIDES]; /* and what a side that is the second reader keeps */
+    struct kept before;             /* the library's, before the call */
+    /* While what the library keeps is damaged: what it kept before, and whether it has taken a call since. */
+    int damaged, taken;
+    struct kept whole;
+    struct second_radio whole_own;
+} radio;
+
+/* Whether both sides take deliveries by radio. Where not, nothing is sent. */
+static int has_radio(void)
+{
+    return sides[0]->radio_open && sides[1]->radio_open;
+}
+
+enum radio_call { OPEN, ANNOUNCE, PART, CLOSE };
+
+static uint64_t make_radio_call(const struct side *side, enum radio_call call, uint64_t length, struct text part,
+    const struct radio *lent, uint64_t place[4])
+{
+    switch (call) {
+    case OPEN: return side->radio_open(lent, place);
+    case ANNOUNCE: return side->radio_announce(length, lent, place);
+    case PART: return side->radio_part(part, lent, place);
+    default: return side->radio_close(lent, place);
+    }
+}
+
+static int are_right(struct radio_lengths lengths)
+{
+    return lengths.rows == BOOK_ROWS && lengths.kept == RADIO_KEPT && lengths.lines == RADIO_LINES;
+}
+
+static struct radio lend_kept(int s)
+{
+    struct radio lent = {radio.kept[s].book, radio.kept[s].kept, radio.kept[s].lines, &radio.own[s], right_lengths};
+
+    return lent;
+}
+
+/* Rooms of the lengths that are lent, with garbage where what is kept does not reach. */
+static void *room_like(const void *kept, size_t length, size_t lent_length, size_t size)
+{
+    size_t words = lent_length * size / 8 + 1;
+    uint64_t *room = room_of(words * 8);
+    void *exact;
+
+    fill_with_garbage(room, words);
+    memcpy(room, kept, (length < lent_length ? length : lent_length) * size);
+    exact = copy_of(room, lent_length * size);
+    free(room);
+    return exact;
+}
+
+/* A call with some length wrong: 16, and every room is as it came. */
+static uint64_t call_at_lengths(int s, enum radio_call call, uint64_t length, struct text part, struct radio_lengths lengths,
+    uint64_t place[4])
+{
+    const struct kept *kept = &radio.kept[s];
+    row *book = room_like(kept->book, BOOK_ROWS, lengths.rows, sizeof(row));
+    uint64_t *numbers = room_like(kept->kept, RADIO_KEPT, lengths.kept, sizeof numbers[0]);
+    uint8_t *lines = room_like(kept->lines, RADIO_LINES, lengths.lines, 1);
+    struct radio lent = {copy_of(book, lengths.rows * sizeof(row)), copy_of(numbers, lengths.kept * sizeof numbers[0]),
+        copy_of(lines, lengths.lines), &radio.own[s], lengths};
+    uint64_t returned = make_radio_call(sides[s], call, length, part, &lent, place);
+
+    end_copy("a call by radio at a wrong length changed the book", lent.book, book, lengths.rows * sizeof(row));
+    end_copy("a call by radio at a wrong length changed what is kept", lent.kept, numbers, lengths.kept * sizeof numbers[0]);
+    end_copy("a call by radio at a wrong length changed the lines", lent.lines, lines, lengths.lines);
+    free(book);
+    free(numbers);
+    free(lines);
+    return returned;
+}
+
+/* Whether what the library keeps is byte for byte what it was before the call. */
+static void want_kept(const char *what)
+{
+    want_same(what, radio.kept[0].book, radio.before.book, sizeof radio.before.book);
+    want_same(what, radio.kept[0].kept, radio.before.kept, sizeof radio.before.kept);
+    want_same(what, radio.kept[0].lines, radio.before.lines, sizeof radio.before.lines);
+}
+
+static void want_no_place(const uint64_t place[4])
+{
+    static const uint64_t zeros[3];
+
+    want_same("15 or 16 by radio has a place", place + 1, zeros, sizeof zeros);
+}
+
+/* Whether a book is one that every question takes. */
+static void want_book(const char *what, const row *book)
+{
+    static uint8_t written[40000];
+    uint64_t length[1], place[4];
+
+    if (sides[0]->write(book, BOOK_ROWS, written, sizeof written, length, place) != 0)
+        fail(what);
+}
+
+/* A call on what was damaged, of the library alone: 16 as long as it finds the damage, and otherwise the call is taken and
+ * leaves what keeps the rule. */
+static void call_on_damaged(enum radio_call call, uint64_t length, struct text part)
+{
+    struct radio lent = lend_kept(0);
+    uint64_t place[4] = {99, 99, 99, 99};
+    uint64_t returned;
+    int repeated;
+
+    radio.before = radio.kept[0];
+    returned = make_radio_call(sides[0], call, length, part, &lent, place);
+    if (host.verbose)
+        show_numbers("on what is damaged", place, 4);
+    if (returned != place[0])
+        fail("the returned number is not the place's");
+    /* A close repeats the fault that is kept, whatever its number became by the damage; 15 and 16 of the call have no place. */
+    repeated = call == CLOSE && (place[1] != 0 || place[2] != 0 || place[3] != 0);
+    if (repeated) {
+        radio.taken = 1;
+        want_book("a table is closed with a book that breaks the book rule", (const row *)radio.kept[0].book);
+        return;
+    }
+    if (returned == 15 || returned == 16) {
+        want_kept("a call by radio that is 15 or 16 changed something");
+        want_no_place(place);
+    }
+    if (returned == 16 && radio.taken)
+        fail("what a call by radio left breaks the rule");
+    if (returned != 16)
+        radio.taken = 1;
+    if (call != CLOSE && returned != 0 && returned != 15 && returned != 16)
+        fail("a call by radio that is no close gives a verdict");
+    if (call == CLOSE && returned != 15 && returned != 16)
+        want_book("a table is closed with a book that breaks the book rule", (const row *)radio.kept[0].book);
+}
+
+static void show_radio_call(enum radio_call call, uint64_t length, struct text part, struct radio_lengths lengths)
+{
+    if (call == ANNOUNCE)
+        printf("    of length %" PRIu64 "\n", length);
+    if (call == PART)
+        show_text("part", part);
+    if (!are_right(lengths))
+        printf("    lent: %" PRIu64 " rows of book, %" PRIu64 " numbers, %" PRIu64 " bytes\n", (uint64_t)lengths.rows,
+            (uint64_t)lengths.kept, (uint64_t)lengths.lines);
+}
+
+/* The library's answer is the second reader's. Where that is 15 or 16, or the part is empty, nothing that the library keeps
+ * may change; at a close both have the book of the tables closed so far. */
+static void call_radio(enum radio_call call, uint64_t length, struct text part, struct radio_lengths lengths)
+{
+    static const char *const words[] = {"radio, open", "radio, announce", "radio, part", "radio, close"};
+    struct answers answers = fresh_answers();
+    struct text copy;
+    int stays = 0;
+    int s;
+
+    if (is_over() || !has_radio())
+        return;
+    begin_call(words[call]);
+    if (host.verbose)
+        show_radio_call(call, length, part, lengths);
+    copy = copy_of_text(part);
+    if (radio.damaged) {
+        call_on_damaged(call, length, copy);
+        end_text(copy, part);
+        return;
+    }
+    for (s = SIDES - 1; s >= 0; s--) {
+        struct radio lent = lend_kept(s);
+
+        if (s != SECOND)
+            stays = answers.returned[SECOND] == 15 || answers.returned[SECOND] == 16 || (call == PART && part.length == 0);
+        if (stays)
+            radio.before = radio.kept[0];
+        if (are_right(lengths))
+            answers.returned[s] = make_radio_call(sides[s], call, length, copy, &lent, answers.place[s]);
+        else
+            answers.returned[s] = call_at_lengths(s, call, length, copy, lengths, answers.place[s]);
+        if (stays)
+            want_kept("a call by radio that changes nothing changed something");
+    }
+    end_text(copy, part);
+    compare_answers(&answers);
+    if (call == CLOSE && !stays)
+        want_same_rows("the books by radio differ", (const row *)radio.kept[0].book, (const row *)radio.kept[1].book,
+            BOOK_ROWS);
+}
+
+static const struct text no_part = {(const uint8_t *)"", 0};
+
+/* What stood there before does not matter: every other time it is garbage. */
+static void call_radio_open(void *self, struct radio_lengths lengths)
+{
+    int s;
+
+    (void)self;
+    if (are_right(lengths) && !radio.damaged && host.calls % 2 == 0)
+        for (s = 0; s < SIDES; s++) {
+            fill_rows_with_garbage(radio.kept[s].book, BOOK_ROWS);
+            fill_with_garbage(radio.kept[s].kept, RADIO_KEPT);
+            memset(radio.kept[s].lines, (int)(host.calls % 251), RADIO_LINES);
+        }
+    call_radio(OPEN, 0, no_part, lengths);
+}
+
+static void call_radio_announce(void *self, uint64_t length, struct radio_lengths lengths)
+{
+    (void)self;
+    call_radio(ANNOUNCE, length, no_part, lengths);
+}
+
+static void call_radio_part(void *self, struct text part, struct radio_lengths lengths)
+{
+    (void)self;
+    call_radio(PART, 0, part, lengths);
+}
+
+static void call_radio_close(void *self, struct radio_lengths lengths)
+{
+    (void)self;
+    call_radio(CLOSE, 0, no_part, lengths);
+}
+
+static uint64_t damaged_number(uint64_t old, const struct damage *damage)
+{
+    return damage->how == SET ? damage->number : damage->how == ADD ? old + damage->number : old ^ damage->number;
+}
+
+static void call_radio_damage(void *self, const struct damage *damage)
+{
+    struct kept *kept = &radio.kept[0];
+    uint64_t *number = damage->where == IN_BOOK ? &kept->book[damage->row][damage->at] : &kept->kept[damage->at % RADIO_KEPT];
+
+    (void)self;
+    if (is_over() || !has_radio())
+        return;
+    if (!radio.damaged) {
+        radio.whole = *kept;
+        radio.whole_own = radio.own[0];
+    }
+    radio.damaged = 1;
+    radio.taken = 0;
+    if (host.verbose)
+        printf("  damage: %s, row %" PRIu64 ", at %" PRIu64 "\n",
+            damage->where == IN_BOOK ? "book" : damage->where == IN_KEPT ? "kept" : "lines", (uint64_t)damage->row,
+            (uint64_t)damage->at);
+    if (damage->where == IN_LINES)
+        kept->lines[damage->at] = (uint8_t)damaged_number(kept->lines[damage->at], damage);
+    else
+        *number = damaged_number(*number, damage);
+}
+
+static void call_radio_mend(void *self)
+{
+    (void)self;
+    if (!radio.damaged)
+        return;
+    radio.kept[0] = radio.whole;
+    radio.own[0] = radio.whole_own;
+    radio.damaged = 0;
+}
+
 static const row *standing_book(void *self)
 {
     (void)self;
@@ -526,7 +803,8 @@ static const row *standing_book(void *self)
 }
 
 static const struct cases_host calls = {NULL, call_read, call_put_book, call_slip, call_cell, call_type, call_block,
-    call_write, standing_book};
+    call_write, call_radio_open, call_radio_announce, call_radio_part, call_radio_close, call_radio_damage, call_radio_mend,
+    standing_book};
 
 /* ---- Runs */
 
@@ -536,6 +814,7 @@ static int play(uint64_t seed, uint64_t number)
     host.number = number;
     host.calls = 0;
     host.failed = 0;
+    radio.damaged = 0;
     memset(host.book, 0, sizeof host.book);
     keep_empty_others();
     cases_play(seed, number, &calls);
@@ -575,7 +854,7 @@ static int counts_are_enough(void)
     size_t number;
 
     for (number = 0; number < REFUSALS; number++)
-        if (host.came[number] < WANTED_EACH) {
+        if (host.came[number] < WANTED_EACH && (number != 18 || has_radio())) {
             printf("FAILED: number %" PRIu64 " came fewer than %d times\n", (uint64_t)number, WANTED_EACH);
             enough = 0;
         }
@@ -593,7 +872,7 @@ static int came_at(uint64_t number, uint64_t table, uint64_t column)
 /* And at every place where it can arise: the tables, and the columns where a column is named. */
 static int places_are_enough(void)
 {
-    static const uint64_t without_column[] = {1, 4, 5, 7, 9};
+    static const uint64_t without_column[] = {1, 4, 5, 7, 9, 17};
     static const uint64_t referring[] = {3, 5, 6, 7, 9, 10};
     int enough = came_at(10, STOP_POINT, 2);
     uint64_t t, c;
@@ -601,8 +880,9 @@ static int places_are_enough(void)
 
     for (part = 0; part < TABLES; part++) {
         t = reading_order[part];
-        for (i = 0; i < 5; i++)
+        for (i = 0; i < sizeof without_column / sizeof without_column[0]; i++)
             enough &= came_at(without_column[i], t, 0);
+        enough &= !has_radio() || came_at(18, t, 0);
         for (c = 1; c <= tables[t].column_count; c++) {
             enough &= came_at(3, t, c) & came_at(6, t, c) & came_at(8, t, c);
             if (tables[t].columns[c - 1].required)

@@ -456,24 +456,102 @@ static uint64_t read_into_book(const struct side *side, const struct text texts[
     return side_read(side, texts, book, BOOK_ROWS, place);
 }
 
+/* ---- By radio */
+
+static uint64_t radio_kept[RADIO_KEPT + 1];
+static uint8_t radio_lines[RADIO_LINES + 1];
+static struct second_radio radio_own;
+
+/* The book above and these, at their right lengths. */
+static const struct radio lent_radio = {book, radio_kept, radio_lines, &radio_own, {BOOK_ROWS, RADIO_KEPT, RADIO_LINES}};
+
+static int has_radio(const struct side *side)
+{
+    return side->radio_open != NULL;
+}
+
+static int open_radio(const struct side *side)
+{
+    uint64_t place[4];
+
+    return answered(side->radio_open(&lent_radio, place), place, 0, 0, 0, 0);
+}
+
+static int announce(const struct side *side, uint64_t length)
+{
+    uint64_t place[4];
+
+    return answered(side->radio_announce(length, &lent_radio, place), place, 0, 0, 0, 0);
+}
+
+/* Sends a text: a first part, and the rest in parts of a size. */
+static int send_parts(const struct side *side, struct text text, size_t first, size_t size)
+{
+    size_t length = first;
+    size_t at;
+
+    for (at = 0; at < text.length; at += length, length = size) {
+        struct text part;
+        uint64_t place[4];
+
+        if (length > text.length - at)
+            length = text.length - at;
+        part.bytes = text.bytes + at;
+        part.length = length;
+        if (!answered(side->radio_part(part, &lent_radio, place), place, 0, 0, 0, 0))
+            return 0;
+    }
+    return 1;
+}
+
+/* Sends a delivery, one of its tables cut into parts, and gives its verdict in place. */
+static int send_delivery(const struct side *side, const struct text texts[TABLES], size_t cut, size_t first, size_t size,
+    uint64_t place[4])
+{
+    int good;
+    size_t i;
+
+    fill(book, sizeof book, 0xA5);
+    fill(radio_kept, sizeof radio_kept, 0xA5);
+    fill(radio_lines, sizeof radio_lines, 0xA5);
+    good = open_radio(side);
+    for (i = 0; i < TABLES && good; i++) {
+        good = announce(side, texts[i].length) && send_parts(side, texts[i], i == cut ? first : texts[i].length, size);
+        side->radio_close(&lent_radio, place);
+    }
+    return good;
+}
+
+/* Whether a delivery is answered with this number at this place, whole and by radio, and leaves the same book both ways. By
+ * radio one table is cut as it is said, and once none is. */
+static int is_read(const struct side *side, const struct text texts[TABLES], size_t cut, size_t first, size_t size,
+    uint64_t number, uint64_t table, uint64_t line, uint64_t column)
+{
+    uint64_t place[4] = {9, 9, 9, 9};
+    uint64_t answer = read_into_book(side, texts, place);
+    int good = answered(answer, place, number, table, line, column) && (number == 0 || book_is(zeros));
+    size_t way;
+
+    memcpy(before, book, sizeof before);
+    for (way = 0; way < 2 && has_radio(side); way++) {
+        good = good && send_delivery(side, texts, way == 0 ? cut : TABLES, first, size, place);
+        good = good && answered(place[0], place, number, table, line, column) && book_is((const row *)before);
+    }
+    return good;
+}
+
 static void run_reading(struct run *run, const struct reading_edge *edge)
 {
     struct text texts[TABLES];
-    uint64_t place[4] = {9, 9, 9, 9};
-    uint64_t answer;
     uint64_t table = edge->table;
-    int good;
 
     memcpy(texts, whole_case, sizeof texts);
     texts[part_of(edge->table)] = edge->text;
     /* a reference that was taken away shows in the rows that refer: a stop point's in column 2, a block's never there */
     if (edge->number == 10)
         table = edge->column == 2 ? STOP_POINT : VEHICLE_BLOCK;
-    answer = read_into_book(run->side, texts, place);
-    good = answered(answer, place, edge->number, table, edge->line, edge->column);
-    if (edge->number)
-        good = good && book_is(zeros);
-    tell(run, edge->words, good);
+    tell(run, edge->words,
+        is_read(run->side, texts, part_of(edge->table), 1, 1, edge->number, table, edge->line, edge->column));
 }
 
 /* Whether the book's blocks are written as the header and these rows. */
@@ -591,15 +669,30 @@ static void long_delivery(struct text texts[TABLES], unsigned t, uint64_t rows)
         texts[i] = long_table(reading_order[i], reading_order[i] == t ? rows : 512);
 }
 
-/* A depot text of exactly that many bytes, by a long cell in an unknown column. */
+/* Makes a text that long. */
+static void fill_up(struct growing *text, size_t length)
+{
+    fill(text->bytes + text->length, length - text->length, 'x');
+    text->length = length;
+}
+
+/* A depot text of exactly that many bytes, from depot 3 on, by long cells in an unknown column. */
 static struct text padded_depots(size_t length)
 {
     struct growing text = {big[DEPOT], 0};
+    uint64_t depot;
 
-    put(&text, "VERSION;DEPOT_NR;X\n1;3;");
-    fill(text.bytes + text.length, length - text.length, 'x');
-    text.bytes[length - 1] = '\n';
-    text.length = length;
+    put(&text, "VERSION;DEPOT_NR;X\n");
+    for (depot = 3; text.length < length; depot++) {
+        size_t rest = length - text.length;
+        size_t end = text.length + (rest > 2000 ? 1000 : rest);
+
+        put(&text, "1;");
+        put_number(&text, depot, 0);
+        put(&text, ";");
+        fill_up(&text, end - 1);
+        put(&text, "\n");
+    }
     return done(&text);
 }
 
@@ -614,44 +707,55 @@ static struct growing slip_of_65536(void)
     return slip;
 }
 
+/* How long texts are cut by radio. */
+enum { LONG_PART = 777 };
+
 static void run_long_tables(struct run *run)
 {
+    const struct side *side = run->side;
     struct text texts[TABLES];
-    uint64_t place[4], answer;
     size_t part;
 
     for (part = 0; part < TABLES; part++) {
         unsigned t = reading_order[part];
 
         long_delivery(texts, t, 512);
-        answer = read_into_book(run->side, texts, place);
-        tell(run, "512 rows", answered(answer, place, 0, 0, 0, 0) && book[512 * part + 511][0] == 1);
+        tell(run, "512 rows", is_read(side, texts, part, 1, LONG_PART, 0, 0, 0, 0) && book[512 * part + 511][0] == 1);
         long_delivery(texts, t, 513);
-        answer = read_into_book(run->side, texts, place);
-        tell(run, "row 513", answered(answer, place, 5, t, 514, 0) && book_is(zeros));
-        long_delivery(texts, t, 513);
+        tell(run, "row 513", is_read(side, texts, part, 1, LONG_PART, 5, t, 514, 0));
         big[t][texts[part].length - 2] = '"';
-        answer = read_into_book(run->side, texts, place);
-        tell(run, "A-13 row 513 has a 6", answered(answer, place, 5, t, 514, 0));
+        tell(run, "A-13 row 513 has a 6", is_read(side, texts, part, 1, LONG_PART, 5, t, 514, 0));
+        texts[part].length -= strlen("1;513\n") - 1;
+        tell(run, "A-13 row 513 is one byte", is_read(side, texts, part, 1, LONG_PART, 5, t, 514, 0));
+        texts[part] = long_table(t, 512);
+        put(&(struct growing){big[t], texts[part].length}, "\n");
+        texts[part].length++;
+        tell(run, "A-13 row 513 is blank", is_read(side, texts, part, 1, LONG_PART, 5, t, 514, 0));
+        texts[part].length--;
+        fill_up(&(struct growing){big[t], texts[part].length}, texts[part].length + 2049);
+        texts[part].length += 2049;
+        tell(run, "C3-01 row 513 is too long", is_read(side, texts, part, 1, LONG_PART, 5, t, 514, 0));
+        texts[part] = long_table(t, 511);
+        fill_up(&(struct growing){big[t], texts[part].length}, texts[part].length + 2049);
+        texts[part].length += 2049;
+        tell(run, "C3-01 row 512 is too long", is_read(side, texts, part, 1, LONG_PART, 17, t, 513, 0));
     }
     long_delivery(texts, 2, 600);
     texts[1].length = 0;
-    answer = read_into_book(run->side, texts, place);
-    tell(run, "length 0 counts, not what stands behind", answered(answer, place, 2, 2, 1, 1));
+    tell(run, "length 0 counts, not what stands behind", is_read(side, texts, 1, 1, 1, 2, 2, 1, 1));
     long_delivery(texts, 2, 512);
     put(&(struct growing){big[DEPOT], texts[1].length}, "1\n1;9999\n");
     texts[1].length += 9;
-    answer = read_into_book(run->side, texts, place);
-    tell(run, "A-13 row 513 has a 7", answered(answer, place, 5, 2, 514, 0));
+    tell(run, "A-13 row 513 has a 7", is_read(side, texts, 1, 1, LONG_PART, 5, 2, 514, 0));
     texts[1] = long_table(2, 511);
     put(&(struct growing){big[DEPOT], texts[1].length}, "1\n1;9999\n");
     texts[1].length += 9;
-    answer = read_into_book(run->side, texts, place);
-    tell(run, "A-13 a fault of row 512 before row 513", answered(answer, place, 7, 2, 513, 0));
+    tell(run, "A-13 a fault of row 512 before row 513", is_read(side, texts, 1, 1, LONG_PART, 7, 2, 513, 0));
 }
 
 static void run_long_texts(struct run *run)
 {
+    const struct side *side = run->side;
     struct text texts[TABLES];
     uint64_t place[4], answer;
     uint64_t got[4];
@@ -659,21 +763,17 @@ static void run_long_texts(struct run *run)
 
     memcpy(texts, whole_case, sizeof texts);
     texts[1] = padded_depots(65536);
-    answer = read_into_book(run->side, texts, place);
-    tell(run, "A-06 65,536 bytes", answered(answer, place, 0, 0, 0, 0));
+    tell(run, "A-06 65,536 bytes", is_read(side, texts, 1, 1, LONG_PART, 0, 0, 0, 0));
     texts[1] = padded_depots(65537);
-    answer = read_into_book(run->side, texts, place);
-    tell(run, "A-06 65,537 bytes", answered(answer, place, 1, 2, 0, 0));
+    tell(run, "A-06 65,537 bytes", is_read(side, texts, 1, 1, LONG_PART, 1, 2, 0, 0));
     big[DEPOT][0] = '"';
-    answer = read_into_book(run->side, texts, place);
-    tell(run, "1 before the header's 6", answered(answer, place, 1, 2, 0, 0));
+    tell(run, "1 before the header's 6", is_read(side, texts, 1, 1, LONG_PART, 1, 2, 0, 0));
     answer = run->side->cell(texts[1].bytes, texts[1].length, 2, 0, 1, got, place);
     tell(run, "cell: 1 before the header's 6 and the line's 15", answered(answer, place, 1, 2, 0, 0));
     answer = run->side->cell(texts[1].bytes, texts[1].length, 2, 2, 3, got, place);
     tell(run, "cell: the column's 15 before 1", answered(answer, place, 15, 0, 0, 0));
     texts[0] = (struct text)T(V "VEH_TYPE_SEATS\n1;4;x\n");
-    answer = read_into_book(run->side, texts, place);
-    tell(run, "A-08 table 1's 8 before table 2's 1", answered(answer, place, 8, 1, 2, 3));
+    tell(run, "A-08 table 1's 8 before table 2's 1", is_read(side, texts, 0, 1, 1, 8, 1, 2, 3));
     texts[0] = long_table(1, 700);
     answer = run->side->cell(texts[0].bytes, texts[0].length, 1, 600, 2, got, place);
     tell(run, "A-34 line 600 of 700 rows", answered(answer, place, 0, 0, 0, 0) && got[0] == 1 && got[1] == 599);
@@ -1091,6 +1191,489 @@ static void run_times(struct run *run, const struct times *times)
     tell(run, times->words, book_is_kept(run->side, times->kept));
 }
 
+/* ---- 3/13: lines of 2,048 bytes and some more */
+
+/* A line of the depots that long, its line end left out: the header or the first row. By a cell of an unknown column, quoted
+ * or not, behind this beginning. Behind a line feed a row follows. */
+struct long_line {
+    int is_row, is_quoted;
+    size_t length;
+    const char *end;
+};
+
+static struct text long_depots(const struct long_line *line, const char *beginning)
+{
+    struct growing text = {big[DEPOT], 0};
+    size_t end = line->length;
+
+    if (line->is_row) {
+        put(&text, "VERSION;DEPOT_NR;X\n");
+        end += text.length;
+    }
+    put(&text, beginning);
+    if (line->is_quoted) {
+        put(&text, "\"");
+        fill_up(&text, end - 1);
+        memcpy(text.bytes + end - 5, "\"\"", 2); /* a doubled quote close to the closing one */
+        put(&text, "\"");
+    } else {
+        fill_up(&text, end);
+    }
+    put(&text, line->end);
+    if (strlen(line->end) > 0 && line->end[strlen(line->end) - 1] == '\n')
+        put(&text, "1;7;\n");
+    return done(&text);
+}
+
+/* The whole case without blocks, so that no depot is missed. */
+static void depots_alone(struct text texts[TABLES], struct text depots)
+{
+    memcpy(texts, whole_case, TABLES * sizeof texts[0]);
+    texts[1] = depots;
+    texts[4] = (struct text)T(BLOCK_HEADER);
+}
+
+static void run_long_line(struct run *run, const struct long_line *line)
+{
+    struct text depots = long_depots(line, line->is_row ? "1;3;" : "VERSION;DEPOT_NR;");
+    struct text texts[TABLES];
+    uint64_t place[4], got[4], answer;
+    int bare_return = strcmp(line->end, "\r") == 0; /* it stands before no line feed, and so it counts */
+    uint64_t at_line = line->is_row ? 2 : 1;
+    uint64_t number = line->length + (size_t)bare_return > 2048 ? 17 : bare_return ? 6 : 0;
+    uint64_t column = number == 6 ? 3 : 0;
+    size_t start = line->is_row ? strlen("VERSION;DEPOT_NR;X\n") : 0;
+    int good;
+
+    depots_alone(texts, depots);
+    good = is_read(run->side, texts, 1, start + 2044, 1, number, 2, number ? at_line : 0, column);
+    good = good && is_read(run->side, texts, 1, start + line->length, 1, number, 2, number ? at_line : 0, column);
+    /* a cell of the line itself, or of the row behind the header, where there is one */
+    answer = run->side->cell(depots.bytes, depots.length, 2, 2, 2, got, place);
+    if (number == 0 && !line->is_row && *line->end == 0)
+        good = good && answered(answer, place, 15, 0, 0, 0);
+    else
+        good = good && answered(answer, place, number, 2, number ? at_line : 0, column) && got[0] == (number == 0)
+            && got[1] == (number ? 0 : line->is_row ? 3 : 7);
+    if (!good)
+        printf("  a %s of %" PRIu64 " bytes\n", line->is_row ? "row" : "header", (uint64_t)line->length);
+    tell(run, "A-03 a long line", good);
+}
+
+static void run_long_lines(struct run *run)
+{
+    static const char *const ends[] = {"\n", "\r\n", "", "\r"};
+    struct long_line line;
+    size_t end;
+
+    for (line.is_row = 0; line.is_row < 2; line.is_row++)
+        for (line.is_quoted = 0; line.is_quoted < 2; line.is_quoted++)
+            for (end = 0; end < 4; end++)
+                for (line.length = 2047; line.length <= 2050; line.length++) {
+                    line.end = ends[end];
+                    run_long_line(run, &line);
+                }
+}
+
+/* 17 before what else is wrong with the line. */
+struct long_order {
+    const char *words;
+    int is_row;
+    const char *beginning;
+    uint64_t number, column; /* the answer to a line of 2,048 bytes */
+};
+
+static const struct long_order long_orders[] = {
+    {"C3-01 header: 17 before 6", 0, "VERSION;DEPOT_NR;\";", 6, 3},
+    {"C3-01 header: 17 before 6 by a byte", 0, "VERSION\t;DEPOT_NR;", 6, 1},
+    {"C3-01 header: 17 before 4", 0, "VERSION;DEPOT_NR;" TEN_CELLS TEN_CELLS TEN_CELLS, 4, 0},
+    {"C3-01 header: 17 before 3", 0, "VERSION;DEPOT_NR;DEPOT_NR;", 3, 2},
+    {"C3-01 header: 17 before 2", 0, "VERSION;", 2, 2},
+    {"C3-01 row: 17 before 6", 1, "1;3;\"a\"", 6, 3},
+    {"C3-01 row: 17 before 7", 1, "1;3;;", 7, 0},
+    {"C3-01 row: 17 before 8", 1, "x;3;", 8, 1},
+    {"C3-01 row: 17 before 8, a number", 1, "1;", 7, 0},
+};
+
+static void run_long_order(struct run *run, const struct long_order *order)
+{
+    struct long_line line = {order->is_row, 0, 2048, "\n"};
+    uint64_t at_line = order->is_row ? 2 : 1;
+    uint64_t place[4], got[4], answer;
+    struct text texts[TABLES];
+    int good;
+
+    depots_alone(texts, long_depots(&line, order->beginning));
+    good = is_read(run->side, texts, 1, 1000, LONG_PART, order->number, 2, at_line, order->column);
+    line.length = 2049;
+    depots_alone(texts, long_depots(&line, order->beginning));
+    good = good && is_read(run->side, texts, 1, 1000, LONG_PART, 17, 2, at_line, 0);
+    answer = run->side->cell(texts[1].bytes, texts[1].length, 2, 2, 1, got, place);
+    good = good && answered(answer, place, 17, 2, at_line, 0) && got[0] == 0;
+    if (order->is_row) { /* the row behind it: "Other rows .. do not matter" */
+        answer = run->side->cell(texts[1].bytes, texts[1].length, 2, 3, 2, got, place);
+        good = good && answered(answer, place, 0, 0, 0, 0) && got[0] == 1 && got[1] == 7;
+    }
+    tell(run, order->words, good);
+}
+
+/* An earlier line's fault before a later line's 17, and no 17 on a slip. */
+static void run_long_elsewhere(struct run *run)
+{
+    struct growing slip = {big[SLIP], 0};
+    struct growing depots = {big[DEPOT], 0};
+    struct text texts[TABLES];
+    uint64_t place[4], got[4], answer;
+
+    put(&depots, D "1;3\n1;3\n");
+    fill_up(&depots, depots.length + 3000);
+    depots_alone(texts, done(&depots));
+    tell(run, "C3-01 an earlier 9 before a later 17", is_read(run->side, texts, 1, 20, 100, 9, 2, 3, 0));
+    answer = run->side->cell(depots.bytes, depots.length, 2, 5, 2, got, place);
+    tell(run, "C3-01 the line's 15 before its 17", answered(answer, place, 15, 0, 0, 0));
+    texts[0] = (struct text)T(V "\n1;4\n");
+    tell(run, "C3-01 an earlier table's 7 before a later 17", is_read(run->side, texts, 1, 20, 100, 7, 1, 2, 0));
+    read_into_book(run->side, whole_case, place);
+    fill_up(&slip, 2100);
+    answer = slip_on_book(run->side, done(&slip), place);
+    tell(run, "C3-03 a long line on a slip is 12", answered(answer, place, 12, 5, 1, 0));
+    slip.length = 0;
+    put(&slip, "D\t");
+    fill_up(&slip, 2100);
+    put(&slip, "\t5\t3\t101\n");
+    answer = slip_on_book(run->side, done(&slip), place);
+    tell(run, "C3-03 a long field on a slip is 8", answered(answer, place, 8, 5, 1, 1));
+}
+
+/* ---- 3/13: what is announced and what comes */
+
+struct announced_edge {
+    const char *words;
+    unsigned table;
+    uint64_t announced;
+    struct text text;
+    uint64_t number, line, column;
+};
+
+#define LENGTH(s) (sizeof(s) - 1)
+
+static const struct announced_edge announced_edges[] = {
+    {"as announced", 2, LENGTH(DEPOTS), T(DEPOTS), 0, 0, 0},
+    {"C3-04 a byte fewer", 2, LENGTH(DEPOTS) + 1, T(DEPOTS), 18, 0, 0},
+    {"C3-04 a byte more", 2, LENGTH(DEPOTS) - 1, T(DEPOTS), 18, 0, 0},
+    {"C3-04 a byte fewer of table 1", 1, LENGTH(TYPES) + 1, T(TYPES), 18, 0, 0},
+    {"C3-04 a byte more of table 3", 3, LENGTH(STOPS) - 1, T(STOPS), 18, 0, 0},
+    {"C3-04 a byte more of table 6", 6, LENGTH(POINTS) - 1, T(POINTS), 18, 0, 0},
+    {"C3-04 a byte fewer of table 4", 4, LENGTH(BLOCKS) + 1, T(BLOCKS), 18, 0, 0},
+    {"C3-04 a byte more of table 4", 4, LENGTH(BLOCKS) - 1, T(BLOCKS), 18, 0, 0},
+    {"nothing came", 2, LENGTH(DEPOTS), T(""), 18, 0, 0},
+    {"C3-07 nothing was announced", 2, 0, T(DEPOTS), 18, 0, 0},
+    {"C3-07 one byte, none announced", 2, 0, T("\n"), 18, 0, 0},
+    {"C3-06 18 in place of 2", 2, 1, T(""), 18, 0, 0},
+    {"C3-06 18 in place of a header's 6", 2, 3, T("\"\n"), 18, 0, 0},
+    {"C3-06 18 in place of a row's 6", 2, LENGTH(D) + 3, T(D "\"\n1;3\n"), 18, 0, 0},
+    {"C3-06 18 in place of 8", 2, LENGTH(D) + 5, T(D "1;x\n"), 18, 0, 0},
+    {"C3-06 18 in place of 9", 2, LENGTH(D) + 8, T(D "1;3\n1;3\n1"), 18, 0, 0},
+    {"a fault in the surplus alone", 2, LENGTH(DEPOTS), T(DEPOTS "\""), 18, 0, 0},
+    {"C3-05 65,537 announced, nothing came", 2, 65537, T(""), 1, 0, 0},
+    {"C3-05 65,537 announced, a good table came", 2, 65537, T(DEPOTS), 1, 0, 0},
+    {"C3-05 2^32 more announced", 2, 4294967296u + LENGTH(DEPOTS), T(DEPOTS), 1, 0, 0},
+    {"C3-05 2^64 - 1 announced", 2, UINT64_MAX, T(DEPOTS), 1, 0, 0},
+    {"C3-05 65,537 announced of table 4", 4, 65537, T(BLOCKS), 1, 0, 0},
+    {"65,536 announced, fewer came", 2, 65536, T(DEPOTS), 18, 0, 0},
+    {"C3-11 0 announced, nothing came", 2, 0, T(""), 2, 1, 1},
+    {"1 announced, a line feed", 2, 1, T("\n"), 2, 1, 1},
+    {"1 announced, a carriage return", 2, 1, T("\r"), 6, 1, 1},
+};
+
+/* Sends the whole case with one table like that; the verdict stands from its close on, and no other comes before. */
+static void run_announced(struct run *run, const struct announced_edge *edge)
+{
+    const struct side *side = run->side;
+    size_t size;
+    int good = 1;
+
+    for (size = 1; size < 100 && good; size += 98) {
+        uint64_t place[4];
+        size_t part, i;
+
+        good = open_radio(side);
+        part = part_of(edge->table);
+        for (i = 0; i < TABLES && good; i++) {
+            struct text text = i == part ? edge->text : whole_case[i];
+            uint64_t number = i < part ? 0 : edge->number;
+            uint64_t answer;
+
+            good = announce(side, i == part ? edge->announced : text.length) && send_parts(side, text, size, size);
+            answer = side->radio_close(&lent_radio, place);
+            good = good && answered(answer, place, number, edge->table, number ? edge->line : 0, number ? edge->column : 0);
+        }
+        good = good && (edge->number == 0 || book_is(zeros));
+    }
+    tell(run, edge->words, good);
+}
+
+/* Two tables with something wrong: the first one's fault stays. */
+static void run_two_faults(struct run *run)
+{
+    static const struct {
+        const char *words;
+        uint64_t first_announced, second_announced; /* 0: as long as the text */
+        struct text first;
+        uint64_t number, line, column; /* at table 1 */
+    } two[] = {
+        {"C3-06 an 8 of table 1 before table 2's 18", 0, 3, T(V "VEH_TYPE_SEATS\n1;4;x\n"), 8, 2, 3},
+        {"C3-06 a 2 of table 1 before table 2's 1", 0, 65537, T("X"), 2, 1, 1},
+        {"C3-06 an 18 of table 1 before table 2's 18", 3, 3, T(TYPES), 18, 0, 0},
+        {"C3-06 an 18 of table 1 before table 2's 1", 3, 65537, T(TYPES), 18, 0, 0},
+        {"C3-06 a 1 of table 1 before table 2's 18", 65537, 3, T(TYPES), 1, 0, 0},
+    };
+    const struct side *side = run->side;
+    size_t k;
+
+    for (k = 0; k < sizeof two / sizeof two[0]; k++) {
+        uint64_t place[4], answer;
+        int good = open_radio(side);
+        size_t i;
+
+        for (i = 0; i < TABLES; i++) {
+            struct text text = i == 0 ? two[k].first : whole_case[i];
+            uint64_t announced = i == 0 ? two[k].first_announced : i == 1 ? two[k].second_announced : 0;
+
+            good = good && announce(side, announced ? announced : text.length) && send_parts(side, text, 5, 5);
+            answer = side->radio_close(&lent_radio, place);
+            good = good && answered(answer, place, two[k].number, 1, two[k].line, two[k].column);
+        }
+        tell(run, two[k].words, good && book_is(zeros));
+    }
+}
+
+/* Endless surplus: what is counted must not run over. */
+static void run_surplus(struct run *run)
+{
+    const struct text many = {big[SLIP], 65536};
+    const struct side *side = run->side;
+    uint64_t place[4], answer;
+    int good = open_radio(side) && announce(side, 1);
+    size_t i;
+
+    fill(big[SLIP], 65536, '\n');
+    for (i = 0; i < 20; i++)
+        good = good && send_parts(side, many, 65536, 65536);
+    answer = side->radio_close(&lent_radio, place);
+    tell(run, "C3-07 much surplus", good && answered(answer, place, 18, 1, 0, 0));
+}
+
+/* ---- 3/13: turns, lengths, what is kept */
+
+/* All that is kept, to be looked at again or taken up again. */
+static struct kept_radio {
+    row book[BOOK_ROWS + 1];
+    uint64_t kept[RADIO_KEPT + 1];
+    uint8_t lines[RADIO_LINES + 1];
+    struct second_radio own;
+} kept_before, kept_other;
+
+static void keep_radio(struct kept_radio *kept)
+{
+    memcpy(kept->book, book, sizeof kept->book);
+    memcpy(kept->kept, radio_kept, sizeof kept->kept);
+    memcpy(kept->lines, radio_lines, sizeof kept->lines);
+    kept->own = radio_own;
+}
+
+static void take_up(const struct kept_radio *kept)
+{
+    memcpy(book, kept->book, sizeof kept->book);
+    memcpy(radio_kept, kept->kept, sizeof kept->kept);
+    memcpy(radio_lines, kept->lines, sizeof kept->lines);
+    radio_own = kept->own;
+}
+
+static int is_as_kept(const struct kept_radio *kept)
+{
+    return memcmp(kept->book, book, sizeof kept->book) == 0 && memcmp(kept->kept, radio_kept, sizeof kept->kept) == 0
+        && memcmp(kept->lines, radio_lines, sizeof kept->lines) == 0;
+}
+
+enum radio_call { ANNOUNCE, PART, EMPTY_PART, CLOSE, OPEN, RADIO_CALLS };
+
+static uint64_t make_call(const struct side *side, enum radio_call call, const struct radio *lent, uint64_t place[4])
+{
+    static const struct text some = T("VERSION;\"\r"), none = T("");
+
+    switch (call) {
+    case ANNOUNCE: return side->radio_announce(7, lent, place);
+    case PART: return side->radio_part(some, lent, place);
+    case EMPTY_PART: return side->radio_part(none, lent, place);
+    case CLOSE: return side->radio_close(lent, place);
+    default: return side->radio_open(lent, place);
+    }
+}
+
+/* Whether a call gives this number without a place, and changes nothing. */
+static int does_nothing(const struct side *side, enum radio_call call, const struct radio *lent, uint64_t number)
+{
+    uint64_t place[4] = {9, 9, 9, 9};
+    uint64_t answer;
+
+    keep_radio(&kept_before);
+    answer = make_call(side, call, lent, place);
+    return answered(answer, place, number, 0, 0, 0) && is_as_kept(&kept_before);
+}
+
+/* Every call at every wrong length: 16, in turn or not. */
+static int lengths_are_16(const struct side *side)
+{
+    static const size_t wrong_rows[] = {0, 1, BOOK_ROWS - 1, BOOK_ROWS + 1};
+    static const size_t wrong_kept[] = {0, 1, RADIO_KEPT - 1, RADIO_KEPT + 1};
+    static const size_t wrong_lines[] = {0, 1, RADIO_LINES - 1, RADIO_LINES + 1};
+    int good = 1;
+    size_t i;
+    int call;
+
+    for (call = 0; call < RADIO_CALLS; call++)
+        for (i = 0; i < 4; i++) {
+            struct radio lent = lent_radio;
+
+            lent.lengths.rows = wrong_rows[i];
+            good = good && does_nothing(side, (enum radio_call)call, &lent, 16);
+            lent.lengths.lines = wrong_lines[i];
+            good = good && does_nothing(side, (enum radio_call)call, &lent, 16);
+            lent.lengths.rows = BOOK_ROWS;
+            good = good && does_nothing(side, (enum radio_call)call, &lent, 16);
+            lent.lengths.lines = RADIO_LINES;
+            lent.lengths.kept = wrong_kept[i];
+            good = good && does_nothing(side, (enum radio_call)call, &lent, 16);
+        }
+    return good;
+}
+
+/* At each point of a delivery: what is out of turn is 15, a wrong length 16, an empty part in its turn is accepted, and
+ * nothing of that changes anything. */
+static void run_turns(struct run *run)
+{
+    const struct side *side = run->side;
+    uint64_t place[4];
+    int out_of_turn, lengths, empty, good;
+    size_t i;
+
+    good = out_of_turn = lengths = empty = open_radio(side);
+    for (i = 0; i <= TABLES; i++) {
+        out_of_turn = out_of_turn && does_nothing(side, PART, &lent_radio, 15)
+            && does_nothing(side, EMPTY_PART, &lent_radio, 15) && does_nothing(side, CLOSE, &lent_radio, 15);
+        lengths = lengths && lengths_are_16(side);
+        if (i == TABLES)
+            break;
+        good = good && announce(side, whole_case[i].length);
+        empty = empty && does_nothing(side, EMPTY_PART, &lent_radio, 0);
+        out_of_turn = out_of_turn && does_nothing(side, ANNOUNCE, &lent_radio, 15);
+        good = good && send_parts(side, whole_case[i], whole_case[i].length - 1, 1);
+        empty = empty && does_nothing(side, EMPTY_PART, &lent_radio, 0);
+        out_of_turn = out_of_turn && does_nothing(side, ANNOUNCE, &lent_radio, 15);
+        lengths = lengths && lengths_are_16(side);
+        side->radio_close(&lent_radio, place);
+    }
+    out_of_turn = out_of_turn && does_nothing(side, ANNOUNCE, &lent_radio, 15);
+    tell(run, "C3-10 calls out of turn", out_of_turn);
+    tell(run, "C3-15 calls at wrong lengths", lengths);
+    tell(run, "empty parts", empty);
+    tell(run, "the delivery between them",
+        good && answered(place[0], place, 0, 0, 0, 0) && writes(side, BLOCK_ROWS) && type_is(side, 1, 4, 0, 38800, 2));
+}
+
+/* The rest of the whole case, from the second table on. */
+static int finish_whole_case(const struct side *side)
+{
+    uint64_t place[4] = {9, 9, 9, 9};
+    int good = 1;
+    size_t i;
+
+    for (i = 1; i < TABLES && good; i++) {
+        good = announce(side, whole_case[i].length) && send_parts(side, whole_case[i], 7, 7);
+        side->radio_close(&lent_radio, place);
+    }
+    return good && answered(place[0], place, 0, 0, 0, 0) && writes(side, BLOCK_ROWS);
+}
+
+static int begin_whole_case(const struct side *side)
+{
+    uint64_t place[4];
+    int good = open_radio(side) && announce(side, whole_case[0].length) && send_parts(side, whole_case[0], 9, 4);
+
+    return answered(side->radio_close(&lent_radio, place), place, 0, 0, 0, 0) && good;
+}
+
+/* A delivery that is begun anew, laid aside, taken up twice, and one beside it. */
+static void run_kept_radio(struct run *run)
+{
+    const struct side *side = run->side;
+    uint64_t place[4];
+    int good;
+
+    good = open_radio(side) && announce(side, 99) && send_parts(side, whole_case[4], 50, 50);
+    tell(run, "begun anew in a table", good && begin_whole_case(side) && finish_whole_case(side));
+    good = open_radio(side) && announce(side, 0);
+    side->radio_close(&lent_radio, place);
+    tell(run, "begun anew behind a fault", good && begin_whole_case(side) && finish_whole_case(side));
+    tell(run, "begun anew behind the last close", begin_whole_case(side) && finish_whole_case(side));
+
+    good = begin_whole_case(side);
+    keep_radio(&kept_other);
+    good = good && finish_whole_case(side);
+    memcpy(before, book, sizeof before);
+    good = good && open_radio(side) && announce(side, 1); /* another one beside it, in the same arrays */
+    take_up(&kept_other);
+    good = good && finish_whole_case(side) && book_is((const row *)before);
+    tell(run, "laid aside, and taken up twice", good);
+}
+
+/* "handed in against that rule it is 16, before 15, and stays as it came": the rule has the book rule in it. The second
+ * reader keeps nothing there that could be damaged. */
+static void run_damaged_radio(struct run *run)
+{
+    const struct side *side = run->side;
+    uint64_t place[4];
+    size_t i, p;
+    int good;
+    int call;
+
+    if (side->radio_open == second_side.radio_open)
+        return;
+    for (p = 0; p < sizeof pokes / sizeof pokes[0]; p++) {
+        if (pokes[p].kept)
+            continue;
+        good = send_delivery(side, whole_case, TABLES, 1, 1, place);
+        book[pokes[p].row][pokes[p].column] = pokes[p].number;
+        for (call = ANNOUNCE; call <= CLOSE; call++)
+            good = good && does_nothing(side, (enum radio_call)call, &lent_radio, 16);
+        tell(run, pokes[p].words, good);
+    }
+    for (i = 0; i < RADIO_KEPT; i++) {
+        send_delivery(side, whole_case, TABLES, 1, 1, place);
+        radio_kept[i] = UINT64_MAX;
+        good = 1;
+        for (call = ANNOUNCE; call <= CLOSE; call++)
+            good = good && does_nothing(side, (enum radio_call)call, &lent_radio, 16);
+        tell(run, "C3-12 a kept number is 2^64 - 1", good);
+    }
+}
+
+static void run_radio(struct run *run)
+{
+    size_t i;
+
+    if (!has_radio(run->side))
+        return;
+    for (i = 0; i < sizeof announced_edges / sizeof announced_edges[0]; i++)
+        run_announced(run, &announced_edges[i]);
+    run_two_faults(run);
+    run_surplus(run);
+    run_turns(run);
+    run_kept_radio(run);
+    run_damaged_radio(run);
+}
+
 #define COUNT(list) (sizeof(list) / sizeof(list)[0])
 
 void edges_run(const struct side *side, size_t *passed, size_t *failed)
@@ -1118,6 +1701,11 @@ void edges_run(const struct side *side, size_t *passed, size_t *failed)
     run_widest_book(&run);
     run_lengths(&run);
     run_book_before_slip(&run);
+    run_long_lines(&run);
+    for (i = 0; i < COUNT(long_orders); i++)
+        run_long_order(&run, &long_orders[i]);
+    run_long_elsewhere(&run);
+    run_radio(&run);
     *passed += run.passed;
     *failed += run.failed;
 }

@@ -1,4 +1,5 @@
-/* Cases with answers worked out by hand from document 01: its edges, its whole case, and one or more for each open place. */
+/* Cases with answers worked out by hand from documents 01 and 02: the edges, the whole case, and one or more for each open
+ * place. */
 #ifndef SECOND_EDGES_H
 #define SECOND_EDGES_H
 

@@ -7,7 +7,8 @@
 
 #include <string.h>
 
-enum { ROWS = 512, NUMBERS = 11, BOOK_ROWS = TABLES * ROWS, WORK_ROWS = ROWS, TEXT_BYTES = 65536, HEADER_CELLS = 32 };
+enum { ROWS = 512, NUMBERS = 11, BOOK_ROWS = TABLES * ROWS, WORK_ROWS = ROWS, TEXT_BYTES = SECOND_TEXT_BYTES };
+enum { LINE_BYTES = 2048, HEADER_CELLS = 32 };
 
 /* Rows that are only looked at. */
 typedef const uint64_t (*rows_in)[NUMBERS];
@@ -78,6 +79,12 @@ static struct line header_line(const uint8_t *text, size_t length, size_t *at)
     *at = 0;
     next_line(text, length, at, &line);
     return line;
+}
+
+/* 3/13: "a line of more than 2,048 bytes is 17". "A line's length leaves its line end out." */
+static int is_too_long(struct line line)
+{
+    return line.end - line.start > LINE_BYTES;
 }
 
 /* ---- Cells */
@@ -236,17 +243,20 @@ static unsigned column_named(const uint8_t *text, struct cell cell, const struct
     return 0;
 }
 
-/* "header 6, 4, 3, 2". *at is left where line 2 begins. */
+/* "header 6, 4, 3, 2". 3/13: 17 is "first among header and line checks". *at is left where line 2 begins. */
 static uint64_t read_header(unsigned t, const uint8_t *text, size_t length, struct header *header, size_t *at,
     uint64_t place[4])
 {
     const struct table *table = &tables[t];
     struct cell cells[HEADER_CELLS];
     struct line line = header_line(text, length, at);
-    uint64_t fault = cut_line(text, line, cells, &header->cells);
-    uint64_t i;
+    uint64_t fault, i;
     unsigned c;
 
+    /* 3/13: "17 at column 0" */
+    if (is_too_long(line))
+        return refuse(place, 17, t, 1, 0);
+    fault = cut_line(text, line, cells, &header->cells);
     /* "6 | quote or byte fault | line, cell counted from 1": anywhere on the line, a 33rd cell too. */
     if (fault)
         return refuse(place, 6, t, 1, fault);
@@ -444,13 +454,16 @@ static uint64_t take_cells(const struct table *table, const uint8_t *text, const
     return 0;
 }
 
-/* The cells of one line after the header: 6, then 7. */
+/* The cells of one line after the header: 17, then 6, then 7. */
 static uint64_t take_line(unsigned t, const uint8_t *text, struct line line, uint64_t line_number,
     const struct header *header, struct cell cells[HEADER_CELLS], uint64_t place[4])
 {
-    uint64_t count;
-    uint64_t fault = cut_line(text, line, cells, &count);
+    uint64_t count, fault;
 
+    /* 3/13: "17 at column 0, first among header and line checks" */
+    if (is_too_long(line))
+        return refuse(place, 17, t, line_number, 0);
+    fault = cut_line(text, line, cells, &count);
     /* "6 | quote or byte fault | line, cell counted from 1" */
     if (fault)
         return refuse(place, 6, t, line_number, fault);
@@ -460,7 +473,7 @@ static uint64_t take_line(unsigned t, const uint8_t *text, struct line line, uin
     return 0;
 }
 
-/* "line by line 5, 6, 7, 8 by column number, 11, 9, 10 by column number" */
+/* "line by line 5, 6, 7, 8 by column number, 11, 9, 10 by column number"; 3/13: 17 comes "after 5" */
 static uint64_t read_row(unsigned t, const uint8_t *text, struct line line, uint64_t line_number,
     const struct header *header, uint64_t (*book)[NUMBERS], uint64_t place[4])
 {
@@ -548,6 +561,98 @@ uint64_t second_read(const uint8_t *vehicle_type, size_t vehicle_type_length, co
         }
     }
     return accept(place);
+}
+
+/* ---- The delivery by radio */
+
+/* 3/13: "handed in against that rule it is 16, before 15". What this reader keeps is its own and never handed in by others,
+ * so only a length can be wrong here. */
+static int is_lent(const struct second_lent *lent)
+{
+    return lent->rows == BOOK_ROWS && lent->kept_length == SECOND_KEPT && lent->lines_length == SECOND_LINES;
+}
+
+/* Whether the next call may be an announcement: some table is still to come, and none is announced. Otherwise, where one is
+ * announced, its parts and its close may come. */
+static int awaits_announcement(const struct second_radio *radio)
+{
+    return radio->closed < TABLES && !radio->is_announced;
+}
+
+/* It begins anew whatever stood there. */
+uint64_t second_radio_open(struct second_radio *radio, const struct second_lent *lent, uint64_t place[4])
+{
+    if (!is_lent(lent))
+        return refuse_without_place(place, 16);
+    memset(radio, 0, sizeof *radio);
+    return accept(place);
+}
+
+/* "The length of each table is announced before its first byte." A length that is too great shows at the close. */
+uint64_t second_radio_announce(struct second_radio *radio, uint64_t length, const struct second_lent *lent,
+    uint64_t place[4])
+{
+    if (!is_lent(lent))
+        return refuse_without_place(place, 16);
+    /* "a call out of turn is 15 and does nothing" */
+    if (!awaits_announcement(radio))
+        return refuse_without_place(place, 15);
+    radio->is_announced = 1;
+    radio->announced = length;
+    radio->came = 0;
+    return accept(place);
+}
+
+/* "Please take each table in parts, cut anywhere": the bytes are kept, and judged when the table is closed. Those behind the
+ * 65,536th are only counted: a table that has them is not read. */
+uint64_t second_radio_part(struct second_radio *radio, const uint8_t *part, size_t part_length,
+    const struct second_lent *lent, uint64_t place[4])
+{
+    size_t i;
+
+    if (!is_lent(lent))
+        return refuse_without_place(place, 16);
+    if (!radio->is_announced)
+        return refuse_without_place(place, 15);
+    for (i = 0; i < part_length; i++) {
+        if (radio->came < TEXT_BYTES)
+            radio->bytes[radio->came] = part[i];
+        radio->came++;
+    }
+    return accept(place);
+}
+
+/* What the table that is closed comes to. */
+static uint64_t read_heard(struct second_radio *radio, uint64_t place[4])
+{
+    unsigned t = reading_order[radio->closed];
+
+    /* "an announced length over 65,536 is 1, before 18" */
+    if (radio->announced > TEXT_BYTES)
+        return refuse(place, 1, t, 0, 0);
+    /* "a table closed with more or fewer bytes than announced is 18 at 0, 0, in place of that table's other faults" */
+    if (radio->came != radio->announced)
+        return refuse(place, 18, t, 0, 0);
+    /* "When the announced bytes have come, verdict, place and book are those of the whole reading, however it was cut." */
+    return read_table(t, radio->bytes, (size_t)radio->came, radio->book, place);
+}
+
+/* The verdict of the tables closed so far, and their book. */
+uint64_t second_radio_close(struct second_radio *radio, uint64_t (*book)[11], const struct second_lent *lent,
+    uint64_t place[4])
+{
+    if (!is_lent(lent))
+        return refuse_without_place(place, 16);
+    if (!radio->is_announced)
+        return refuse_without_place(place, 15);
+    /* "The first fault ends the reading." "After a fault, later parts are taken and change no answer, but 18 may still come":
+     * where the fault is the table's own, which is judged here and not before. "A refused reading leaves an empty book" */
+    if (!radio->place[0] && read_heard(radio, radio->place))
+        memset(radio->book, 0, sizeof radio->book);
+    radio->is_announced = 0;
+    radio->closed++;
+    memcpy(book, radio->book, sizeof radio->book);
+    return refuse(place, radio->place[0], radio->place[1], radio->place[2], radio->place[3]);
 }
 
 /* ---- The book rule */
@@ -664,7 +769,8 @@ uint64_t second_cell(const uint8_t *text, size_t length, uint64_t table, uint64_
     /* "Every answer but a text hands back an empty stretch, and every refusal zeros for numbers." */
     memset(answer, 0, 4 * sizeof answer[0]);
     /* "Checks: 15 for table or column, 1, header faults, 15 for the line (line 1 included), then 6 and 7 for that line and
-     * 8 for that cell. Other rows and 5 do not matter." */
+     * 8 for that cell. Other rows and 5 do not matter." 3/13: 17 is first among the header's checks and the line's, "in both
+     * ways of reading and in the cell question". */
     if (table > LAST_TABLE || tables[table].column_count == 0)
         return refuse_without_place(place, 15);
     t = (unsigned)table;

@@ -1,5 +1,5 @@
-/* The second reader: the six functions of include/workshop.h once more, under other names, written from documents
- * 01 and 02 alone. What each takes, answers and leaves is said there. It is for comparing and made to be read, not to be fast. */
+/* The second reader: the functions of include/workshop.h once more, under other names, written from documents 01 and 02
+ * alone. What each takes, answers and leaves is said there. It is for comparing and made to be read, not to be fast. */
 #ifndef SECOND_READER_H
 #define SECOND_READER_H
 
@@ -9,6 +9,36 @@
 uint64_t second_read(const uint8_t *vehicle_type, size_t vehicle_type_length, const uint8_t *depot, size_t depot_length,
     const uint8_t *stop, size_t stop_length, const uint8_t *stop_point, size_t stop_point_length,
     const uint8_t *vehicle_block, size_t vehicle_block_length, uint64_t (*book)[11], size_t rows, uint64_t place[4]);
+
+/* The delivery by radio. In place of `kept` and `lines` this reader keeps a struct of its own, with all bytes of the table
+ * that is announced; of the other two it is told the lengths at which they are lent. */
+enum { SECOND_TEXT_BYTES = 65536, SECOND_KEPT = 11, SECOND_LINES = 4097 };
+
+struct second_radio {
+    uint64_t closed;    /* how many tables are closed */
+    int is_announced;   /* whether the next one is announced and not yet closed */
+    uint64_t announced; /* its length */
+    uint64_t came;      /* how many bytes of it came */
+    uint8_t bytes[SECOND_TEXT_BYTES];
+    uint64_t place[4]; /* the first fault of the closed tables, or four zeros */
+    uint64_t book[2560][11];
+};
+
+struct second_lent {
+    size_t rows, kept_length, lines_length;
+};
+
+uint64_t second_radio_open(struct second_radio *radio, const struct second_lent *lent, uint64_t place[4]);
+
+uint64_t second_radio_announce(struct second_radio *radio, uint64_t length, const struct second_lent *lent,
+    uint64_t place[4]);
+
+uint64_t second_radio_part(struct second_radio *radio, const uint8_t *part, size_t part_length,
+    const struct second_lent *lent, uint64_t place[4]);
+
+/* Every close leaves the book of the tables closed so far. */
+uint64_t second_radio_close(struct second_radio *radio, uint64_t (*book)[11], const struct second_lent *lent,
+    uint64_t place[4]);
 
 uint64_t second_slip(const uint8_t *slip, size_t slip_length, uint64_t (*book)[11], size_t book_rows, uint64_t (*work)[11],
     size_t work_rows, uint64_t place[4]);

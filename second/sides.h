@@ -1,14 +1,16 @@
-/* The two sides of a comparison: the library's six functions and six others of the same shape, each set in a struct, so
- * that the host, the edges and the benchmark do the same with both. */
+/* The two sides of a comparison: the library's functions and others of the same shape, each set in a struct, so that the
+ * host, the edges and the benchmark do the same with both. */
 #ifndef SECOND_SIDES_H
 #define SECOND_SIDES_H
 
 #include "columns.h"
+#include "reader.h"
 
 #include <stddef.h>
 #include <stdint.h>
 
 enum { NUMBERS = 11, TABLE_ROWS = 512, BOOK_ROWS = TABLES * TABLE_ROWS, WORK_ROWS = 512 };
+enum { RADIO_KEPT = SECOND_KEPT, RADIO_LINES = SECOND_LINES };
 
 typedef uint64_t row[NUMBERS];
 
@@ -16,6 +18,22 @@ typedef uint64_t row[NUMBERS];
 struct text {
     const uint8_t *bytes;
     size_t length;
+};
+
+/* The lengths at which what a delivery by radio keeps is lent. */
+struct radio_lengths {
+    size_t rows, kept, lines;
+};
+
+extern const struct radio_lengths right_lengths;
+
+/* What a delivery by radio keeps, as it is lent. The second reader keeps `own` in place of `kept` and `lines`. */
+struct radio {
+    row *book;
+    uint64_t *kept;
+    uint8_t *lines;
+    struct second_radio *own;
+    struct radio_lengths lengths;
 };
 
 struct side {
@@ -31,6 +49,11 @@ struct side {
         uint64_t answer[7], uint64_t place[4]);
     uint64_t (*write)(const row *book, size_t rows, uint8_t *out, size_t out_length, uint64_t length[1],
         uint64_t place[4]);
+    /* by radio; NULL where a side has none of them */
+    uint64_t (*radio_open)(const struct radio *radio, uint64_t place[4]);
+    uint64_t (*radio_announce)(uint64_t length, const struct radio *radio, uint64_t place[4]);
+    uint64_t (*radio_part)(struct text part, const struct radio *radio, uint64_t place[4]);
+    uint64_t (*radio_close)(const struct radio *radio, uint64_t place[4]);
 };
 
 /* The library, or what stands in for it: built with -DSELF the second reader, with -DPLAIN the benchmark's plain one. */

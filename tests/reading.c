@@ -8,7 +8,7 @@
 #include <string.h>
 
 enum { TABLES = 5, TABLE_ROWS = WORKSHOP_BOOK_ROWS / TABLES, MOST_ROWS = WORKSHOP_BOOK_ROWS + 1 };
-enum { MOST_BYTES = 70000, MOST_NAMES = 32, MOST_FILE = 1000000 };
+enum { MOST_BYTES = 70000, MOST_NAMES = 32, MOST_FILE = 1000000, MOST_WAYS = 8, MOST_PARTS = 256 };
 
 /* Every number that is lent, before a call. */
 enum { BEFORE = 7 };
@@ -31,6 +31,8 @@ static struct {
     const char *name[MOST_NAMES]; /* texts that have a name */
     struct text named[MOST_NAMES];
     struct text beside[TABLES]; /* what is handed in for a table that a case does not name */
+    size_t ways;                /* of sending a delivery by radio */
+    uint64_t parts[MOST_WAYS];  /* and how many bytes a part has in each; 0: a table is one part */
     uint64_t passed, failed;
 } file;
 
@@ -39,8 +41,14 @@ static struct {
     const char *name; /* NULL before the first */
     int answers;
     struct text texts[TABLES];
+    int is_named[TABLES];
+    int is_radio; /* some table is announced otherwise than it comes, which only the radio can tell */
+    uint64_t announced[TABLES];
     size_t book_rows;
     row book[MOST_ROWS];
+    row book_read[MOST_ROWS];
+    uint64_t kept[WORKSHOP_RADIO_KEPT];
+    uint8_t lines[WORKSHOP_RADIO_LINES];
     int asks; /* the cell question in place of the reading */
     uint64_t asked[3];
     struct text asked_text;
@@ -187,14 +195,20 @@ static void fill(uint64_t *numbers, size_t count, uint64_t with)
         numbers[i] = with;
 }
 
-static struct answer call(void)
+static void fill_book(void)
 {
-    const struct text *t = played.texts;
-    struct answer answer;
     size_t r;
 
     for (r = 0; r < MOST_ROWS; r++)
         fill(played.book[r], WORKSHOP_NUMBERS, BEFORE);
+}
+
+static struct answer call(void)
+{
+    const struct text *t = played.texts;
+    struct answer answer;
+
+    fill_book();
     fill(answer.place, 4, BEFORE);
     fill(answer.cell, 4, played.asks ? BEFORE : 0);
     if (played.asks)
@@ -232,16 +246,82 @@ static int same(const char *what, const uint64_t *wanted, const uint64_t *came, 
     return 0;
 }
 
-/* Plays the case; whether it is answered with this place and, where a cell is asked, with these numbers. */
+/* ---- The same by radio */
+
+#define KEPT played.book, played.book_rows, played.kept, WORKSHOP_RADIO_KEPT, played.lines, WORKSHOP_RADIO_LINES, place
+
+/* Sends a table that the case names in parts of so many bytes, or of more where it would have too many; another one in one.
+ * Whether every part is answered with this number. */
+static int is_sent(size_t table, uint64_t bytes, uint64_t answer)
+{
+    const struct text *text = &played.texts[table];
+    size_t least = (text->length + MOST_PARTS - 1) / MOST_PARTS;
+    size_t size = !played.is_named[table] || bytes == 0 ? text->length : bytes < least ? least : (size_t)bytes;
+    uint64_t place[4];
+    size_t at;
+
+    for (at = 0; at < text->length; at += size)
+        if (workshop_radio_part(text->bytes + at, size < text->length - at ? size : text->length - at, KEPT) != answer)
+            return 0;
+    return 1;
+}
+
+/* Sends the delivery; place is the last close's. Whether all that is no close is accepted, or is 16 for a book of another length.
+ * */
+static int is_taken(uint64_t bytes, uint64_t place[4])
+{
+    uint64_t answer = played.book_rows == WORKSHOP_BOOK_ROWS ? 0 : 16;
+    int good;
+    size_t t;
+
+    fill_book();
+    fill(played.kept, WORKSHOP_RADIO_KEPT, BEFORE);
+    memset(played.lines, BEFORE, sizeof played.lines);
+    good = workshop_radio_open(KEPT) == answer;
+    for (t = 0; t < TABLES; t++) {
+        good = good && workshop_radio_announce(played.is_radio ? played.announced[t] : played.texts[t].length, KEPT) == answer;
+        good = good && is_sent(t, bytes, answer);
+        if (workshop_radio_close(KEPT) != place[0])
+            return fail("the number that a close returns");
+    }
+    return good || fail("a call by radio is not taken");
+}
+
+/* Plays the case by radio in one way; whether place and book are those of the reading. */
+static int is_same_by_radio(uint64_t bytes, const uint64_t wanted[4])
+{
+    uint64_t place[4];
+
+    if (is_taken(bytes, place) && same("the place by radio", wanted, place, 4)
+        && (memcmp(played.book, played.book_read, sizeof played.book) == 0 || fail("the book by radio")))
+        return 1;
+    printf("    in parts of %" PRIu64 " bytes\n", bytes);
+    return 0;
+}
+
+/* Plays the case; whether it is answered with this place and, where a cell is asked, with these numbers, and by radio too. */
 static int answers_with(const uint64_t place[4], const uint64_t cell[4])
 {
     struct answer came;
+    uint64_t radio_place[4];
+    size_t i;
 
     if (!played.name)
         end_with("an answer stands before the first case");
-    came = call();
-    return same("the place", place, came.place, 4) && same("the number returned", place, &came.returned, 1) &&
-        same("the cell", cell, came.cell, 4);
+    if (played.is_radio) {
+        if (!is_taken(0, radio_place) || !same("the place by radio", place, radio_place, 4))
+            return 0;
+    } else {
+        came = call();
+        if (!same("the place", place, came.place, 4) || !same("the number returned", place, &came.returned, 1)
+            || !same("the cell", cell, came.cell, 4))
+            return 0;
+    }
+    memcpy(played.book_read, played.book, sizeof played.book);
+    for (i = 0; i < file.ways && !played.asks; i++)
+        if (!is_same_by_radio(file.parts[i], place))
+            return 0;
+    return 1;
 }
 
 /* ---- The lines of a case */
@@ -285,6 +365,19 @@ static void take_let(char *rest)
     file.names++;
 }
 
+static void take_parts(char *rest)
+{
+    const char *at = rest;
+
+    for (file.ways = 0; *at != 0; file.ways++) {
+        if (file.ways == MOST_WAYS)
+            end_with("too many ways of sending");
+        file.parts[file.ways] = take_number(&at);
+        if (*at != 0)
+            take_byte(&at, ' ');
+    }
+}
+
 static void take_beside(char *rest)
 {
     char *written = cut_word(rest);
@@ -304,6 +397,8 @@ static void take_case(char *rest)
     played.name = rest;
     played.answers = 0;
     played.asks = 0;
+    played.is_radio = 0;
+    memset(played.is_named, 0, sizeof played.is_named);
     played.book_rows = WORKSHOP_BOOK_ROWS;
     memcpy(played.texts, file.beside, sizeof played.texts);
 }
@@ -315,6 +410,20 @@ static void take_book(char *rest)
     played.book_rows = take_number(&at);
     if (played.book_rows > MOST_ROWS)
         end_with("the book is too long");
+}
+
+/* Stands behind the texts: what is announced for the other tables is what they have. */
+static void take_announced(char *rest)
+{
+    const char *at = cut_word(rest);
+    size_t table = table_of(rest);
+    size_t t;
+
+    for (t = 0; t < TABLES && !played.is_radio; t++)
+        played.announced[t] = played.texts[t].length;
+    played.is_radio = 1;
+    played.announced[table] = take_number(&at);
+    take_byte(&at, 0);
 }
 
 static void take_cell(char *rest)
@@ -435,11 +544,11 @@ static void take_line(char *line)
     static const struct {
         const char *word;
         void (*take)(char *rest);
-    } lines[] = {{"let", take_let}, {"beside", take_beside}, {"case", take_case}, {"book", take_book}, {"cell", take_cell},
-        {"accepted", want_accepted}, {"refused", want_refused}, {"number", want_number}, {"text", want_text},
+    } lines[] = {{"let", take_let}, {"beside", take_beside}, {"parts", take_parts}, {"case", take_case}, {"book", take_book},
+        {"cell", take_cell}, {"announced", take_announced}, {"accepted", want_accepted}, {"refused", want_refused}, {"number", want_number}, {"text", want_text},
         {"nothing", want_nothing}};
     char *rest;
-    size_t i;
+    size_t i, t;
 
     file.line++;
     if (*line == 0 || *line == '#')
@@ -450,7 +559,9 @@ static void take_line(char *line)
             lines[i].take(rest);
             return;
         }
-    set_text(&played.texts[table_of(line)], rest);
+    t = table_of(line);
+    set_text(&played.texts[t], rest);
+    played.is_named[t] = 1;
 }
 
 int main(void)

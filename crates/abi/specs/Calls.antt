@@ -7,6 +7,7 @@ use Rattle.refusals.specs.Verdicts.{values}
 use Rattle.questions.specs.Calls.{typeCall, blockCall}
 use Rattle.delivery.specs.Delivery.{Delivery}
 use Rattle.delivery.specs.Calls.{readCall}
+use Rattle.radio.specs.Room.{Slices, Outcome}
 use Rattle.cell_question.specs.CellQuestion.{cellAsked}
 use Rattle.slips.specs.Calls.{slipCall}
 use Rattle.writer.specs.Calls.{writeCall}
@@ -37,3 +38,7 @@ BlockPermits book version day depot block r place answer =
 abbrev pub WritePermits : List Row → Bytes → ℕ → List ℕ → List ℕ → Bytes → Type 0
 WritePermits book buffer r place size out =
     Tells r place (writeCall book buffer .verdict) × (size ≡ writeCall book buffer .size ∷ []) × (out ≡ writeCall book buffer .out)
+
+-- a call by radio: what the three lent slices hold behind it
+abbrev pub RadioPermits : Outcome → ℕ → List ℕ → Slices → Type 0
+RadioPermits o r place s = Tells r place (o .verdict) × (s ≡ o .slices)

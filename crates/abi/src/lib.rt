@@ -2,7 +2,10 @@
 ghost use mathlib.Core.Path.{_≡_};
 ghost use Rattle.refusals.specs.Verdicts.{paper, values};
 ghost use Rattle.delivery.specs.Calls.{delivery};
-ghost use Rattle.abi.specs.Calls.{ReadPermits, SlipPermits, CellPermits, TypePermits, BlockPermits, WritePermits};
+ghost use Rattle.radio.specs.Radio.{announce, part, close};
+ghost use Rattle.radio.specs.Room.{radioCall, openCall};
+ghost use Rattle.radio_rule.specs.Lent.{slices};
+ghost use Rattle.abi.specs.Calls.{ReadPermits, SlipPermits, CellPermits, TypePermits, BlockPermits, WritePermits, RadioPermits};
 use refusals::Cell;
 use refusals::Verdict;
 use rows::Row;
@@ -130,6 +133,64 @@ pub extern "C" fn workshop_write(
     let verdict = written.verdict;
     let told = on_paper(verdict);
     *length = [written.size as u64];
+    *place = told;
+    told[0]
+}
+
+#[no_mangle]
+pub extern "C" fn workshop_radio_open(
+    book: &mut [Row],
+    kept: &mut [u64],
+    lines: &mut [u8],
+    place: &mut [u64; 4],
+) -> u64
+    ensures { λ r. ⌜ RadioPermits (openCall (slices (now (book .entry)) (now (kept .entry)) (now (lines .entry)))) r (now (place .exit)) (slices (now (book .exit)) (now (kept .exit)) (now (lines .exit))) ⌝ }
+{
+    let told = on_paper(radio_calls::open(book, kept, lines));
+    *place = told;
+    told[0]
+}
+
+#[no_mangle]
+pub extern "C" fn workshop_radio_announce(
+    length: u64,
+    book: &[Row],
+    kept: &mut [u64],
+    lines: &[u8],
+    place: &mut [u64; 4],
+) -> u64
+    ensures { λ r. ⌜ RadioPermits (radioCall (announce length) (slices (now (book .entry)) (now (kept .entry)) (now (lines .entry)))) r (now (place .exit)) (slices (now (book .entry)) (now (kept .exit)) (now (lines .entry))) ⌝ }
+{
+    let told = on_paper(radio_calls::announce(length, book, kept, lines));
+    *place = told;
+    told[0]
+}
+
+#[no_mangle]
+pub extern "C" fn workshop_radio_part(
+    bytes: &[u8],
+    book: &mut [Row],
+    kept: &mut [u64],
+    lines: &mut [u8],
+    place: &mut [u64; 4],
+) -> u64
+    ensures { λ r. ⌜ RadioPermits (radioCall (part (now (bytes .entry))) (slices (now (book .entry)) (now (kept .entry)) (now (lines .entry)))) r (now (place .exit)) (slices (now (book .exit)) (now (kept .exit)) (now (lines .exit))) ⌝ }
+{
+    let told = on_paper(radio_calls::part(bytes, book, kept, lines));
+    *place = told;
+    told[0]
+}
+
+#[no_mangle]
+pub extern "C" fn workshop_radio_close(
+    book: &mut [Row],
+    kept: &mut [u64],
+    lines: &mut [u8],
+    place: &mut [u64; 4],
+) -> u64
+    ensures { λ r. ⌜ RadioPermits (radioCall close (slices (now (book .entry)) (now (kept .entry)) (now (lines .entry)))) r (now (place .exit)) (slices (now (book .exit)) (now (kept .exit)) (now (lines .exit))) ⌝ }
+{
+    let told = on_paper(radio_calls::close(book, kept, lines));
     *place = told;
     told[0]
 }

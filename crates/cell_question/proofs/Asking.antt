@@ -42,7 +42,7 @@ use Rattle.header.specs.Header.{Header, offset, placeFrom, under, cutCheck, hea
 use Rattle.header.specs.Heading.{headerPlaces, places}
 use Rattle.header.proofs.Names.{place-at}
 use Rattle.row_line.proofs.Columns.{place-above, under-numbered}
-use Rattle.cell_question.specs.CellQuestion.{answered, said, cellSaid, cutAt, cellAt, cellStart, cellVerdict, tableCell, askedOf, cellAsked, stretchOf}
+use Rattle.cell_question.specs.CellQuestion.{answered, said, cellSaid, lineAsked, cellAt, cellStart, cellVerdict, tableCell, askedOf, cellAsked, stretchOf}
 use Rattle.cell_question.specs.declared.CellAnswer.{CellAnswer}
 use Rattle.cell_question.specs.Asking.{cellJudged, rowAnswer}
 
@@ -171,14 +171,14 @@ module _ (t : Table) (h : Header) (line k begin : ℕ) (row : Bytes) where
   abbrev rowSaid : ℕ → Cell
   rowSaid at = cellSaid (columnAt t (k - 1) .rules .sort) at rowCell
 
-  row-checked : (c : Check) → (cutCheck h (cut row) ⊳ rowCheck) ≡ c → rowAnswer t h line k begin row ≡ answered (placed (number t) line c) (rowSaid (begin + offset k h (cellsOf (cut row))))
+  row-checked : (c : Check) → (cutCheck h row ⊳ rowCheck) ≡ c → rowAnswer t h line k begin row ≡ answered (placed (number t) line c) (rowSaid (begin + offset k h (cellsOf (cut row))))
   unfolding rowAnswer
   row-checked c e = ap (λ (q : Check). answered (placed (number t) line q) (rowSaid (begin + offset k h (cellsOf (cut row))))) e
 
-  pub row-refused : (n m : ℕ) → cutCheck h (cut row) ≡ Fails n m → answered (placed (number t) line (Fails n m)) Empty ≡ rowAnswer t h line k begin row
+  pub row-refused : (n m : ℕ) → cutCheck h row ≡ Fails n m → answered (placed (number t) line (Fails n m)) Empty ≡ rowAnswer t h line k begin row
   row-refused n m e = sym (row-checked (Fails n m) (rw e))
 
-  pub row-cell : (at bounds : List ℕ) (count m from : ℕ) → cutCheck h (cut row) ≡ Passes → MarksOf row bounds count → count ≡ length h → at ≡ places h → 1 ≤ k → k < headerPlaces → m ≡ getD at k 0 → from ≡ begin + beginAt bounds count m
+  pub row-cell : (at bounds : List ℕ) (count m from : ℕ) → cutCheck h row ≡ Passes → MarksOf row bounds count → count ≡ length h → at ≡ places h → 1 ≤ k → k < headerPlaces → m ≡ getD at k 0 → from ≡ begin + beginAt bounds count m
       → cellJudged t line k from (cellNumbered m (cellsOf (cut row))) ≡ rowAnswer t h line k begin row
   unfolding cellJudged
   row-cell at bounds count m from pass marks n a low high p q =
@@ -205,7 +205,7 @@ module _ (t : Table) (s : Bytes) (line k : ℕ) where
 
   module _ (some : k ≡ 0 → ⊥) (known : k ≤ length (columnsOf t)) where
     behind-column : (v : Verdict) → topFaults t s ≡ v → tableCell t s line k
-        ≡ answered (v before nowhere (notThere when (ltb line 2 || ltb (length (lines s)) line)) before placed (number t) line (cutCheck (headerOf t s) (cutAt line s) ⊳ cellCheck k (columnAt t (k - 1) .rules) (content (cellAt t s line k))))
+        ≡ answered (v before nowhere (notThere when (ltb line 2 || ltb (length (lines s)) line)) before placed (number t) line (cutCheck (headerOf t s) (lineAsked line s) ⊳ cellCheck k (columnAt t (k - 1) .rules) (content (cellAt t s line k))))
         (cellSaid (columnAt t (k - 1) .rules .sort) (cellStart t s line k) (cellAt t s line k))
     unfolding tableCell cellVerdict
     behind-column v e = rw (ne-eqb k 0 some, le-ltb (length (columnsOf t)) k known, e)

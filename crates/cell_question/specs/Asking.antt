@@ -16,8 +16,8 @@ unfoldable pub cellJudged : Table → ℕ → ℕ → ℕ → Bytes → CellAnsw
 cellJudged t line k at cell =
     answered (placed (number t) line (cellCheck k (columnAt t (k - 1) .rules) (content cell))) (cellSaid (columnAt t (k - 1) .rules .sort) at cell)
 
--- 6, 7 and 8, and what is said of the cell of column k, on a row that begins at this place of its text
+-- 17, 6, 7 and 8, and what is said of the cell of column k, on a row that begins at this place of its text
 unfoldable pub rowAnswer : Table → Header → ℕ → ℕ → ℕ → Bytes → CellAnswer
 rowAnswer t h line k at row =
     let cell = under k h (cellsOf (cut row)) in
-    answered (placed (number t) line (cutCheck h (cut row) ⊳ cellCheck k (columnAt t (k - 1) .rules) (content cell))) (cellSaid (columnAt t (k - 1) .rules .sort) (at + offset k h (cellsOf (cut row))) cell)
+    answered (placed (number t) line (cutCheck h row ⊳ cellCheck k (columnAt t (k - 1) .rules) (content cell))) (cellSaid (columnAt t (k - 1) .rules .sort) (at + offset k h (cellsOf (cut row))) cell)

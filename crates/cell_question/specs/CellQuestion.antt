@@ -43,20 +43,23 @@ abbrev pub cellSaid : Sort → ℕ → Bytes → Cell
 cellSaid sort at cell = if eqb (length (content cell)) 0 then Empty else said sort at cell
 
 -- a line of a text, cut, and the cell of column k on it
+abbrev pub lineAsked : ℕ → Bytes → Bytes
+lineAsked line s = getD (lines s) (line - 1) []
+
 abbrev pub cutAt : ℕ → Bytes → Cut
-cutAt line s = cut (getD (lines s) (line - 1) [])
+cutAt line s = cut (lineAsked line s)
 
 abbrev pub cellAt : Table → Bytes → ℕ → ℕ → Bytes
 cellAt t s line k = under k (headerOf t s) (cellsOf (cutAt line s))
 
 -- "15 for table or column, 1, header faults, 15 for the line (line 1 included), then 6 and 7 for that line and 8 for that cell. Other rows
--- and 5 do not matter."
+-- and 5 do not matter." 17 is "first among header and line checks"
 unfoldable pub cellVerdict : Table → Bytes → ℕ → ℕ → Verdict
 cellVerdict t s line k =
     nowhere (notThere when (eqb k 0 || ltb (length (columnsOf t)) k))
     before topFaults t s
     before nowhere (notThere when (ltb line 2 || ltb (length (lines s)) line))
-    before placed (number t) line (cutCheck (headerOf t s) (cutAt line s) ⊳ cellCheck k (columnAt t (k - 1) .rules) (content (cellAt t s line k)))
+    before placed (number t) line (cutCheck (headerOf t s) (lineAsked line s) ⊳ cellCheck k (columnAt t (k - 1) .rules) (content (cellAt t s line k)))
 
 -- where the cell begins in the text
 abbrev pub cellStart : Table → Bytes → ℕ → ℕ → ℕ

@@ -96,7 +96,7 @@ fn judged_cell(
     }
 }
 
-// 6, 7, and then the column's cell.
+// 17, 6, 7, and then the column's cell.
 fn cell_in_row(
     row: &[u8],
     begin: usize,

@@ -16,7 +16,7 @@ use Rattle.tables.specs.declared.Table.{Table}
 use Rattle.tables.specs.declared.Named.{Named}
 use Rattle.tables.specs.declared.Named.the-variants.{Known, Unknown}
 use Rattle.tables.specs.Columns.{numbered}
-use Rattle.header.specs.Header.{Header, header, placeFrom}
+use Rattle.header.specs.Header.{Header, header, placeFrom, mostCells}
 use Rattle.fault_mark.specs.declared.Mark.{Mark}
 use Rattle.fault_mark.specs.declared.Mark.the-variants.{Line, Cell, Nothing}
 
@@ -87,7 +87,7 @@ numberedCell n line = if eqb n 0 then [] else take (cellEnd n line - cellBegin n
 
 -- the columns that a header's cells name; "more than 32 header cells" are not looked at
 abbrev pub columnsNamed : Table → Bytes → Header
-columnsNamed t head = if ltb 32 (length (header t (cellsOf (cut head)))) then [] else header t (cellsOf (cut head))
+columnsNamed t head = if ltb mostCells (length (header t (cellsOf (cut head)))) then [] else header t (cellsOf (cut head))
 
 -- the second cell that names a column, 0 where there is none
 abbrev pub secondPlace : ℕ → Header → ℕ

@@ -1,3 +1,4 @@
+pub mod Cutting
 pub mod Quoting
 pub mod Names
 pub mod Kept

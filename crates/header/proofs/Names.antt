@@ -11,18 +11,20 @@ use lib.Seq.{take-suc, length-take-le, take-all}
 use borrow.Author.Tests.{ne-eqb, eq-eqb, eqb-false, not-true, lt-ltb, le-ltb, ltb-true, ltb-false}
 use Rattle.words.specs.Words.{if_then_else_, Bytes}
 use Rattle.words.proofs.Lists.{drop-step, and-left}
-use Rattle.refusals.specs.Verdicts.{columnMissing, columnTwice, tooManyCells, quoteFault}
-use Rattle.refusals.specs.declared.Check.the-variants.{Passes}
-use Rattle.cells.specs.Cells.{content, stretch, Cut, faulty, cells, cut, cellsOf}
+use Rattle.refusals.specs.Verdicts.{_⊳_, _when_, columnMissing, columnTwice, tooManyCells, lineTooLong}
+use Rattle.refusals.specs.declared.Check.{Check}
+use Rattle.refusals.specs.declared.Check.the-variants.{Passes, Fails}
+use Rattle.lines.specs.Lines.{longLine}
+use Rattle.cells.specs.Cells.{content, stretch, cut, cellsOf}
 use Rattle.cells.specs.Numbered.{cellNumbered}
-use Rattle.cells.proofs.Cutting.{faulty-from-one}
 use Rattle.tables.specs.Columns.{Column, noColumn, columnNumber}
 use Rattle.tables.specs.declared.Table.{Table}
 use Rattle.tables.proofs.Figures.{columns-few}
 use Rattle.tables.proofs.Names.{column-number-most}
-use Rattle.header.specs.Header.{member, Header, repeated, placeFrom, missingFrom, missing, header, mostCells, headerCheck}
-use Rattle.header.specs.Heading.{placesFrom, mostColumns, headerPlaces, places, namesCheck, headed, heading}
+use Rattle.header.specs.Header.{member, Header, repeated, placeFrom, missingFrom, missing, header, badCut, mostCells, headerCheck}
+use Rattle.header.specs.Heading.{placesFrom, mostColumns, headerPlaces, places, lineCheck, namesCheck, headed, heading}
 use Rattle.header.specs.declared.Heading.{Heading}
+use Rattle.header.proofs.Cutting.{check-order}
 use Rattle.header.proofs.Quoting.{number-of-content}
 
 -- a column among those to the left --------------------------------------------------------------------------------------------
@@ -228,30 +230,32 @@ pub names-kept : (t : Table) (h : Header) (at : List ℕ) → repeated [] h ≡ 
 names-kept t h at e g p = rw (names-pass t h e g, p)
 
 module _ (t : Table) (line : Bytes) where
-  pub header-faulty : (n : ℕ) → cut line ≡ faulty n → headerCheck t line ≡ quoteFault n
+  -- 4, 3, 2 come behind 17 and 6
+  header-behind : headerCheck t line ≡ lineCheck line ⊳ (tooManyCells when ltb mostCells (length (header t (cellsOf (cut line)))) ⊳ namesCheck t (header t (cellsOf (cut line))))
   unfolding headerCheck
-  header-faulty n e = rw (e, lt-ltb 0 n (faulty-from-one line n e))
+  header-behind = sym (check-order (lineTooLong when longLine line) (badCut (cut line)) (tooManyCells when ltb mostCells (length (header t (cellsOf (cut line)))) ⊳ namesCheck t (header t (cellsOf (cut line)))))
 
-  module _ (e : cut line ≡ cells (cellsOf (cut line))) where
+  pub header-refused : (n k : ℕ) → lineCheck line ≡ Fails n k → headerCheck t line ≡ Fails n k
+  header-refused n k e = header-behind ∙ rw e
+
+  module _ (e : lineCheck line ≡ Passes) where
     pub header-wide : mostCells < length (cellsOf (cut line)) → headerCheck t line ≡ tooManyCells
-    unfolding headerCheck
-    header-wide l = rw (e, header-length t (cellsOf (cut line)), lt-ltb mostCells (length (cellsOf (cut line))) l)
+    header-wide l = header-behind ∙ rw (e, header-length t (cellsOf (cut line)), lt-ltb mostCells (length (cellsOf (cut line))) l)
 
     pub header-names : length (cellsOf (cut line)) ≤ mostCells → headerCheck t line ≡ namesCheck t (header t (cellsOf (cut line)))
-    unfolding headerCheck
-    header-names l = rw (e, header-length t (cellsOf (cut line)), le-ltb mostCells (length (cellsOf (cut line))) l)
+    header-names l = header-behind ∙ rw (e, header-length t (cellsOf (cut line)), le-ltb mostCells (length (cellsOf (cut line))) l)
 
   -- a header that passes has at most `mostCells`
   pub header-few : headerCheck t line ≡ Passes → length (cellsOf (cut line)) ≤ mostCells
-  header-few p = go (cut line) refl (ltb mostCells (length (cellsOf (cut line)))) refl
+  header-few p = go (lineCheck line) refl (ltb mostCells (length (cellsOf (cut line)))) refl
     where
-      go : (u : Cut) → cut line ≡ u → (b : Bool) → ltb mostCells (length (cellsOf (cut line))) ≡ b → length (cellsOf (cut line)) ≤ mostCells
-      go (faulty n) e b q = rw e (omega arith)
-      go (cells cs) e false q = ltb-false mostCells (length (cellsOf (cut line))) q
-      go (cells cs) e true q =
-          let w : headerCheck t line ≡ tooManyCells = header-wide (e ∙ rw e) (ltb-true mostCells (length (cellsOf (cut line))) q) in
-          let z : _≡_ {A = ℕ} 0 1 = cc in
-          absurd (let y : ⊥ = omega arith in y)
+      never : headerCheck t line ≡ Passes → (n k : ℕ) → headerCheck t line ≡ Fails n k → length (cellsOf (cut line)) ≤ mostCells
+      never q n k f = let z : _≡_ {A = ℕ} 0 1 = cc in absurd (let y : ⊥ = omega arith in y)
+
+      go : (c : Check) → lineCheck line ≡ c → (b : Bool) → ltb mostCells (length (cellsOf (cut line))) ≡ b → length (cellsOf (cut line)) ≤ mostCells
+      go (Fails n k) e b q = never p n k (header-refused n k e)
+      go Passes e false q = ltb-false mostCells (length (cellsOf (cut line))) q
+      go Passes e true q = never p 4 0 (header-wide e (ltb-true mostCells (length (cellsOf (cut line))) q))
 
 -- what is kept of a header that passes
 pub heading-kept : (t : Table) (line : Bytes) → headerCheck t line ≡ Passes → heading t line .at ≡ places (header t (cellsOf (cut line)))

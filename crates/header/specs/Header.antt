@@ -5,10 +5,10 @@ use Prim.Native.Nat.{ℕ, suc, _+_}
 use lib.Dec.{eqb, ltb}
 use lib.ListN.{length}
 use Rattle.words.specs.Words.{Bytes, if_then_else_}
-use Rattle.refusals.specs.Verdicts.{_when_, quoteFault, _⊳_, cellCount, columnMissing, columnTwice, tooManyCells, _before_, inText, inHeader, textTooLong}
+use Rattle.refusals.specs.Verdicts.{_when_, quoteFault, _⊳_, cellCount, columnMissing, columnTwice, tooManyCells, _before_, inText, inHeader, textTooLong, lineTooLong}
 use Rattle.refusals.specs.declared.Check.{Check}
 use Rattle.refusals.specs.declared.Verdict.{Verdict}
-use Rattle.lines.specs.Lines.{lines, headLine, overlong}
+use Rattle.lines.specs.Lines.{lines, headLine, overlong, longLine}
 use Rattle.cells.specs.Cells.{content, Cut, faultyCell, cellsOf, cut}
 use Rattle.tables.specs.Columns.{columnNumber, Column, columnsOf, number}
 use Rattle.tables.specs.declared.Table.{Table}
@@ -41,22 +41,24 @@ missing t h = missingFrom 1 (columnsOf t) h
 abbrev pub badCut : Cut → Check
 badCut u = quoteFault (faultyCell u) when ltb 0 (faultyCell u)
 
--- 6, and 7, "cell count differs from header", of a line behind the header
-abbrev pub cutCheck : Header → Cut → Check
-cutCheck h u =
-    badCut u
-    ⊳ cellCount when not (eqb (length (cellsOf u)) (length h))
+-- 17, 6, and 7, "cell count differs from header", of a line behind the header
+abbrev pub cutCheck : Header → Bytes → Check
+cutCheck h line =
+    lineTooLong when longLine line
+    ⊳ badCut (cut line)
+    ⊳ cellCount when not (eqb (length (cellsOf (cut line))) (length h))
 
 -- 4: "more than 32 header cells"
 abbrev pub mostCells : ℕ
 mostCells = 32
 
--- "header 6, 4, 3, 2"
+-- "header 6, 4, 3, 2", and 17 "first among header and line checks"
 unfoldable pub headerCheck : Table → Bytes → Check
 headerCheck t line =
     let u = cut line in
     let h = header t (cellsOf u) in
-    badCut u
+    lineTooLong when longLine line
+    ⊳ badCut u
     ⊳ tooManyCells when ltb mostCells (length h)
     ⊳ columnTwice (repeated [] h) when ltb 0 (repeated [] h)
     ⊳ columnMissing (missing t h) when ltb 0 (missing t h)
@@ -85,7 +87,7 @@ contents t h cs = contentsFrom 1 (columnsOf t) h cs
 abbrev pub headerOf : Table → Bytes → Header
 headerOf t s = header t (cellsOf (cut (headLine (lines s))))
 
--- "in each 1; header 6, 4, 3, 2": what is judged before the rows
+-- "in each 1; header", 17, "6, 4, 3, 2": what is judged before the rows
 abbrev pub topFaults : Table → Bytes → Verdict
 topFaults t s =
     inText (number t) (textTooLong when overlong s)

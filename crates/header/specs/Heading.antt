@@ -2,16 +2,19 @@
 -- Inner: no promise and no contract of a public function speaks of it.
 use mathlib.Core.List.{List, [], _∷_}
 use mathlib.Core.Path.{_≡_}
-use Prim.Native.Nat.{ℕ, zero, suc}
+use Prim.Native.Nat.{ℕ, zero, suc, _<_}
 use lib.ListN.{length, getD, replicate}
 use lib.Dec.{ltb}
 use Rattle.words.specs.Words.{Bytes}
 use Rattle.refusals.specs.declared.Check.{Check}
 use Rattle.refusals.specs.declared.Check.the-variants.{Passes, Fails}
-use Rattle.refusals.specs.Verdicts.{_⊳_, _when_, columnMissing, columnTwice}
+use Rattle.refusals.specs.Verdicts.{_⊳_, _when_, columnMissing, columnTwice, lineTooLong}
+use Rattle.lines.specs.Lines.{longLine}
 use Rattle.cells.specs.Cells.{cut, cellsOf}
+use Rattle.cells.specs.Numbered.{MarksOf}
 use Rattle.tables.specs.declared.Table.{Table}
-use Rattle.header.specs.Header.{Header, placeFrom, header, headerCheck, repeated, missing}
+use Rattle.header.specs.Header.{Header, placeFrom, header, badCut, headerCheck, repeated, missing}
+use Rattle.header.specs.declared.CutLine.{CutLine}
 use Rattle.header.specs.declared.Heading.{Heading}
 use Rattle.header.specs.declared.Noted.{Noted}
 
@@ -47,6 +50,16 @@ heading t line = headed (headerCheck t line) (header t (cellsOf (cut line)))
 pub record NamesOf (h : Header) (names : Noted) : Type 0 where
   pub twice : names .twice ≡ repeated [] h
   pub noted : names .twice ≡ 0 → names .at ≡ places h
+
+-- 17, then 6, of any line of a table
+abbrev pub lineCheck : Bytes → Check
+lineCheck line = lineTooLong when longLine line ⊳ badCut (cut line)
+
+-- a line cut into its cells: how many they are, and their bounds where there is room for them
+pub record LineCut (line : Bytes) (bounds : List ℕ) (c : CutLine) : Type 0 where
+  pub is : c .check ≡ lineCheck line
+  pub counted : c .check ≡ Passes → length (cellsOf (cut line)) ≡ c .cells
+  pub marks : c .check ≡ Passes → c .cells < length bounds → MarksOf line bounds (c .cells)
 
 -- 3, then 2, of a header's names
 abbrev pub namesCheck : Table → Header → Check

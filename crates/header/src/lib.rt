@@ -9,11 +9,12 @@ ghost use Rattle.words.specs.Words.{if_then_else_};
 ghost use Rattle.cells.specs.Cells.{cut, cellsOf};
 ghost use Rattle.cells.specs.Numbered.{MarksOf};
 ghost use Rattle.tables.specs.Listing.{listed};
-ghost use Rattle.header.specs.Heading.{headed, headerPlaces, places, NamesOf, namesCheck, heading};
+ghost use Rattle.header.specs.Heading.{headed, headerPlaces, places, LineCut, NamesOf, namesCheck, heading};
 ghost use Rattle.header.specs.Header.{missing, header};
 ghost use Rattle.header.specs.Top.{TopOf};
 use cells::Answer;
 use lines::MOST_BYTES;
+use lines::MOST_LINE;
 use refusals::Check;
 use refusals::Place;
 use refusals::Verdict;
@@ -27,6 +28,12 @@ pub type Places = [usize; PLACES];
 pub struct Noted {
     pub twice: usize,
     pub at: Places,
+}
+
+// A line cut into its cells: what it is refused for, and how many they are where it is not.
+pub struct CutLine {
+    pub check: Check,
+    pub cells: usize,
 }
 
 // A header: what its checks find, and what is kept of it.
@@ -162,16 +169,44 @@ fn map_names(line: &[u8], bounds: &[usize], cells: usize, t: Table, columns: &Co
     }
 }
 
-// 6, 4, 3, 2: a header line.
+// 17 and 6, of any line of a table. The bounds of its cells are kept where the caller has room for them.
+pub fn cut_line(line: &[u8], bounds: &mut [usize]) -> CutLine
+    ensures { λ r. ⌜ LineCut (now (line .entry)) (now (bounds .exit)) r ⌝ }
+{
+    if MOST_LINE < line.len() {
+        return CutLine {
+            check: Check::line_too_long(),
+            cells: 0,
+        };
+    }
+    let answer = cells::cells_of(line, bounds);
+    match answer {
+        Answer::Bad(cell) => CutLine {
+            check: Check::quote_fault(wide(cell)),
+            cells: 0,
+        },
+        Answer::Good(cells) => CutLine {
+            check: Check::Passes,
+            cells,
+        },
+    }
+}
+
+// 17, 6, 4, 3, 2: a header line.
 pub fn read_header(line: &[u8], t: Table, columns: &Columns) -> Heading
     requires { ⌜ now columns ≡ listed t ⌝ }
     ensures { λ r. ⌜ r ≡ heading t (now (line .entry)) ⌝ }
 {
     let mut bounds = [0usize; BOUNDS];
-    let answer = cells::cells_of(line, &mut bounds);
-    match answer {
-        Answer::Bad(cell) => no_heading(Check::quote_fault(wide(cell))),
-        Answer::Good(cells) => {
+    let cut = cut_line(line, &mut bounds);
+    let check = cut.check;
+    let cells = cut.cells;
+    match check {
+        Check::Fails {
+            number: _,
+            column: _,
+        } => no_heading(check),
+        Check::Passes => {
             if MOST_CELLS < cells {
                 return no_heading(Check::too_many_cells());
             }

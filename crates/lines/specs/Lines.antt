@@ -53,3 +53,10 @@ mostBytes = 65536
 
 abbrev pub overlong : Bytes → Bool
 overlong s = ltb mostBytes (length s)
+
+-- 17: "a line of more than 2,048 bytes". "A line's length leaves its line end out."
+abbrev pub mostLine : ℕ
+mostLine = 2048
+
+abbrev pub longLine : Bytes → Bool
+longLine line = ltb mostLine (length line)

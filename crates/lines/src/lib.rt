@@ -14,6 +14,9 @@ pub struct Line {
 // The most bytes that a text has.
 pub const MOST_BYTES: usize = 65536;
 
+// The most bytes that a line of a table has.
+pub const MOST_LINE: usize = 2048;
+
 // The first line feed at or after a place, or the text's end; the place itself where it lies behind the end.
 fn line_feed(text: &[u8], at: usize) -> usize
     ensures { λ r. ⌜ r ≡ at + slipLength (drop at (now (text .entry))) ⌝ }

@@ -103,12 +103,12 @@ module _ (t : Table) (s : Bytes) (i n : ℕ) (b : Book)
     abbrev rules : Rules
     rules = columnAt t n .rules
 
-    checks : (cutCheck (headerOf t s) (cut line) ≡ Passes) × (badCell 1 (columnsOf t) said ≡ Passes)
+    checks : (cutCheck (headerOf t s) line ≡ Passes) × (badCell 1 (columnsOf t) said ≡ Passes)
     unfolding judged
     checks =
         let row = rowRead t (headerOf t s) line in
-        let p5 = both (tooManyRows when full t b) (cutCheck (headerOf t s) (cut line) ⊳ badCell 1 (columnsOf t) said ⊳ ruled t row b) pass in
-        let p6 = both (cutCheck (headerOf t s) (cut line)) (badCell 1 (columnsOf t) said ⊳ ruled t row b) (p5 .1) in
+        let p5 = both (tooManyRows when full t b) (cutCheck (headerOf t s) line ⊳ badCell 1 (columnsOf t) said ⊳ ruled t row b) pass in
+        let p6 = both (cutCheck (headerOf t s) line) (badCell 1 (columnsOf t) said ⊳ ruled t row b) (p5 .1) in
         (p6 .0, both (badCell 1 (columnsOf t) said) (ruled t row b) (p6 .1) .0)
 
     -- the cell is the one that the reading sees

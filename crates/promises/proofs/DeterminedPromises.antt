@@ -17,6 +17,8 @@ determined = (
   λ v book out one other e f. e ∙ sym f,
   λ s p one other e f. e ∙ sym f,
   λ n line one other e f. e ∙ sym f,
+  λ s one other e f. e ∙ sym f,
+  λ c s one other e f. e ∙ sym f,
 )
 
 -- for C: a number and a place are told, with one thing lent besides, or with two
@@ -46,4 +48,5 @@ determined-for-c = (
   λ book version type one other e f. told _ _ _ _ one other (e .0) (e .1) (f .0) (f .1),
   λ book version day depot block one other e f. told _ _ _ _ one other (e .0) (e .1) (f .0) (f .1),
   λ book out one other e f. told-two _ _ _ _ _ _ one other (e .0) (e .1) (e .2) (f .0) (f .1) (f .2),
+  λ call one other e f. told _ _ _ _ one other (e .0) (e .1) (f .0) (f .1),
 )

@@ -109,8 +109,8 @@ unfolding judged
 judged-taken t b h l p =
     let cs = contents t h (cellsOf (cut l)) in
     let row = rowRead t h l in
-    let p5 = both (tooManyRows when full t b) (cutCheck h (cut l) ⊳ badCell 1 (columnsOf t) cs ⊳ ruled t row b) p in
-    let p6 = both (cutCheck h (cut l)) (badCell 1 (columnsOf t) cs ⊳ ruled t row b) (p5 .1) in
+    let p5 = both (tooManyRows when full t b) (cutCheck h l ⊳ badCell 1 (columnsOf t) cs ⊳ ruled t row b) p in
+    let p6 = both (cutCheck h l) (badCell 1 (columnsOf t) cs ⊳ ruled t row b) (p5 .1) in
     let p8 = both (badCell 1 (columnsOf t) cs) (ruled t row b) (p6 .1) in
     let p11 = both (endsEarly when timeFault t row) (keyStands when knows t row b ⊳ unknown t row b) (p8 .1) in
     let p9 = both (keyStands when knows t row b) (unknown t row b) (p11 .1) in

@@ -27,3 +27,7 @@ pub mod NumberedPromises
 pub mod SheetPromises
 pub mod StretchLaws
 pub mod StretchPromises
+pub mod HeardPromises
+pub mod RadioRulePromises
+pub mod RadioCallPromises
+pub mod RadioCasePromises

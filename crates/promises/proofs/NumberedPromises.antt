@@ -12,11 +12,11 @@ use Rattle.words.specs.Words.{Bytes, Row, if_then_else_}
 use Rattle.words.proofs.Lists.{and-left, and-right, every}
 use Rattle.refusals.specs.declared.Check.{Check}
 use Rattle.refusals.specs.declared.Check.the-variants.{Passes, Fails}
-use Rattle.refusals.specs.Verdicts.{_when_, _⊳_, placed, place, tooManyRows, columnTwice, columnMissing, tooManyCells, cellCount, cellFault, endsEarly, keyStands, noRow, _before_, inText, inHeader, textTooLong, paper}
+use Rattle.refusals.specs.Verdicts.{_when_, _⊳_, placed, place, tooManyRows, columnTwice, columnMissing, tooManyCells, cellCount, cellFault, endsEarly, keyStands, noRow, _before_, inText, inHeader, textTooLong, paper, lineTooLong}
 use Rattle.refusals.specs.declared.Place.{Place}
 use Rattle.refusals.specs.declared.Verdict.the-variants.{Refused, Accepted}
 use Rattle.refusals.specs.declared.Verdict.{Verdict}
-use Rattle.lines.specs.Lines.{lines, headLine, overlong, slipLines, mostBytes}
+use Rattle.lines.specs.Lines.{lines, headLine, overlong, slipLines, mostBytes, longLine}
 use Rattle.cells.specs.Cells.{cut, faultyCell, cellsOf, content}
 use Rattle.cells.specs.declared.State.the-variants.{Fresh}
 use Rattle.fields.specs.Fields.{fields}
@@ -29,7 +29,7 @@ use Rattle.values.specs.Values.{breaks, badCell}
 use Rattle.book.specs.Book.{Book, knows, full, empty}
 use Rattle.book.specs.Result.{refused}
 use Rattle.rules.specs.Rules.{timeFault, named, unknown, unknownOf, ruled}
-use Rattle.header.specs.Header.{Header, header, member, repeated, missing, missingFrom, badCut, cutCheck, headerCheck, contents, headerOf}
+use Rattle.header.specs.Header.{Header, header, member, repeated, missing, missingFrom, badCut, cutCheck, headerCheck, contents, headerOf, mostCells}
 use Rattle.row_line.specs.RowLine.{rowRead}
 use Rattle.table_lines.specs.Reading.{judged}
 use Rattle.table_reading.specs.Reading.{tableRead}
@@ -148,11 +148,12 @@ module _ (t : Table) where
       let xs = rowNumbers t in
       let cs = contents t h (cellsOf (cut l)) in
       let row = rowRead t h l in
-      given-chain xs (tooManyRows when full t b) (cutCheck h (cut l) ⊳ badCell 1 (columnsOf t) cs ⊳ ruled t row b) (given-when xs 5 0 (full t b) (λ e. refl))
-      (given-chain xs (cutCheck h (cut l)) (badCell 1 (columnsOf t) cs ⊳ ruled t row b)
-      (given-chain xs (badCut (cut l)) (cellCount when not (eqb (length (cellsOf (cut l))) (length h)))
-      (given-cut xs l n (λ k e. e))
-      (given-when xs 7 0 (not (eqb (length (cellsOf (cut l))) (length h))) (λ e. refl)))
+      let count = cellCount when not (eqb (length (cellsOf (cut l))) (length h)) in
+      given-chain xs (tooManyRows when full t b) (cutCheck h l ⊳ badCell 1 (columnsOf t) cs ⊳ ruled t row b) (given-when xs 5 0 (full t b) (λ e. refl))
+      (given-chain xs (cutCheck h l) (badCell 1 (columnsOf t) cs ⊳ ruled t row b)
+      (given-chain xs (lineTooLong when longLine l) (badCut (cut l) ⊳ count) (given-when xs 17 0 (longLine l) (λ e. refl))
+      (given-chain xs (badCut (cut l)) count (given-cut xs l n (λ k e. e))
+      (given-when xs 7 0 (not (eqb (length (cellsOf (cut l))) (length h))) (λ e. refl))))
       (given-chain xs (badCell 1 (columnsOf t) cs) (ruled t row b) (given-cells xs 1 (columnsOf t) cs (column-any t))
       (given-ruled xs row b (λ e. e) refl (λ k e. e))))
 
@@ -177,12 +178,13 @@ module _ (t : Table) where
       let h = header t (cellsOf u) in
       let c2 = columnMissing (missing t h) when ltb 0 (missing t h) in
       let c3 = columnTwice (repeated [] h) when ltb 0 (repeated [] h) in
-      let c4 = tooManyCells when ltb 32 (length h) in
-      given-chain xs (badCut u) (c4 ⊳ c3 ⊳ c2) (given-cut xs l n (λ k e. e))
-      (given-chain xs c4 (c3 ⊳ c2) (given-when xs 4 0 (ltb 32 (length h)) (λ e. refl))
+      let c4 = tooManyCells when ltb mostCells (length h) in
+      given-chain xs (lineTooLong when longLine l) (badCut u ⊳ c4 ⊳ c3 ⊳ c2) (given-when xs 17 0 (longLine l) (λ e. refl))
+      (given-chain xs (badCut u) (c4 ⊳ c3 ⊳ c2) (given-cut xs l n (λ k e. e))
+      (given-chain xs c4 (c3 ⊳ c2) (given-when xs 4 0 (ltb mostCells (length h)) (λ e. refl))
       (given-chain xs c3 c2
       (given-when xs 3 (repeated [] h) (ltb 0 (repeated [] h)) (λ e. column-any t (repeated [] h) (ltb-true 0 (repeated [] h) e) (omega (arith, repeated-most [] (cellsOf u)))))
-      (given-when xs 2 (missing t h) (ltb 0 (missing t h)) (λ e. rw e (missing-required 0 (columnsOf t) h (ltb-true 0 (missing t h) e) .1)))))
+      (given-when xs 2 (missing t h) (ltb 0 (missing t h)) (λ e. rw e (missing-required 0 (columnsOf t) h (ltb-true 0 (missing t h) e) .1))))))
 
 given-line : (w : Wish) (fs : List Bytes) (row : Row) (b : Book) → given slipNumbers (lineJudged w fs row b) ≡ true
 unfolding given among
@@ -357,11 +359,11 @@ text-near = (near (omega arith) near-unnamed, tt)
 
 header-near : (t : Table) → EachNear (headerNumbers t)
 unfolding EachNear
-header-near t = (near (omega arith) near-cell, (near (omega arith) near-unnamed, (near (omega arith) (near-column t), (near (omega arith) (near-required t), tt))))
+header-near t = (near (omega arith) near-unnamed, (near (omega arith) near-cell, (near (omega arith) near-unnamed, (near (omega arith) (near-column t), (near (omega arith) (near-required t), tt)))))
 
 row-near : (t : Table) → EachNear (rowNumbers t)
 unfolding EachNear
-row-near t = (near (omega arith) near-unnamed, (near (omega arith) near-cell, (near (omega arith) near-unnamed, (near (omega arith) (near-column t), (near (omega arith) (near-end t), (near (omega arith) near-unnamed, (near (omega arith) (near-referring t), tt)))))))
+row-near t = (near (omega arith) near-unnamed, (near (omega arith) near-unnamed, (near (omega arith) near-cell, (near (omega arith) near-unnamed, (near (omega arith) (near-column t), (near (omega arith) (near-end t), (near (omega arith) near-unnamed, (near (omega arith) (near-referring t), tt))))))))
 
 slip-near : EachNear slipNumbers
 unfolding EachNear

@@ -8,11 +8,12 @@ use native.Mathlib.Omega.{arith}
 use lib.ListN.{take, length, drop, length-map, length-append}
 use lib.Dec.{lit<, leb, eqb}
 use lib.Seq.{length-take-le, take-at}
-use borrow.Author.Tests.{leb-true, not-false, eq-eqb}
+use borrow.Author.Tests.{leb-true, le-ltb, not-false, eq-eqb}
 use Rattle.words.specs.Words.{if_then_else_, Bytes, Row}
 use Rattle.words.proofs.Lists.{and-left, and-right}
 use Rattle.refusals.specs.declared.Check.the-variants.{Passes}
 use Rattle.refusals.specs.Verdicts.{_when_, cellFault, _⊳_, tooManyRows}
+use Rattle.lines.specs.Lines.{mostLine}
 use Rattle.cells.specs.Cells.{parted, content, cut, cells, cellsOf}
 use Rattle.numbers.specs.Numbers.{decimal, value, isDecimal}
 use Rattle.numbers.proofs.Writing.{decimal-digits, read-back, decimal-width}
@@ -252,15 +253,6 @@ cut-counted Stop row (eleven a b c d e f g h i j k) = refl
 cut-counted StopPoint row (eleven a b c d e f g h i j k) = refl
 cut-counted Block row (eleven a b c d e f g h i j k) = refl
 
-pub row-judged : (t : Table) (row : Row) (b : Book) → Eleven row → row ≡ wide (take (keptWidth t) row) → ranged (columnsOf t) (take (keptWidth t) row) ≡ true →
-    judged t (plainHeader t) (plainLine t row) b ≡ tooManyRows when full t b ⊳ ruled t row b
-unfolding judged
-row-judged t row b e s r =
-    let n : length (take (keptWidth t) row) ≡ keptWidth t = kept-long t row e in
-    let good : badCell 1 (columnsOf t) (map decimal (take (keptWidth t) row) ++ absent t) ≡ Passes =
-    good-cells 1 (columnsOf t) (take (keptWidth t) row) (absent t) (rw n (kept-numeric t)) r (rw n (absent-good t)) in
-    rw (cut-plain t row e, cut-counted t row e, eq-eqb (length (plainHeader t)) (length (plainHeader t)) refl, contents-plain t row e, good, kept-values t row e, ← s)
-
 -- no line end in what is written ------------------------------------------------------------------------------------------
 
 unbroken-parted : (cs : List Bytes) → EachUnbroken cs → Unbroken (parted 59 cs)
@@ -372,3 +364,14 @@ names-short Depot = omega arith
 names-short Stop = omega arith
 names-short StopPoint = omega arith
 names-short Block = omega arith
+
+-- a plain line has no fault of its own: 17 is never given for it
+pub row-judged : (t : Table) (row : Row) (b : Book) → Eleven row → row ≡ wide (take (keptWidth t) row) → ranged (columnsOf t) (take (keptWidth t) row) ≡ true →
+    judged t (plainHeader t) (plainLine t row) b ≡ tooManyRows when full t b ⊳ ruled t row b
+unfolding judged
+row-judged t row b e s r =
+    let n : length (take (keptWidth t) row) ≡ keptWidth t = kept-long t row e in
+    let good : badCell 1 (columnsOf t) (map decimal (take (keptWidth t) row) ++ absent t) ≡ Passes =
+    good-cells 1 (columnsOf t) (take (keptWidth t) row) (absent t) (rw n (kept-numeric t)) r (rw n (absent-good t)) in
+    let short : length (plainLine t row) ≤ 65 = line-short t row e r in
+    rw (le-ltb mostLine (length (plainLine t row)) (omega arith), cut-plain t row e, cut-counted t row e, eq-eqb (length (plainHeader t)) (length (plainHeader t)) refl, contents-plain t row e, good, kept-values t row e, ← s)

@@ -2,6 +2,8 @@
 pub mod Sheet
 pub mod Run
 pub mod Promises
+pub mod Radio
 pub mod Edges
 pub mod WholeCase
 pub mod RuledOut
+pub mod RadioCases

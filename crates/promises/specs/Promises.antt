@@ -38,6 +38,10 @@ use Rattle.table_reading.specs.Reading.{tableRead}
 use Rattle.delivery.specs.Delivery.{Delivery, reading, Left}
 use Rattle.delivery.specs.Calls.{readCall, ReadPermits}
 use Rattle.delivery.specs.Calls as read-call
+use Rattle.radio.specs.Radio.{Call}
+use Rattle.radio.specs.Room.{Slices}
+use Rattle.radio.specs.Room as radio-is
+use Rattle.radio_calls.specs.Calls.{OpenPermits, RadioPermits}
 use Rattle.cell_question.specs.CellQuestion.{cellAsked, cellPaper, cellAt, stretchOf, CellPermits, StretchPermits}
 use Rattle.cell_question.specs.declared.CellAnswer.{CellAnswer}
 use Rattle.slip_line.specs.declared.Wish.{Wish}
@@ -79,6 +83,8 @@ Determined = ((d : Delivery) (book : List Row) → Single read-call.Outcome (Rea
     × ((v : Verdict) (book : List Row) (out : Bytes) → Single write-call.Outcome (SheetPermits v book out))
     × ((s : Bytes) (p : Place) → Single Mark (MarkPermits s p))
     × ((n : ℕ) (line : Bytes) → Single Bytes (NumberedPermits n line))
+    × ((s : Slices) → Single radio-is.Outcome (OpenPermits s))
+    × ((c : Call) (s : Slices) → Single radio-is.Outcome (RadioPermits c s))
 
 -- and on each for C: the returned number, the place, and what else is lent
 abbrev pub DeterminedForC : Type 0
@@ -88,6 +94,7 @@ DeterminedForC = ((d : Delivery) (book : List Row) → Single (ℕ × List ℕ �
     × ((book : List Row) (version type : ℕ) → Single (ℕ × List ℕ × List ℕ) (λ o. for-c.TypePermits book version type (o .0) (o .1) (o .2)))
     × ((book : List Row) (version day depot block : ℕ) → Single (ℕ × List ℕ × List ℕ) (λ o. for-c.BlockPermits book version day depot block (o .0) (o .1) (o .2)))
     × ((book : List Row) (out : Bytes) → Single (ℕ × List ℕ × List ℕ × Bytes) (λ o. for-c.WritePermits book out (o .0) (o .1) (o .2) (o .3)))
+    × ((call : radio-is.Outcome) → Single (ℕ × List ℕ × Slices) (λ o. for-c.RadioPermits call (o .0) (o .1) (o .2)))
 
 -- "A fault gets one number and a place, by a fixed order": the order is that of the tables (`DeliveryRefused`), of the lines of each
 -- (`RefusedAtFirst`, `SlipRefusedAtFirst`), and on a line that of the checks (`headerCheck`, `judged`, `lineJudged`). Which numbers there are, each
@@ -129,6 +136,7 @@ textNumbers = 1 naming unnamed ∷ []
 
 abbrev pub headerNumbers : Table → List Numbered
 headerNumbers t =
+    17 naming unnamed ∷
     6 naming anyCell ∷
     4 naming unnamed ∷
     3 naming anyColumn t ∷
@@ -137,6 +145,7 @@ headerNumbers t =
 abbrev pub rowNumbers : Table → List Numbered
 rowNumbers t =
     5 naming unnamed ∷
+    17 naming unnamed ∷
     6 naming anyCell ∷
     7 naming unnamed ∷
     8 naming anyColumn t ∷

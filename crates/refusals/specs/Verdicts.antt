@@ -76,6 +76,14 @@ notThere = Fails 15 0
 abbrev pub badLoan : Check
 badLoan = Fails 16 0
 
+-- "a line of more than 2,048 bytes is 17 at column 0"
+abbrev pub lineTooLong : Check
+lineTooLong = Fails 17 0
+
+-- "a table closed with more or fewer bytes than announced is 18 at 0, 0"
+abbrev pub lengthDiffers : Check
+lengthDiffers = Fails 18 0
+
 -- the order of checks -------------------------------------------------------------------------------------------------------
 
 infixr 20 _⊳_

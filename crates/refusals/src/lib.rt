@@ -1,6 +1,6 @@
 // What is answered: a verdict with its place, and what a cell holds.
 ghost use mathlib.Core.Path.{_≡_};
-ghost use Rattle.refusals.specs.Verdicts.{place, placed, _⊳_, textTooLong, columnMissing, columnTwice, tooManyCells, tooManyRows, quoteFault, cellCount, cellFault, keyStands, noRow, endsEarly, unknownLine, noBlock, outputShort, notThere, badLoan};
+ghost use Rattle.refusals.specs.Verdicts.{place, placed, _⊳_, textTooLong, columnMissing, columnTwice, tooManyCells, tooManyRows, quoteFault, cellCount, cellFault, keyStands, noRow, endsEarly, unknownLine, noBlock, outputShort, notThere, badLoan, lineTooLong, lengthDiffers};
 
 // Where something is refused: the number of refusal, the table, the line, and the column or the cell, each 0 where it is not named.
 pub struct Place {
@@ -60,6 +60,10 @@ impl Place {
     pub const NOT_THERE: u64 = 15;
 
     pub const BAD_LOAN: u64 = 16;
+
+    pub const LINE_TOO_LONG: u64 = 17;
+
+    pub const LENGTH_DIFFERS: u64 = 18;
 
     // The tables' numbers; a slip has one in places only.
     pub const VEHICLE_TYPE: u64 = 1;
@@ -194,6 +198,18 @@ impl Check {
         ensures { λ r. ⌜ r ≡ badLoan ⌝ }
     {
         Check::fails(Place::BAD_LOAN, 0)
+    }
+
+    pub fn line_too_long() -> Check
+        ensures { λ r. ⌜ r ≡ lineTooLong ⌝ }
+    {
+        Check::fails(Place::LINE_TOO_LONG, 0)
+    }
+
+    pub fn length_differs() -> Check
+        ensures { λ r. ⌜ r ≡ lengthDiffers ⌝ }
+    {
+        Check::fails(Place::LENGTH_DIFFERS, 0)
     }
 
     // The verdict of a check that was made on this line of this table.

@@ -1,32 +1,29 @@
 -- The content of the columns of a line, and its checks. Assumes nothing.
-use mathlib.Core.Path.{_≡_, refl, _∙_, ap, sym}
+use mathlib.Core.Path.{_≡_, refl, _∙_, ap, sym, subst}
 use mathlib.Core.List.{[], _∷_, List}
-use mathlib.Core.Bool.{Bool, true, false}
+use mathlib.Core.Bool.{Bool, true, false, not}
 use Prim.Native.Nat.{ℕ, suc, _≤_, _-_, zero, _+_, _<_}
 use native.Mathlib.Omega.{arith}
 use lib.Dec.{eqb}
 use lib.ListN.{getD, length, drop, drop-of-length-le}
-use borrow.Author.Tests.{ne-eqb, eqb-false, eq-eqb, lt-ltb}
+use borrow.Author.Tests.{ne-eqb, eqb-false, eq-eqb}
 use Rattle.words.specs.Words.{if_then_else_, Bytes}
 use Rattle.words.proofs.Lists.{drop-step}
-use Rattle.refusals.specs.Verdicts.{_⊳_, _when_, cellFault, quoteFault, cellCount}
+use Rattle.refusals.specs.Verdicts.{_⊳_, _when_, cellFault, cellCount, lineTooLong}
 use Rattle.refusals.specs.declared.Check.{Check}
 use Rattle.refusals.specs.declared.Check.the-variants.{Passes, Fails}
-use Rattle.cells.specs.Numbered.{cellNumbered}
-use Rattle.cells.specs.Cells.{content, faulty, cells, cut, cellsOf}
-use Rattle.cells.specs.Marks.{BoundsOf, answerOf}
-use Rattle.cells.specs.declared.Answer.{Answer}
-use Rattle.cells.specs.declared.Answer.the-variants.{Good, Bad}
-use Rattle.cells.proofs.Marking.{good-cells, good-count, bad-cell}
-use Rattle.cells.proofs.Cutting.{faulty-from-one}
-use Rattle.cells.proofs.Numbered.{marks-of}
+use Rattle.lines.specs.Lines.{longLine}
+use Rattle.cells.specs.Numbered.{cellNumbered, MarksOf}
+use Rattle.cells.specs.Cells.{content, cut, cellsOf}
 use Rattle.tables.specs.Columns.{Column, columnsOf, noColumn}
 use Rattle.tables.specs.declared.Table.{Table}
 use Rattle.tables.specs.declared.Rules.{Rules}
 use Rattle.tables.proofs.Figures.{columns-few}
 use Rattle.values.specs.Values.{cellCheck, badCell, breaks}
-use Rattle.header.specs.Header.{Header, placeFrom, under, contentsFrom, contents}
-use Rattle.header.specs.Heading.{places}
+use Rattle.header.specs.Header.{Header, placeFrom, under, badCut, cutCheck, contentsFrom, contents}
+use Rattle.header.specs.Heading.{places, lineCheck, LineCut}
+use Rattle.header.specs.declared.CutLine.{CutLine}
+use Rattle.header.proofs.Cutting.{check-order}
 use Rattle.header.proofs.Names.{place-at}
 use Rattle.row_line.specs.Judging.{CutOf}
 
@@ -38,10 +35,6 @@ first-passes (Fails n k) b e = e
 pub second-passes : (a b : Check) → (a ⊳ b) ≡ Passes → b ≡ Passes
 second-passes Passes b e = e
 second-passes (Fails n k) b e = cc
-
-pub check-order : (a b c : Check) → ((a ⊳ b) ⊳ c) ≡ (a ⊳ (b ⊳ c))
-check-order Passes b c = refl
-check-order (Fails n k) b c = refl
 
 -- the cell of a column ----------------------------------------------------------------------------------------------------------
 
@@ -140,30 +133,37 @@ all-kept j (x ∷ xs) (s ∷ ss) e (suc k) lx ls =
 
 -- the checks of a line -------------------------------------------------------------------------------------------------------------
 
--- 6 and 7 of a row under a header of so many cells
-module _ (line : Bytes) (count : ℕ) (bounds : List ℕ) (r : Answer) (e : r ≡ answerOf (cut line)) (b : (cs : List Bytes) → cut line ≡ cells cs → BoundsOf cs (length bounds) bounds) where
-  pub cut-faulty : (n : ℕ) → r ≡ Bad n → (c : Check) → c ≡ quoteFault n → CutOf line count bounds c
-  cut-faulty n g c f =
-      let p : cut line ≡ faulty n = bad-cell (cut line) r n e g in
+-- 7 comes behind 17 and 6
+cut-behind : (h : Header) (line : Bytes) → cutCheck h line ≡ lineCheck line ⊳ cellCount when not (eqb (length (cellsOf (cut line))) (length h))
+cut-behind h line = sym (check-order (lineTooLong when longLine line) (badCut (cut line)) (cellCount when not (eqb (length (cellsOf (cut line))) (length h))))
+
+-- 17, 6 and 7 of a row under a header of so many cells
+module _ (line : Bytes) (count : ℕ) (bounds : List ℕ) (r : CutLine) (e : LineCut line bounds r) where
+  pub cut-refused : (n k : ℕ) → r .check ≡ Fails n k → CutOf line count bounds (Fails n k)
+  cut-refused n k g =
+      let p : lineCheck line ≡ Fails n k = sym (e .is) ∙ g in
       record {
-        is = λ h k. f ∙ sym (rw (p, lt-ltb 0 n (faulty-from-one line n p)));
+        is = λ h q. sym (cut-behind h line ∙ rw p);
         marks = λ q. let z : _≡_ {A = ℕ} 0 1 = cc in absurd (omega arith);
       }
 
-  module _ (n : ℕ) (g : r ≡ Good n) where
-    counted : length (cellsOf (cut line)) ≡ n
-    counted = good-count (cut line) r n e g
+  module _ (g : r .check ≡ Passes) where
+    counted : length (cellsOf (cut line)) ≡ r .cells
+    counted = e .counted g
 
-    pub cut-count : (n ≡ count → ⊥) → (c : Check) → c ≡ cellCount → CutOf line count bounds c
+    clean : lineCheck line ≡ Passes
+    clean = sym (e .is) ∙ g
+
+    pub cut-count : (r .cells ≡ count → ⊥) → (c : Check) → c ≡ cellCount → CutOf line count bounds c
     cut-count d c f =
         record {
-          is = λ h k. f ∙ sym (rw (good-cells (cut line) r n e g, ne-eqb (length (cellsOf (cut line))) (length h) (λ q. d (sym counted ∙ q ∙ sym k))));
+          is = λ h k. f ∙ sym (cut-behind h line ∙ rw (clean, ne-eqb (length (cellsOf (cut line))) (length h) (λ q. d (sym counted ∙ q ∙ sym k))));
           marks = λ q. let z : _≡_ {A = ℕ} 0 1 = cc in absurd (omega arith);
         }
 
-    pub cut-cells : n ≡ count → count < length bounds → CutOf line count bounds Passes
+    pub cut-cells : r .cells ≡ count → count < length bounds → CutOf line count bounds Passes
     cut-cells d l =
         record {
-          is = λ h k. sym (rw (good-cells (cut line) r n e g, eq-eqb (length (cellsOf (cut line))) (length h) (counted ∙ d ∙ k)));
-          marks = λ q. marks-of line bounds count r e b (g ∙ ap (λ (m : ℕ). Good m) d) l;
+          is = λ h k. sym (cut-behind h line ∙ rw (clean, eq-eqb (length (cellsOf (cut line))) (length h) (counted ∙ d ∙ k)));
+          marks = λ q. subst (MarksOf line bounds) d (e .marks g (rw d l));
         }

@@ -158,11 +158,11 @@ rowed-passes Passes row e = refl
 rowed-passes (Fails n k) row e = e
 
 module _ (t : Table) (h : Header) (line : Bytes) (p : read t h line .check ≡ Passes) where
-  pub line-passes : (cutCheck h (cut line) ⊳ cellsCheck t h line) ≡ Passes
-  line-passes = rowed-passes (cutCheck h (cut line) ⊳ cellsCheck t h line) (rowRead t h line) p
+  pub line-passes : (cutCheck h line ⊳ cellsCheck t h line) ≡ Passes
+  line-passes = rowed-passes (cutCheck h line ⊳ cellsCheck t h line) (rowRead t h line) p
 
   pub read-passes : cellsCheck t h line ≡ Passes
-  read-passes = second-passes (cutCheck h (cut line)) (cellsCheck t h line) line-passes
+  read-passes = second-passes (cutCheck h line) (cellsCheck t h line) line-passes
 
   pub read-row : read t h line .row ≡ rowRead t h line
   read-row = rw line-passes

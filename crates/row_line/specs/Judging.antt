@@ -20,18 +20,18 @@ use Rattle.header.specs.Header.{Header, cutCheck, contents, mostCells}
 use Rattle.header.specs.Heading.{places, cellsKept}
 use Rattle.row_line.specs.RowLine.{rowRead}
 
--- 6 and 7 of a row under a header of so many cells; where it passes, the bounds of its cells are kept
+-- 17, 6 and 7 of a row under a header of so many cells; where it passes, the bounds of its cells are kept
 pub record CutOf (line : Bytes) (count : ℕ) (bounds : List ℕ) (c : Check) : Type 0 where
-  pub is : (h : Header) → count ≡ length h → c ≡ cutCheck h (cut line)
+  pub is : (h : Header) → count ≡ length h → c ≡ cutCheck h line
   pub marks : c ≡ Passes → MarksOf line bounds count
 
 -- 8 of a line's cells
 abbrev pub cellsCheck : Table → Header → Bytes → Check
 cellsCheck t h line = badCell 1 (columnsOf t) (contents t h (cellsOf (cut line)))
 
--- 6, 7, 8, without a look at the book
+-- 17, 6, 7, 8, without a look at the book
 abbrev pub read : Table → Header → Bytes → Judged
-read t h line = rowed (cutCheck h (cut line) ⊳ cellsCheck t h line) (rowRead t h line)
+read t h line = rowed (cutCheck h line ⊳ cellsCheck t h line) (rowRead t h line)
 
 -- rows are read by their table's columns and by the places of a header, which has few cells
 pub record Guided (t : Table) (columns : List (List ℕ)) (at : List ℕ) : Type 0 where

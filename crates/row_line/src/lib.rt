@@ -9,7 +9,6 @@ ghost use Rattle.values.specs.Judged.{rowed};
 ghost use Rattle.header.specs.Heading.{places, cellsKept};
 ghost use Rattle.row_line.specs.RowLine.{rowRead};
 ghost use Rattle.row_line.specs.Judging.{cellsCheck, CutOf, read};
-use cells::Answer;
 use header::Places;
 use refusals::Check;
 use rows::NO_ROW;
@@ -46,15 +45,17 @@ fn read_columns(line: &[u8], bounds: &[usize], t: Table, columns: &Columns, at: 
     Judged { check, row }
 }
 
-// 6 and 7: the cells of a row, as many as its header has. Their bounds are kept where the caller has room for them.
+// 17, 6 and 7: the cells of a row, as many as its header has. Their bounds are kept where the caller has room for them.
 pub fn cut_row(line: &[u8], cells: usize, bounds: &mut [usize]) -> Check
     requires { ⌜ cells < length (now bounds) ⌝ }
     ensures { λ r. ⌜ CutOf (now (line .entry)) cells (now (bounds .exit)) r ⌝ }
 {
-    let answer = cells::cells_of(line, bounds);
-    match answer {
-        Answer::Bad(cell) => Check::quote_fault(header::wide(cell)),
-        Answer::Good(count) => {
+    let cut = header::cut_line(line, bounds);
+    let check = cut.check;
+    let count = cut.cells;
+    match check {
+        Check::Fails { number, column } => Check::Fails { number, column },
+        Check::Passes => {
             if count != cells {
                 return Check::cell_count();
             }
@@ -63,7 +64,7 @@ pub fn cut_row(line: &[u8], cells: usize, bounds: &mut [usize]) -> Check
     }
 }
 
-// 6, 7, 8 and the row of a line, without looking at a book.
+// 17, 6, 7, 8 and the row of a line, without looking at a book.
 pub fn read_row(
     line: &[u8],
     t: Table,

@@ -99,6 +99,8 @@ fn meaning(refusal: u64, column: u64) {
         9 => say(b"the key of this row stands in an earlier row"),
         10 => unknown_row(column),
         11 => say(b"the block ends before it begins, and one of its two times is 86,400 or more"),
+        17 => say(b"this line has more than 2,048 bytes"),
+        18 => say(b"the table came with more or fewer bytes than were announced"),
         _ => say(b"the book was lent at another length"),
     }
 }

@@ -6,7 +6,6 @@ use Rattle.words.specs.Words.{Bytes}
 use Rattle.refusals.specs.Verdicts.{_⊳_, tooManyRows}
 use Rattle.refusals.specs.declared.Check.{Check}
 use Rattle.refusals.specs.declared.Check.the-variants.{Passes, Fails}
-use Rattle.cells.specs.Cells.{cut}
 use Rattle.rows.specs.Rows.{column}
 use Rattle.tables.specs.declared.Table.{Table}
 use Rattle.values.specs.Judged.{rowed}
@@ -16,15 +15,15 @@ use Rattle.rules.specs.Rules.{ruled}
 use Rattle.header.specs.Header.{Header, cutCheck}
 use Rattle.row_line.specs.RowLine.{rowRead}
 use Rattle.row_line.specs.Judging.{cellsCheck, read}
-use Rattle.row_line.proofs.Columns.{check-order}
+use Rattle.header.proofs.Cutting.{check-order}
 use Rattle.row_line.proofs.Filling.{row-version, line-passes, read-passes, read-row}
 use Rattle.table_lines.specs.Reading.{judged}
 
 -- the checks that need no book come first, then the rules
 pub judged-read : (t : Table) (h : Header) (line : Bytes) (b : Book) → full t b ≡ false →
-    judged t h line b ≡ (cutCheck h (cut line) ⊳ cellsCheck t h line) ⊳ ruled t (rowRead t h line) b
+    judged t h line b ≡ (cutCheck h line ⊳ cellsCheck t h line) ⊳ ruled t (rowRead t h line) b
 unfolding judged
-judged-read t h line b e = rw e (sym (check-order (cutCheck h (cut line)) (cellsCheck t h line) (ruled t (rowRead t h line) b)))
+judged-read t h line b e = rw e (sym (check-order (cutCheck h line) (cellsCheck t h line) (ruled t (rowRead t h line) b)))
 
 module _ (t : Table) (h : Header) (line : Bytes) (b : Book) where
   pub judged-full : full t b ≡ true → judged t h line b ≡ tooManyRows
@@ -33,7 +32,7 @@ module _ (t : Table) (h : Header) (line : Bytes) (b : Book) where
 
   module _ (room : full t b ≡ false) (j : Judged) (is : j ≡ read t h line) where
     pub judged-bad : (n k : ℕ) → j .check ≡ Fails n k → judged t h line b ≡ Fails n k
-    judged-bad n k e = judged-read t h line b room ∙ go (cutCheck h (cut line) ⊳ cellsCheck t h line) (sym (ap (λ (x : Judged). x .check) is) ∙ e)
+    judged-bad n k e = judged-read t h line b room ∙ go (cutCheck h line ⊳ cellsCheck t h line) (sym (ap (λ (x : Judged). x .check) is) ∙ e)
       where
         go : (c : Check) → rowed c (rowRead t h line) .check ≡ Fails n k → (c ⊳ ruled t (rowRead t h line) b) ≡ Fails n k
         go Passes f = cc

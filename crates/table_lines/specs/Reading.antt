@@ -14,11 +14,11 @@ use Rattle.rules.specs.Rules.{ruled}
 use Rattle.header.specs.Header.{Header, cutCheck, contents}
 use Rattle.row_line.specs.RowLine.{rowRead}
 
--- "then line by line 5, 6, 7, 8 by column number, 11, 9, 10 by column number"
+-- "then line by line 5, 6, 7, 8 by column number, 11, 9, 10 by column number", and 17 "after 5"
 unfoldable pub judged : Table → Header → Bytes → Book → Check
 judged t h line b =
     tooManyRows when full t b
-    ⊳ cutCheck h (cut line)
+    ⊳ cutCheck h line
     ⊳ badCell 1 (columnsOf t) (contents t h (cellsOf (cut line)))
     ⊳ ruled t (rowRead t h line) b
 

@@ -28,7 +28,7 @@ pub struct Filled {
 }
 
 // 5, what the line was judged, and 11, 9, 10: a line on the book as the earlier ones left it; where it passes, its row enters the shelf.
-fn take_row(
+pub fn take_row(
     read: Judged,
     t: Table,
     book: &[Row],

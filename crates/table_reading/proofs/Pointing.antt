@@ -15,7 +15,7 @@ use Rattle.tables.specs.Columns.{columnsOf, number}
 use Rattle.tables.specs.declared.Table.{Table}
 use Rattle.values.specs.Values.{badCell}
 use Rattle.book.specs.Book.{Book, knows, full, entered}
-use Rattle.book.specs.Result.{unless, Result}
+use Rattle.book.specs.Result.{Result, leaves, unless}
 use Rattle.rules.specs.Rules.{timeFault, unknown, ruled}
 use Rattle.rules.specs.Points.{pointsNamed, NamedIn}
 use Rattle.rules.proofs.Points.{entered-named}
@@ -31,8 +31,8 @@ unfolding judged
 passes-known t h line b p =
     let row = rowRead t h line in
     let cells = badCell 1 (columnsOf t) (contents t h (cellsOf (cut line))) in
-    let behind-5 = second-passes (tooManyRows when full t b) (cutCheck h (cut line) ⊳ cells ⊳ ruled t row b) p in
-    let behind-7 = second-passes (cutCheck h (cut line)) (cells ⊳ ruled t row b) behind-5 in
+    let behind-5 = second-passes (tooManyRows when full t b) (cutCheck h line ⊳ cells ⊳ ruled t row b) p in
+    let behind-7 = second-passes (cutCheck h line) (cells ⊳ ruled t row b) behind-5 in
     let behind-8 = second-passes cells (ruled t row b) behind-7 in
     let behind-11 = second-passes (endsEarly when timeFault t row) (keyStands when knows t row b ⊳ unknown t row b) behind-8 in
     second-passes (keyStands when knows t row b) (unknown t row b) behind-11
@@ -47,6 +47,14 @@ rows-named t h i (l ∷ ls) b e =
         → NamedIn (unless (placed (number t) i c) (rowsRead t h (lineAfter i l) ls (entered t (rowRead t h l) b)))
     go Passes q k = k q
     go (Fails n m) q k = tt
+
+module _ (t : Table) (h : Header) (i : ℕ) (b : Book) (left : Result) where
+  pub rows-left : (ls : List Bytes) → left ≡ rowsRead t h i ls b → pointsNamed b ≡ true → NamedIn left
+  rows-left ls e p = subst NamedIn (sym e) (rows-named t h i ls b p)
+
+  pub line-left : (l : Bytes) → left ≡ unless (placed (number t) i (judged t h l b)) (leaves (entered t (rowRead t h l) b)) → pointsNamed b ≡ true → NamedIn left
+  unfolding rowsRead
+  line-left l e p = rows-left (l ∷ []) e p
 
 unless-named : (v : Verdict) (r : Result) → NamedIn r → NamedIn (unless v r)
 unless-named Accepted r k = k

@@ -1,40 +1,100 @@
 -- A line taken onto the shelf of its table, the rows of a text, and a table. Assumes nothing.
 use mathlib.Core.Path.{_≡_, ap, _∙_, subst, sym}
 use mathlib.Core.List.{List}
-use Prim.Native.Nat.{ℕ, _-_, _≤_}
+use mathlib.Core.Bool.{true}
+use Prim.Native.Nat.{ℕ, suc, _+_, _-_, _≤_}
 use native.Mathlib.Omega.{arith}
+use native.Mathlib.Numerals.{add-one}
 use lib.ListN.{length, take, drop, length-take, length-drop}
 use lib.Seq.{take-all}
 use Rattle.words.specs.Words.{Row, Bytes}
+use Rattle.refusals.specs.Verdicts.{placed}
+use Rattle.refusals.specs.declared.Check.{Check}
+use Rattle.refusals.specs.declared.Check.the-variants.{Passes}
 use Rattle.refusals.specs.declared.Place.{Place}
 use Rattle.refusals.specs.declared.Verdict.{Verdict}
 use Rattle.refusals.specs.declared.Verdict.the-variants.{Accepted, Refused}
+use Rattle.refusals.proofs.Placing.{placed-passes}
+use Rattle.lines.specs.Lines.{lines}
+use Rattle.tables.specs.Columns.{number}
 use Rattle.tables.specs.declared.Table.{Table}
 use Rattle.book.specs.Room.{laid, bookOf}
 use Rattle.book.specs.Holding.{Sound, resultOf}
-use Rattle.book.specs.Book.{Book, empty}
+use Rattle.book.specs.Book.{Book, empty, entered}
 use Rattle.book.specs.Result.{Result, leaves, unless}
 use Rattle.book.proofs.Laying.{orderly-empty, sound-laid, book-laid}
+use Rattle.rules.specs.Points.{pointsNamed}
 use Rattle.intake.specs.Shelving.{shelfBook, OnShelf}
 use Rattle.intake.proofs.Shelving.{sound-shelf, book-shelf}
-use Rattle.header.specs.Header.{headerOf, topFaults}
+use Rattle.header.specs.Header.{Header, headerOf, topFaults}
+use Rattle.header.specs.Heading.{places}
 use Rattle.header.specs.Top.{TopOf}
 use Rattle.header.specs.declared.Top.{Top}
-use Rattle.table_lines.specs.Reading.{lineAfter}
+use Rattle.row_line.specs.RowLine.{rowRead}
+use Rattle.table_lines.specs.Reading.{judged, lineAfter, rowsRead}
+use Rattle.table_lines.specs.Taking.{Taken, linesAfter}
 use Rattle.table_reading.specs.Reading.{tableRead}
-use Rattle.table_reading.specs.Taking.{RowsTaken}
+use Rattle.table_reading.specs.Taking.{RowsTaken, LineTaken}
+use Rattle.table_reading.proofs.Pointing.{rows-left, line-left}
+use Rattle.table_reading.specs.declared.Taken.{Taken as Reached}
 
 -- the rows on the shelf, laid out where they are accepted
 pub laid-accepted : (t : Table) (xs slots : List Row) (order : List ℕ) (n : ℕ) → OnShelf t xs slots order n → (ys : List Row) → ys ≡ laid (shelfBook t xs slots order n)
     → Sound ys × (bookOf ys ≡ shelfBook t xs slots order n)
 laid-accepted t xs slots order n on ys e = (rw e (sound-shelf t xs slots order n on), ap bookOf e ∙ book-shelf t xs slots order n on)
 
-module _ (v : Verdict) (b : Book) (r : Result) (is : unless v (leaves b) ≡ r) where
-  pub result-accepted : v ≡ Accepted → (ys : List Row) → Sound ys × (bookOf ys ≡ b) → resultOf Accepted ys ≡ r
-  result-accepted a ys e = ap leaves (e .1) ∙ subst (λ (x : Verdict). unless x (leaves b) ≡ r) a is
+pub laid-next : (t : Table) (xs slots : List Row) (order : List ℕ) (n : ℕ) → OnShelf t xs slots order (suc n) → (ys : List Row) → ys ≡ laid (shelfBook t xs slots order (n + 1))
+    → Sound ys × (bookOf ys ≡ shelfBook t xs slots order (suc n))
+laid-next t xs slots order n on ys e = laid-accepted t xs slots order (suc n) on ys (e ∙ ap (λ (m : ℕ). laid (shelfBook t xs slots order m)) (add-one n))
 
-  pub result-refused : (p : Place) → v ≡ Refused p → (ys : List Row) → resultOf (Refused p) ys ≡ r
-  result-refused p a ys = subst (λ (x : Verdict). unless x (leaves b) ≡ r) a is
+pub not-accepted : {A : Type 0} (p : Place) → Refused p ≡ Accepted → A
+not-accepted p e = let z : _≡_ {A = ℕ} 0 1 = cc in absurd (omega arith)
+
+-- the lines of a text on the shelf, from line i on
+module _ (t : Table) (at : List ℕ) (s : Bytes) (i : ℕ) (xs : List Row) (v : Verdict) (b : Book) (headed : (h : Header) × (at ≡ places h)) (named : pointsNamed (bookOf xs) ≡ true)
+    (is : (h : Header) → at ≡ places h → unless v (leaves b) ≡ rowsRead t h i (lines s) (bookOf xs)) where
+  pub rows-accepted : v ≡ Accepted → (ys : List Row) → Sound ys × (bookOf ys ≡ b) → (next : ℕ) → next ≡ linesAfter i (lines s)
+      → RowsTaken t at s i xs ys (record { verdict = Accepted; line = next })
+  rows-accepted a ys left next k =
+      record { sound = left .0; named = rows-left t (headed .0) i (bookOf xs) _ (lines s) (taken (headed .0) (headed .1)) named; next = λ e. k; taken = taken }
+    where
+      taken : (h : Header) → at ≡ places h → resultOf Accepted ys ≡ rowsRead t h i (lines s) (bookOf xs)
+      taken h e = ap leaves (left .1) ∙ subst (λ (x : Verdict). unless x (leaves b) ≡ rowsRead t h i (lines s) (bookOf xs)) a (is h e)
+
+  pub rows-refused : (p : Place) → v ≡ Refused p → Sound xs → (next : ℕ) → RowsTaken t at s i xs xs (record { verdict = Refused p; line = next })
+  rows-refused p a sound next =
+      record { sound = sound; named = tt; next = not-accepted p; taken = λ h e. subst (λ (x : Verdict). unless x (leaves b) ≡ rowsRead t h i (lines s) (bookOf xs)) a (is h e) }
+
+-- one line on the shelf, which is line i
+pub check-passes : (table i : ℕ) (c : Check) (v : Verdict) → v ≡ placed table i c → v ≡ Accepted → c ≡ Passes
+check-passes table i c v o a = placed-passes table i c (sym o ∙ a)
+
+module _ (t : Table) (at : List ℕ) (line : Bytes) (i : ℕ) (xs : List Row) (b d : Book) (same : b ≡ bookOf xs) (c : Check) (v : Verdict) (o : v ≡ placed (number t) i c)
+    (headed : (h : Header) × (at ≡ places h)) (named : pointsNamed (bookOf xs) ≡ true) (k : (h : Header) → at ≡ places h → Taken t h line b d c) where
+  -- what the line comes to
+  abbrev after : Header → Result
+  after h = unless (placed (number t) i (judged t h line (bookOf xs))) (leaves (entered t (rowRead t h line) (bookOf xs)))
+
+  judged-so : (h : Header) → at ≡ places h → c ≡ judged t h line (bookOf xs)
+  judged-so h e = k h e .is ∙ ap (judged t h line) same
+
+  pub line-accepted : v ≡ Accepted → (ys : List Row) → Sound ys × (bookOf ys ≡ d) → LineTaken t at line i xs ys Accepted
+  line-accepted a ys left =
+      record { sound = left .0; named = line-left t (headed .0) i (bookOf xs) _ line (is (headed .0) (headed .1)) named; taken = is }
+    where
+      is : (h : Header) → at ≡ places h → resultOf Accepted ys ≡ after h
+      is h e =
+          let p : c ≡ Passes = check-passes (number t) i c v o a in
+          let q : judged t h line (bookOf xs) ≡ Passes = sym (judged-so h e) ∙ p in
+          rw q (ap leaves (left .1 ∙ k h e .enters p ∙ ap (entered t (rowRead t h line)) same))
+
+  pub line-refused : (p : Place) → v ≡ Refused p → Sound xs → LineTaken t at line i xs xs (Refused p)
+  line-refused p a sound = record { sound = sound; named = tt; taken = is }
+    where
+      is : (h : Header) → at ≡ places h → resultOf (Refused p) xs ≡ after h
+      is h e =
+          let q : placed (number t) i (judged t h line (bookOf xs)) ≡ Refused p = ap (placed (number t) i) (sym (judged-so h e)) ∙ sym o ∙ a in
+          rw q
 
 -- what is lent of a text from a place on
 pub rest-length : (s : Bytes) (n : ℕ) → length (take (length s - n) (drop n s)) ≤ length s
@@ -49,9 +109,9 @@ module _ (t : Table) (s : Bytes) (top : Top) (o : TopOf t s top) where
   unfolding tableRead
   table-refused b xs p e = let z : topFaults t s ≡ Refused p = sym (o .is) ∙ e in rw z
 
-  pub table-rows : (a : top .verdict ≡ Accepted) (xs ys : List Row) (v : Verdict) → RowsTaken t (top .at) (take (length s - top .next) (drop (top .next) s)) xs ys v → resultOf v ys ≡ tableRead t s (bookOf xs)
+  pub table-rows : (a : top .verdict ≡ Accepted) (xs ys : List Row) (r : Reached) → RowsTaken t (top .at) (take (length s - top .next) (drop (top .next) s)) 2 xs ys r → resultOf (r .verdict) ys ≡ tableRead t s (bookOf xs)
   unfolding tableRead lineAfter
-  table-rows a xs ys v w =
+  table-rows a xs ys r w =
       let z : topFaults t s ≡ Accepted = sym (o .is) ∙ a in
       w .taken (headerOf t s) (o .kept a .headed) ∙ rw (z, rest-whole s (top .next), o .kept a .rest)
 

@@ -1,15 +1,15 @@
 // A table read: its top, its lines, and the book that they leave.
 ghost use mathlib.Core.Path.{_≡_};
 ghost use mathlib.Core.Bool.{true};
-ghost use Prim.Native.Nat.{_≤_};
+ghost use Prim.Native.Nat.{_<_, _+_, _^_};
 ghost use lib.ListN.{length};
-ghost use Rattle.lines.specs.Lines.{mostBytes};
 ghost use Rattle.book.specs.Holding.{Sound, resultOf};
 ghost use Rattle.book.specs.Room.{bookOf};
 ghost use Rattle.rules.specs.Points.{pointsNamed, NamedIn};
 ghost use Rattle.row_line.specs.Judging.{Guided};
-ghost use Rattle.table_reading.specs.Taking.{RowsTaken};
+ghost use Rattle.table_reading.specs.Taking.{RowsTaken, LineTaken};
 ghost use Rattle.table_reading.specs.Reading.{tableRead};
+use header::BOUNDS;
 use header::Places;
 use refusals::Verdict;
 use rows::ROWS;
@@ -18,14 +18,27 @@ use table_lines::Reached;
 use tables::Columns;
 use tables::Table;
 
+// Rows taken: what they are refused for, and the number of the next line where they are not.
+pub struct Taken {
+    pub verdict: Verdict,
+    pub line: u64,
+}
+
 // The line of the first row, behind the header's.
 const FIRST_ROW: u64 = 2;
 
-// The rows of a text into their table. They stand on a shelf while they are read, since a row that comes before others would move these
-// in the book. A refused table leaves the book as it was.
-fn take_rows(bytes: &[u8], t: Table, columns: &Columns, at: &Places, book: &mut [Row]) -> Verdict
-    requires { ⌜ Guided t (now columns) (now at) × (length (now bytes) ≤ mostBytes) × Sound (now book) × (pointsNamed (bookOf (now book)) ≡ true) ⌝ }
-    ensures { λ r. ⌜ RowsTaken t (now (at .entry)) (now (bytes .entry)) (now (book .entry)) (now (book .exit)) r ⌝ }
+// The rows of a text, from any line on, into their table. They stand on a shelf while they are read, since a row that comes before others
+// would move these in the book. A refused table leaves the book as it was.
+pub fn take_rows(
+    bytes: &[u8],
+    first: u64,
+    t: Table,
+    columns: &Columns,
+    at: &Places,
+    book: &mut [Row],
+) -> Taken
+    requires { ⌜ Guided t (now columns) (now at) × Sound (now book) × (pointsNamed (bookOf (now book)) ≡ true) × (first + length (now bytes) < 2 ^ 64) ⌝ }
+    ensures { λ r. ⌜ RowsTaken t (now (at .entry)) (now (bytes .entry)) first (now (book .entry)) (now (book .exit)) r ⌝ }
 {
     let mut slots = [[0u64; 11]; ROWS];
     let mut order = [0u16; ROWS];
@@ -33,7 +46,7 @@ fn take_rows(bytes: &[u8], t: Table, columns: &Columns, at: &Places, book: &mut 
     let filled = table_lines::take_lines(
         bytes,
         Reached {
-            line: FIRST_ROW,
+            line: first,
             count: n,
         },
         t,
@@ -44,10 +57,45 @@ fn take_rows(bytes: &[u8], t: Table, columns: &Columns, at: &Places, book: &mut 
         &mut order,
     );
     let verdict = filled.verdict;
+    let line = filled.line;
     let count = filled.count;
     match verdict {
         Verdict::Accepted => {
             intake::lay_table(book, t, &slots, &order, count);
+            Taken {
+                verdict: Verdict::Accepted,
+                line,
+            }
+        }
+        Verdict::Refused(p) => Taken {
+            verdict: Verdict::Refused(p),
+            line,
+        },
+    }
+}
+
+// One line as it is, wherever its line feed is, into its table. A refused line leaves the book as it was.
+pub fn take_line(
+    line: &[u8],
+    i: u64,
+    t: Table,
+    columns: &Columns,
+    at: &Places,
+    book: &mut [Row],
+) -> Verdict
+    requires { ⌜ Guided t (now columns) (now at) × Sound (now book) × (pointsNamed (bookOf (now book)) ≡ true) ⌝ }
+    ensures { λ r. ⌜ LineTaken t (now (at .entry)) (now (line .entry)) i (now (book .entry)) (now (book .exit)) r ⌝ }
+{
+    let mut slots = [[0u64; 11]; ROWS];
+    let mut order = [0u16; ROWS];
+    let mut bounds = [0usize; BOUNDS];
+    let n = intake::shelve(&book[..], t, &mut slots, &mut order);
+    let read = row_line::read_row(line, t, columns, at, &mut bounds);
+    let check = table_lines::take_row(read, t, &book[..], &mut slots, &mut order, n);
+    let verdict = check.on(t.number(), i);
+    match verdict {
+        Verdict::Accepted => {
+            intake::lay_table(book, t, &slots, &order, n + 1);
             Verdict::Accepted
         }
         Verdict::Refused(p) => Verdict::Refused(p),
@@ -66,6 +114,9 @@ pub fn take_table(bytes: &[u8], t: Table, book: &mut [Row]) -> Verdict
     let next = top.next;
     match verdict {
         Verdict::Refused(p) => Verdict::Refused(p),
-        Verdict::Accepted => take_rows(&bytes[next..], t, &columns, &at, book),
+        Verdict::Accepted => {
+            let taken = take_rows(&bytes[next..], FIRST_ROW, t, &columns, &at, book);
+            taken.verdict
+        }
     }
 }

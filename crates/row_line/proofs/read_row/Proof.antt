@@ -1,10 +1,9 @@
--- `row_line::read_row` meets its contract: 6 and 7, and the columns of any other line. Assumes nothing.
+-- `row_line::read_row` meets its contract: 17, 6 and 7, and the columns of any other line. Assumes nothing.
 use mathlib.Core.Path.{_≡_, sym, ap, _∙_}
 use borrow.Author.Needs.{needs}
 use Rattle.refusals.specs.Verdicts.{_⊳_}
 use Rattle.refusals.specs.declared.Check.{Check}
 use Rattle.refusals.specs.declared.Check.the-variants.{Passes, Fails}
-use Rattle.cells.specs.Cells.{cut}
 use Rattle.values.specs.Judged.{rowed, unkept}
 use Rattle.header.specs.Header.{cutCheck}
 use Rattle.header.specs.Heading.{cellsKept}
@@ -39,8 +38,8 @@ returns c =
     let a = c .before .before .before .before .before .before .before .before .before .before .before .args in
     let line = a .line .now in
     λ h k.
-    let e : cutCheck h (cut line) ≡ Passes = sym (c .before .before .before .before .before .before .cut-row .ensures .is h (ap cellsKept k)) ∙ c .before .before .enum-told .given .1 in
-    let z : (cutCheck h (cut line) ⊳ cellsCheck (a .t) h line) ≡ cellsCheck (a .t) h line = rw e in
+    let e : cutCheck h line ≡ Passes = sym (c .before .before .before .before .before .before .cut-row .ensures .is h (ap cellsKept k)) ∙ c .before .before .enum-told .given .1 in
+    let z : (cutCheck h line ⊳ cellsCheck (a .t) h line) ≡ cellsCheck (a .t) h line = rw e in
     c .read-columns .ensures h k ∙ ap (λ (q : Check). rowed q (rowRead (a .t) h line)) (sym z)
 
 same-length-2 : tie.Need-same-length-2
@@ -52,8 +51,8 @@ returns-2 c =
     let line = a .line .now in
     let g = c .before .enum-told2 .given in
     λ h k.
-    let e : cutCheck h (cut line) ≡ Fails (g .0 .0) (g .0 .1 .0) = sym (c .before .before .before .before .before .cut-row .ensures .is h (ap cellsKept k)) ∙ g .1 in
-    let z : (cutCheck h (cut line) ⊳ cellsCheck (a .t) h line) ≡ Fails (g .0 .0) (g .0 .1 .0) = rw e in
+    let e : cutCheck h line ≡ Fails (g .0 .0) (g .0 .1 .0) = sym (c .before .before .before .before .before .cut-row .ensures .is h (ap cellsKept k)) ∙ g .1 in
+    let z : (cutCheck h line ⊳ cellsCheck (a .t) h line) ≡ Fails (g .0 .0) (g .0 .1 .0) = rw e in
     c .no-row .ensures ∙ ap unkept (g .1) ∙ ap (λ (q : Check). rowed q (rowRead (a .t) h line)) (sym z)
 
 pub read-row-spec : {M : Type 1} → statement M

@@ -4,7 +4,7 @@ use mathlib.Core.List.{List}
 use Prim.Native.Nat.{ℕ, _+_, _-_, _≤_}
 use native.Mathlib.Omega.{arith}
 use native.Mathlib.Numerals.{add-one}
-use lib.ListN.{length, drop}
+use lib.ListN.{length, take, drop}
 use borrow.Author.Needs.{needs}
 use Rattle.refusals.specs.declared.Verdict.the-variants.{Accepted}
 use Rattle.refusals.specs.Verdicts.{placed}
@@ -59,8 +59,11 @@ read-row-requires c κs =
 
 take-row-requires : tie.Need-take-row-requires Inv-rows μ-rows
 take-row-requires c κs =
-    let headed = c .before .before .before .before .before .before .before .before .before .before .before .before .pre .0 .headed in
-    (c .before .before .before .before .before .before .before .before .rows .inv .3, (headed .0, (_, c .before .before .before .read-row .ensures (headed .0) (headed .1))))
+    let st = c .before .before .before .before .before .before .before .before .before .before .before .before in
+    let at = c .before .before .before .before .before .before .before .before .rows in
+    let line = take (c .before .before .before .before .before .before .next-line .result .end - at .i) (drop (at .i) (st .args .bytes .now)) in
+    let headed = st .pre .0 .headed in
+    (at .inv .3, (headed .0, (line, c .before .before .before .read-row .ensures (headed .0) (headed .1))))
 
 on-requires : tie.Need-on-requires Inv-rows μ-rows
 on-requires c κs = search needs

@@ -1,13 +1,12 @@
 -- `table_reading::take_rows` meets its contract: what the lines leave on the shelf is laid out where they are accepted. Assumes nothing.
 use mathlib.Core.Path.{ap, _∙_}
-use native.Mathlib.Omega.{arith}
 use borrow.Author.Needs.{needs}
 use Rattle.lines.specs.Lines.{lines}
 use Rattle.tables.proofs.Parts.{room-alike}
 use Rattle.book.specs.Room.{bookOf}
 use Rattle.rules.proofs.Points.{referable}
 use Rattle.table_lines.specs.Reading.{rowsRead}
-use Rattle.table_reading.proofs.Taking.{laid-accepted, result-accepted, result-refused}
+use Rattle.table_reading.proofs.Taking.{laid-accepted, rows-accepted, rows-refused}
 use Rattle.table_reading.proofs.take_rows.Statement.{statement}
 use Rattle.table_reading.proofs.take_rows.Tie as tie
 
@@ -20,7 +19,7 @@ slice-aggregate-shelve-2 c = search needs
 shelve-requires : tie.Need-shelve-requires
 shelve-requires c κs =
     let st = c .before .before .before .before in
-    let r = referable (st .args .t) (bookOf (st .args .book .now)) (st .pre .3) in
+    let r = referable (st .args .t) (bookOf (st .args .book .now)) (st .pre .2) in
     let room = room-alike (st .args .t) in
     search needs
 
@@ -31,7 +30,7 @@ slice-aggregate-take-lines-2 : tie.Need-slice-aggregate-take-lines-2
 slice-aggregate-take-lines-2 c = search needs
 
 take-lines-requires : tie.Need-take-lines-requires
-take-lines-requires c κs = (c .before .before .before .before .before .before .before .before .before .before .pre .0, c .before .before .before .before .before .shelve .ensures .0, omega (arith, c .before .before .before .before .before .before .before .before .before .before .pre .1))
+take-lines-requires c κs = (c .before .before .before .before .before .before .before .before .before .before .pre .0, c .before .before .before .before .before .shelve .ensures .0, c .before .before .before .before .before .before .before .before .before .before .pre .3)
 
 enum-told : tie.Need-enum-told
 enum-told c = search needs
@@ -58,7 +57,8 @@ returns c =
     let taken = c .before .before .before .before .before .before .before .before .before .take-lines in
     let accepted = c .before .before .before .before .before .enum-told .given .1 in
     let left = laid-accepted (st .args .t) (st .args .book .now) _ _ (taken .result .count) (taken .ensures .on accepted) _ (c .before .lay-table .ensures) in
-    record { sound = left .0; taken = λ h kept. result-accepted (taken .result .verdict) _ _ (taken .ensures .taken h kept ∙ ap (rowsRead (st .args .t) h 2 (lines (st .args .bytes .now))) (shelved .ensures .1)) accepted _ left }
+    rows-accepted (st .args .t) (st .args .at .now) (st .args .bytes .now) (st .args .first) (st .args .book .now) (taken .result .verdict) _ (st .pre .0 .headed) (st .pre .2)
+    (λ h kept. taken .ensures .taken h kept ∙ ap (rowsRead (st .args .t) h (st .args .first) (lines (st .args .bytes .now))) (shelved .ensures .1)) accepted _ left (taken .result .line) (taken .ensures .next accepted)
 
 same-length-2 : tie.Need-same-length-2
 same-length-2 c = search needs
@@ -68,7 +68,8 @@ returns-2 c =
     let st = c .before .before .before .before .before .before .before .before .before .before .before .before .before .before .before .before in
     let shelved = c .before .before .before .before .before .before .before .before .before .before .before .shelve in
     let taken = c .before .before .before .before .before .take-lines in
-    record { sound = st .pre .2; taken = λ h kept. result-refused (taken .result .verdict) _ _ (taken .ensures .taken h kept ∙ ap (rowsRead (st .args .t) h 2 (lines (st .args .bytes .now))) (shelved .ensures .1)) _ (c .before .verdict .given .1) (st .args .book .now) }
+    rows-refused (st .args .t) (st .args .at .now) (st .args .bytes .now) (st .args .first) (st .args .book .now) (taken .result .verdict) _ (st .pre .0 .headed) (st .pre .2)
+    (λ h kept. taken .ensures .taken h kept ∙ ap (rowsRead (st .args .t) h (st .args .first) (lines (st .args .bytes .now))) (shelved .ensures .1)) _ (c .before .verdict .given .1) (st .pre .1) (taken .result .line)
 
 pub take-rows-spec : {M : Type 1} → statement M
 take-rows-spec =

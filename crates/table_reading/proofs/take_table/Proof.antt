@@ -35,9 +35,9 @@ take-rows-requires c κs =
     let top = c .before .before .before .before .before .before .before .read-top in
     let kept = top .ensures .kept (c .before .before .before .before .enum-told .given .1) in (
       record { rules = c .before .before .before .before .before .before .before .before .before .column-rules .ensures; few = kept .few; headed = (headerOf (st .args .t) (st .args .bytes .now), kept .headed) },
-      omega (arith, rest-length (st .args .bytes .now) (top .result .next), kept .short),
       st .pre .0,
       st .pre .1,
+      omega (arith, rest-length (st .args .bytes .now) (top .result .next), kept .short),
     )
 
 returns : tie.Need-returns

@@ -1,0 +1,145 @@
+-- The calls by radio on the lent slices. Assumes nothing.
+use mathlib.Core.Path.{_≡_, refl, ap, sym, subst, _∙_}
+use mathlib.Core.List.{List, [], _∷_, _++_}
+use mathlib.Core.Bool.{true}
+use Prim.Native.Nat.{ℕ, _+_, _-_}
+use lib.ListN.{length}
+use Rattle.words.specs.Words.{Bytes, same, all}
+use Rattle.refusals.specs.declared.Verdict.{Verdict}
+use Rattle.refusals.specs.declared.Verdict.the-variants.{Accepted}
+use Rattle.rows.specs.Rows.{rising}
+use Rattle.tables.specs.declared.Table.{Table}
+use Rattle.tables.specs.declared.Table.the-variants.{VehicleType, Depot, Stop, StopPoint, Block}
+use Rattle.book.specs.Book.{empty}
+use Rattle.book.specs.Result.{Result, refused, leaves}
+use Rattle.keeping.specs.Keeping.{lawfulBook, keepsRule}
+use Rattle.delivery.specs.Calls.{readOutcome}
+use Rattle.delivery.specs.Delivery.{reading}
+use Rattle.radio.specs.Radio.{Sending, hearing, Course, Radio, awaits, hears, Call, announce, start, counted, begun, partTaken, after, answer, verdictOf, standing}
+use Rattle.radio.specs.Rule.{lawfulResult, lawfulRadio}
+use Rattle.radio.specs.Room.{Slices, Outcome, outcome, laidBook, laidOut, radioIn, keepsRadio, radioCall, openCall}
+use Rattle.radio.proofs.Laying.{OrderlyIn, handed}
+use Rattle.promises.specs.Radio.{run, parts, joined, sendingOf, deliveryOf, callsFor, callsOf, lastAnswer, called, SlicesTested, FoundAgain, CallsKeep, CallsLawful, CallsRun, RadioReads}
+use Rattle.promises.proofs.RuleLaws.{lawful-standing, laid-keeps, standing-orderly}
+use Rattle.promises.proofs.HeardPromises.{table-heard, Four, four-heard, delivery-heard, heard-as-read}
+use Rattle.promises.proofs.RadioRulePromises.{standing-of, radio-kept}
+use Rattle.radio.proofs.Laying as laying
+
+-- a lawful book is in order -------------------------------------------------------------------------------------------------------
+
+empty-lawful : lawfulBook empty ≡ true
+unfolding all rising
+empty-lawful = refl
+
+lawful-orderly : (r : Result) → lawfulResult r ≡ true → OrderlyIn r
+lawful-orderly (refused p) e = tt
+lawful-orderly (leaves b) e = standing-orderly b (lawful-standing b e)
+
+kept-orderly : (k : Radio) → lawfulRadio k ≡ true → OrderlyIn (standing k)
+kept-orderly k e = lawful-orderly (standing k) (standing-of k e)
+
+pub found-again : FoundAgain
+found-again k e = laying.found-again k e (kept-orderly k e)
+
+laid-out-keeps : (k : Radio) → lawfulRadio k ≡ true → keepsRadio (laidOut k) ≡ true
+laid-out-keeps k e = laying.laid-out-keeps k e (kept-orderly k e)
+
+pub slices-tested : SlicesTested
+slices-tested s = (
+  λ e. (radioIn s, handed s e .lawful, handed s e .is),
+  λ k. subst (λ (z : Slices). keepsRadio z ≡ true) (sym (k .2)) (laid-out-keeps (k .0) (k .1)),
+)
+
+-- the calls -------------------------------------------------------------------------------------------------------------------------
+
+call-lays : (c : Call) (s : Slices) → keepsRadio s ≡ true → radioCall c s .slices ≡ laidOut (after c (radioIn s))
+unfolding radioCall
+call-lays c s e = rw e
+
+pub calls-keep : CallsKeep
+calls-keep c s e = ap keepsRadio (call-lays c s e) ∙ laid-out-keeps (after c (radioIn s)) (radio-kept c (radioIn s) (handed s e .lawful))
+
+book-keeps : (r : Result) → lawfulResult r ≡ true → keepsRule (laidBook r) ≡ true
+book-keeps (refused p) e = laid-keeps empty (lawful-standing empty empty-lawful)
+book-keeps (leaves b) e = laid-keeps b (lawful-standing b e)
+
+pub calls-lawful : CallsLawful
+unfolding laidOut
+calls-lawful c s e =
+    let k : Radio = after c (radioIn s) in
+    ap (λ (z : Slices). keepsRule (z .book)) (call-lays c s e) ∙ book-keeps (standing k) (standing-of k (radio-kept c (radioIn s) (handed s e .lawful)))
+
+call-answers : (c : Call) (k : Radio) → lawfulRadio k ≡ true → radioCall c (laidOut k) ≡ outcome (answer c k) (laidOut (after c k))
+unfolding radioCall
+call-answers c k e = rw (laid-out-keeps k e, found-again k e)
+
+run-called : (v : Verdict) (cs : List Call) (k : Radio) → lawfulRadio k ≡ true → called v cs (laidOut k) ≡ outcome (lastAnswer v cs k) (laidOut (run cs k))
+unfolding called run lastAnswer
+run-called v [] k e = refl
+run-called v (c ∷ cs) k e = ap (λ (o : Outcome). called (o .verdict) cs (o .slices)) (call-answers c k e) ∙ run-called (answer c k) cs (after c k) (radio-kept c k e)
+
+pub start-lawful : lawfulRadio start ≡ true
+unfolding lawfulRadio
+start-lawful = empty-lawful
+
+pub calls-run : CallsRun
+calls-run cs s e =
+    let opened : openCall s .slices ≡ laidOut start = rw e in
+    ap (called Accepted cs) opened ∙ run-called Accepted cs start start-lawful
+
+-- the last close --------------------------------------------------------------------------------------------------------------------
+
+last-join : (v : Verdict) (xs ys : List Call) (k : Radio) → lastAnswer v (xs ++ ys) k ≡ lastAnswer (lastAnswer v xs k) ys (run xs k)
+unfolding lastAnswer run
+last-join v [] ys k = refl
+last-join v (x ∷ xs) ys k = last-join (answer x k) xs ys (after x k)
+
+heard-on : (p : Bytes) (t : Table) (a n : ℕ) (c : Course) → (m : ℕ) × (e : Course) × (partTaken p (hears t a n c) ≡ hears t a m e)
+unfolding partTaken
+heard-on [] t a n c = (n, c, refl)
+heard-on (x ∷ p) t a n c = heard-on p t a _ _
+
+last-parts : (v : Verdict) (ps : List Bytes) (t : Table) (a n : ℕ) (c : Course) → lastAnswer v (parts ps) (hears t a n c) ≡ verdictOf (standing (run (parts ps) (hears t a n c)))
+unfolding lastAnswer parts run
+last-parts v [] t a n c = refl
+last-parts v (p ∷ ps) t a n c =
+    let k = heard-on p t a n c in
+    ap (lastAnswer Accepted (parts ps)) (k .2) ∙ last-parts Accepted ps t a (k .0) (k .1) ∙ ap (λ (z : Radio). verdictOf (standing (run (parts ps) z))) (sym (k .2))
+
+last-table : (v : Verdict) (a : ℕ) (ps : List Bytes) (t : Table) (r : Result) → lastAnswer v (announce a ∷ parts ps) (awaits t r) ≡ verdictOf (standing (run (announce a ∷ parts ps) (awaits t r)))
+unfolding lastAnswer run
+last-table v a ps t r = last-parts Accepted ps t (counted a) 0 (begun r)
+
+five-answers : (u : Verdict) (v w x y z : List Call) (k : Radio) → (u′ : Verdict) × (lastAnswer u (v ++ (w ++ (x ++ (y ++ z)))) k ≡ lastAnswer u′ z (run y (run x (run w (run v k)))))
+five-answers u v w x y z k = (
+  _,
+  last-join u v (w ++ (x ++ (y ++ z))) k ∙ last-join _ w (x ++ (y ++ z)) (run v k) ∙ last-join _ x (y ++ z) (run w (run v k)) ∙ last-join _ y z (run x (run w (run v k))),
+)
+
+last-heard : (a : Table → ℕ) (ps : Table → List Bytes) → lastAnswer Accepted (callsOf a ps) start ≡ verdictOf (hearing (sendingOf a ps))
+unfolding callsOf
+last-heard a ps =
+    let f : Four a ps = four-heard a ps in
+    let k = five-answers Accepted (callsFor a ps VehicleType) (callsFor a ps Depot) (callsFor a ps Stop) (callsFor a ps StopPoint) (callsFor a ps Block) start in
+    k .1 ∙ ap (lastAnswer (k .0) (callsFor a ps Block)) (f .stands)
+    ∙ last-table (k .0) (a Block) (ps Block) Block (f .result)
+    ∙ ap (λ (z : Radio). verdictOf (standing z)) (table-heard Block (a Block) (ps Block) (f .result) (f .clear)) ∙ ap verdictOf (f .last)
+
+as-read : (r : Result) → (verdictOf r ≡ readOutcome r .verdict) × (laidBook r ≡ readOutcome r .book)
+as-read (refused p) = (refl, refl)
+as-read (leaves b) = (refl, refl)
+
+pub radio-reads : RadioReads
+unfolding laidOut sendingOf
+radio-reads a ps s fit e =
+    let o : Outcome = called Accepted (callsOf a ps) (openCall s .slices) in
+    let d : Sending = sendingOf a ps in
+    let r : Result = reading (deliveryOf d) in
+    let same : hearing d ≡ r = heard-as-read d (lengths a ps e) in
+    let out : o ≡ outcome (lastAnswer Accepted (callsOf a ps) start) (laidOut (run (callsOf a ps) start)) = calls-run (callsOf a ps) s fit in (
+      ap (λ (z : Outcome). z .verdict) out ∙ last-heard a ps ∙ ap verdictOf same ∙ as-read r .0,
+      ap (λ (z : Outcome). z .slices .book) out ∙ ap (λ (z : Radio). laidBook (standing z)) (delivery-heard a ps) ∙ ap laidBook same ∙ as-read r .1,
+    )
+  where
+    lengths : (a : Table → ℕ) (ps : Table → List Bytes) → ((t : Table) → a t ≡ length (joined (ps t))) → (t : Table) → sendingOf a ps .announced t ≡ length (sendingOf a ps .sent t)
+    lengths a ps e t = e t

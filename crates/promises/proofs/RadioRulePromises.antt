@@ -1,0 +1,215 @@
+-- The rule of what is kept between parts is kept by every call, and the book that closes keeps the book rule. Assumes nothing.
+use mathlib.Core.Path.{_≡_, refl, ap, subst, _∙_}
+use mathlib.Core.List.{List, [], _∷_, _++_}
+use mathlib.Core.Bool.{Bool, true, false, _&&_, not}
+use Prim.Native.Nat.{ℕ, suc, _+_, _≤_, _<_}
+use native.Mathlib.Omega.{arith}
+use lib.Dec.{eqb, ltb}
+use lib.ListN.{length, length-append}
+use borrow.Author.Tests.{ltb-true, ltb-false, ne-eqb}
+use Rattle.words.specs.Words.{Bytes, Row, if_then_else_}
+use Rattle.refusals.specs.Verdicts.{_⊳_, _when_, placed, inText, inHeader}
+use Rattle.refusals.specs.declared.Check.{Check}
+use Rattle.refusals.specs.declared.Check.the-variants.{Passes, Fails}
+use Rattle.refusals.specs.declared.Verdict.{Verdict}
+use Rattle.refusals.specs.declared.Verdict.the-variants.{Accepted, Refused}
+use Rattle.lines.specs.Lines.{mostLine}
+use Rattle.rows.specs.Rows.{stands, inserted, sameKey}
+use Rattle.rows.proofs.Changes.{stands-key, stands-inserted, other-stands-inserted}
+use Rattle.tables.specs.Columns.{number, keyWidth, references}
+use Rattle.tables.specs.declared.Table.{Table}
+use Rattle.tables.specs.declared.Table.the-variants.{VehicleType, Depot, Stop, StopPoint, Block}
+use Rattle.tables.specs.declared.Reference.{Reference}
+use Rattle.book.specs.Book.{Book, rows, entered, knows}
+use Rattle.book.specs.Result.{Result, refused, leaves, unless}
+use Rattle.book.proofs.Laying.{every-table, rows-with}
+use Rattle.rules.specs.Rules.{named, finds, unknownOf}
+use Rattle.keeping.specs.Keeping.{lawfulBook}
+use Rattle.header.specs.Header.{Header, headerCheck}
+use Rattle.row_line.specs.RowLine.{rowRead}
+use Rattle.table_lines.specs.Reading.{judged, lineAfter}
+use Rattle.radio.specs.Radio.{lengthCheck, Course, stopped, going, onward, headerIn, headHeard, rowHeard, lineHeard, endsLine, ended, byteHeard, none, cameTo, finished, faultBefore, Radio, awaits, hears, over, counted, announce, part, close, next, begun, byteTaken, partTaken, closing, after, standing, keptLine}
+use Rattle.radio.specs.Rule.{lawfulResult, lawfulHead, lawfulCourse, lawfulRadio}
+use Rattle.radio.proofs.Parting.{ended-short}
+use Rattle.radio.proofs.Hearing.{line-after, line-before, long-stops}
+use Rattle.radio.proofs.Counting.{counts, counted-next, counted-grows}
+use Rattle.radio.proofs.Lawful.{Kept, kept, is-lawful, Heard, heard-of, of-heard}
+use Rattle.promises.specs.Radio.{RadioKept, ClosesLawful}
+use Rattle.promises.proofs.HeldLaws.{Good, EachGood, Held, Taken, judged-taken, held-entered}
+use Rattle.promises.proofs.DeliveryLaws.{Standing}
+use Rattle.promises.proofs.RuleLaws.{lawful-standing, standing-lawful, laid-keeps}
+
+-- a row more breaks no other table's references -------------------------------------------------------------------------------
+
+stands-still : (k : ℕ) (key row : Row) (xs : List Row) → stands k key xs ≡ true → stands k key (inserted k row xs) ≡ true
+stands-still k key row xs e = go (sameKey k key row) refl
+  where
+    go : (s : Bool) → sameKey k key row ≡ s → stands k key (inserted k row xs) ≡ true
+    go true q = stands-key k key row q (inserted k row xs) ∙ stands-inserted k row xs
+    go false q = other-stands-inserted k key row q xs ∙ e
+
+module _ (t : Table) (row : Row) (b : Book) where
+  knows-still : (u : Table) (key : Row) → knows u key b ≡ true → knows u key (entered t row b) ≡ true
+  knows-still u key =
+      every-table (λ v ys. stands (keyWidth v) key (rows v b) ≡ true → stands (keyWidth v) key ys ≡ true) b t (inserted (keyWidth t) row (rows t b))
+      (stands-still (keyWidth t) key row (rows t b)) (λ v e. e) u
+
+  unknown-still : (xs : List Reference) (x : Row) → unknownOf xs x b ≡ Passes → unknownOf xs x (entered t row b) ≡ Passes
+  unfolding unknownOf
+  unknown-still [] x e = refl
+  unknown-still (r ∷ rs) x e = go (finds r x b) refl e (unknown-still rs x)
+    where
+      go : (q : Bool) → finds r x b ≡ q → Fails 10 (r .column) when not q ⊳ unknownOf rs x b ≡ Passes → (unknownOf rs x b ≡ Passes → unknownOf rs x (entered t row b) ≡ Passes)
+          → unknownOf (r ∷ rs) x (entered t row b) ≡ Passes
+      go true q f ih = rw (knows-still (r .to) (named (r .to) (r .column) x) q) (ih f)
+      go false q f ih = let z : _≡_ {A = ℕ} 0 1 = cc in let y : ⊥ = omega arith in absurd y
+
+  good-still : (u : Table) (xs : List Row) → EachGood u b xs → EachGood u (entered t row b) xs
+  unfolding EachGood
+  good-still u [] h = tt
+  good-still u (x ∷ xs) h =
+      let g : Good u b x = h .0 in
+      (record { shape = g .shape; inside = g .inside; timed = g .timed; known = unknown-still (references u) x (g .known) }, good-still u xs (h .1))
+
+  standing-entered : Standing b → Taken t b row → Standing (entered t row b)
+  standing-entered s k =
+      every-table (λ u ys. Held u (entered t row b) ys) b t (inserted (keyWidth t) row (rows t b))
+      (rw rows-with at (held-entered t b row k (s t)))
+      (λ u. record { rising = s u .rising; good = good-still u (rows u b) (s u .good); size = s u .size })
+
+pub lawful-entered : (t : Table) (h : Header) (l : Bytes) (b : Book) → lawfulBook b ≡ true → judged t h l b ≡ Passes → lawfulBook (entered t (rowRead t h l) b) ≡ true
+lawful-entered t h l b e p =
+    standing-lawful (entered t (rowRead t h l) b)
+    (standing-entered t (rowRead t h l) b (lawful-standing b e) (judged-taken t b h l p))
+
+-- a line, a byte, a part --------------------------------------------------------------------------------------------------------
+
+course-more : (t : Table) (n m : ℕ) (c : Course) → n ≤ m → lawfulCourse t n c ≡ true → lawfulCourse t m c ≡ true
+course-more t n m (stopped p) l e = refl
+course-more t n m (going b i head rest) l e =
+    let k : Kept t n b i head rest = kept t n b i head rest e in
+    is-lawful t m b i head rest (record { book = k .book; some = k .some; few = omega arith; top = k .top; short = k .short })
+
+line-lawful : (t : Table) (n : ℕ) (b : Book) (i : ℕ) (head rest line : Bytes) → length line ≤ length rest → Kept t n b i head rest → lawfulCourse t (suc n) (lineHeard t line b i head) ≡ true
+unfolding lineHeard
+line-lawful t n b i head rest line l k = go (eqb i 1) refl
+  where
+    no-header : (j : ℕ) → 1 ≤ j → (m : Bytes) → eqb (lineAfter j m) 1 ≡ false
+    no-header j h m = ne-eqb (lineAfter j m) 1 (λ q. omega (arith, line-after j m))
+
+    head-kept : headerCheck t line ≡ Passes → lawfulHead t (lineAfter 1 line) line ≡ true
+    head-kept e = rw (no-header 1 (omega arith) line, e)
+
+    top : (v : Check) → headerCheck t line ≡ v → lawfulCourse t (suc n) (onward (inHeader (number t) v) (going b (lineAfter 1 line) line [])) ≡ true
+    top Passes e = is-lawful t (suc n) b (lineAfter 1 line) line [] (record { book = k .book; some = omega (arith, line-after 1 line); few = omega (arith, line-before 1 line, k .some, k .few); top = head-kept e; short = omega arith })
+    top (Fails m c) e = refl
+
+    same-head : eqb i 1 ≡ false → lawfulHead t (lineAfter i line) head ≡ true
+    same-head e =
+        let h : lawfulHead t i head ≡ true = k .top in
+        rw (no-header i (k .some) line) (rw e at h)
+
+    row : eqb i 1 ≡ false → (v : Check) → judged t (headerIn t head) line b ≡ v
+        → lawfulCourse t (suc n) (onward (placed (number t) i v) (going (entered t (rowRead t (headerIn t head) line) b) (lineAfter i line) head [])) ≡ true
+    row q Passes e =
+        is-lawful t (suc n) (entered t (rowRead t (headerIn t head) line) b) (lineAfter i line) head []
+        (record { book = lawful-entered t (headerIn t head) line b (k .book) e; some = omega (arith, line-after i line); few = omega (arith, line-before i line, k .few); top = same-head q; short = omega arith })
+    row q (Fails m c) e = refl
+
+    go : (q : Bool) → eqb i 1 ≡ q → lawfulCourse t (suc n) (if q then headHeard t line b else rowHeard t line b i head) ≡ true
+    go true e = top (headerCheck t line) refl
+    go false e = row e (judged t (headerIn t head) line b) refl
+
+byte-lawful : (t : Table) (n x : ℕ) (c : Course) → lawfulCourse t n c ≡ true → lawfulCourse t (suc n) (byteHeard t x c) ≡ true
+unfolding byteHeard
+byte-lawful t n x (stopped p) e = refl
+byte-lawful t n x (going b i head rest) e = go (endsLine rest x) (ltb (length rest) keptLine) refl (kept t n b i head rest e)
+  where
+    go : (q u : Bool) → ltb (length rest) keptLine ≡ u → Kept t n b i head rest →
+        lawfulCourse t (suc n) (if q then lineHeard t (ended rest) b i head else if u then going b i head (rest ++ (x ∷ [])) else lineHeard t (rest ++ (x ∷ [])) b i head) ≡ true
+    go true u f k = line-lawful t n b i head rest (ended rest) (ended-short rest) k
+    go false true f k =
+        is-lawful t (suc n) b i head (rest ++ (x ∷ []))
+        (record { book = k .book; some = k .some; few = rw length-append (omega (arith, k .few)); top = k .top; short = rw length-append (omega (arith, ltb-true (length rest) keptLine f)) })
+    go false false f k =
+        let long : mostLine < length (rest ++ (x ∷ [])) = rw length-append (omega (arith, ltb-false (length rest) keptLine f)) in
+        ap (lawfulCourse t (suc n)) (long-stops t (rest ++ (x ∷ [])) b i head long .is)
+
+byte-keeps : (x : ℕ) (k : Radio) → lawfulRadio k ≡ true → lawfulRadio (byteTaken x k) ≡ true
+byte-keeps x (awaits t r) e = e
+byte-keeps x (hears t a n c) e = of-heard t a (counted (suc n)) (if ltb n a then byteHeard t x c else c) (go (ltb n a) refl (heard-of t a n c e))
+  where
+    go : (q : Bool) → ltb n a ≡ q → Heard t a n c → Heard t a (counted (suc n)) (if q then byteHeard t x c else c)
+    go true f h =
+        record {
+          announced = h .announced;
+          come = counts (suc n) .most;
+          course = rw (counted-next n (omega (arith, ltb-true n a f))) (byte-lawful t n x c (h .course));
+        }
+    go false f h = record { announced = h .announced; come = counts (suc n) .most; course = course-more t n (counted (suc n)) c (counted-grows n (h .come)) (h .course) }
+byte-keeps x (over r) e = e
+
+part-keeps : (s : Bytes) (k : Radio) → lawfulRadio k ≡ true → lawfulRadio (partTaken s k) ≡ true
+unfolding partTaken
+part-keeps [] k e = e
+part-keeps (x ∷ s) k e = part-keeps s (byteTaken x k) (byte-keeps x k e)
+
+-- a table closed -----------------------------------------------------------------------------------------------------------------
+
+course-result : (t : Table) (n : ℕ) (c : Course) → lawfulCourse t n c ≡ true → lawfulResult (cameTo c) ≡ true
+course-result t n (stopped p) e = refl
+course-result t n (going b i head rest) e = kept t n b i head rest e .book
+
+lawful-unless : (v : Verdict) (r : Result) → lawfulResult r ≡ true → lawfulResult (unless v r) ≡ true
+lawful-unless Accepted r e = e
+lawful-unless (Refused p) r e = refl
+
+finished-lawful : (t : Table) (n : ℕ) (c : Course) → lawfulCourse t n c ≡ true → lawfulResult (finished t c) ≡ true
+unfolding finished
+finished-lawful t n (stopped p) e = refl
+finished-lawful t n (going b i head rest) e = go (not (eqb i 1) && none rest) (kept t n b i head rest e)
+  where
+    go : (q : Bool) → Kept t n b i head rest → lawfulResult (if q then leaves b else cameTo (lineHeard t rest b i head)) ≡ true
+    go true k = k .book
+    go false k = course-result t (suc n) (lineHeard t rest b i head) (line-lawful t n b i head rest rest (omega arith) k)
+
+closing-lawful : (t : Table) (a n : ℕ) (c : Course) → lawfulCourse t n c ≡ true → lawfulResult (closing t a n c) ≡ true
+unfolding closing
+closing-lawful t a n c e = go (faultBefore t c)
+  where
+    go : (q : Bool) → lawfulResult (if q then cameTo c else unless (inText (number t) (lengthCheck a n)) (finished t c)) ≡ true
+    go true = course-result t n c e
+    go false = lawful-unless (inText (number t) (lengthCheck a n)) (finished t c) (finished-lawful t n c e)
+
+next-lawful : (t : Table) (r : Result) → lawfulResult r ≡ true → lawfulRadio (next t r) ≡ true
+unfolding lawfulRadio
+next-lawful VehicleType r e = e
+next-lawful Depot r e = e
+next-lawful Stop r e = e
+next-lawful StopPoint r e = e
+next-lawful Block r e = e
+
+begun-lawful : (t : Table) (r : Result) → lawfulResult r ≡ true → lawfulCourse t 0 (begun r) ≡ true
+begun-lawful t (refused p) e = refl
+begun-lawful t (leaves b) e = rw e
+
+pub radio-kept : RadioKept
+unfolding lawfulRadio
+radio-kept (announce a) (awaits t r) e = of-heard t (counted a) 0 (begun r) (record { announced = counts a .most; come = omega arith; course = begun-lawful t r e })
+radio-kept (announce a) (hears t m n c) e = e
+radio-kept (announce a) (over r) e = e
+radio-kept (part s) k e = part-keeps s k e
+radio-kept close (awaits t r) e = e
+radio-kept close (hears t a n c) e = next-lawful t (closing t a n c) (closing-lawful t a n c (heard-of t a n c e .course))
+radio-kept close (over r) e = e
+
+pub standing-of : (k : Radio) → lawfulRadio k ≡ true → lawfulResult (standing k) ≡ true
+unfolding lawfulRadio
+standing-of (awaits t r) e = e
+standing-of (hears t a n c) e = course-result t n c (heard-of t a n c e .course)
+standing-of (over r) e = e
+
+pub closes-lawful : ClosesLawful
+closes-lawful c k b e f =
+    let l : lawfulResult (leaves b) ≡ true = subst (λ (r : Result). lawfulResult r ≡ true) f (standing-of (after c k) (radio-kept c k e)) in
+    laid-keeps b (lawful-standing b l)

@@ -1,0 +1,7 @@
+pub mod Parting
+pub mod Hearing
+pub mod Counting
+pub mod Stretching
+pub mod Lawful
+pub mod Laying
+pub mod Whole

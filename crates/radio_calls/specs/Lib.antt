@@ -1,0 +1,5 @@
+-- The calls of a delivery by radio, to be read in this order.
+pub mod Calls
+pub mod Numbers
+pub mod Closing
+pub mod Hearing

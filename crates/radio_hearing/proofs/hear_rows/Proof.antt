@@ -1,0 +1,65 @@
+-- `radio_hearing::hear_rows` meets its contract: the rows are taken under the header that is kept. Assumes nothing.
+use mathlib.Core.Path.{ap, _∙_}
+use native.Mathlib.Omega.{arith}
+use Rattle.header.specs.Header.{headerCheck}
+use Rattle.radio_hearing.proofs.Bytes.{from-begin}
+use Rattle.radio_hearing.proofs.Lines.{head-guides, head-places, body-came, none-came}
+use borrow.Author.Needs.{needs}
+use Rattle.radio_hearing.proofs.hear_rows.Statement.{statement}
+use Rattle.radio_hearing.proofs.hear_rows.Tie as tie
+
+returns : tie.Need-returns
+returns c =
+    let st = c .before .before .before in
+    none-came (st .args .t) (st .args .from) (st .args .book .now) (st .args .lines .now) (st .pre .0) (st .args .body .now) (c .if1 .taken) (st .pre .3)
+
+column-rules-requires : tie.Need-column-rules-requires
+column-rules-requires c κs = search needs
+
+sub-read-header : tie.Need-sub-read-header
+sub-read-header c = search needs
+
+part-read-header-start : tie.Need-part-read-header-start
+part-read-header-start c = search needs
+
+part-read-header-end : tie.Need-part-read-header-end
+part-read-header-end c = search needs
+
+read-header-requires : tie.Need-read-header-requires
+read-header-requires c κs = search needs
+
+take-rows-requires : tie.Need-take-rows-requires
+take-rows-requires c κs =
+    let st = c .before .before .before .before .before .before .before .before .before .before .before in
+    let hold = st .pre .0 in
+    let read = c .before .before .before .before .read-header in
+    let passes = ap (headerCheck (st .args .t)) (from-begin (st .args .lines .now) (st .args .from .head)) ∙ hold .headed (λ e. omega (arith, st .pre .1)) in
+    (head-guides (st .args .t) _ (read .result) (read .ensures) passes (c .before .before .before .before .before .before .before .column-rules .result) (c .before .before .before .before .before .before .before .column-rules .ensures), hold .sound, hold .named, st .pre .2)
+
+same-length : tie.Need-same-length
+same-length c = search needs
+
+returns-2 : tie.Need-returns-2
+returns-2 c =
+    let st = c .before .before .before .before .before .before .before .before .before .before .before .before .before in
+    let hold = st .pre .0 in
+    let read = c .before .before .before .before .before .before .read-header in
+    let taken = c .before .take-rows in
+    let same = from-begin (st .args .lines .now) (st .args .from .head) in
+    let passes = ap (headerCheck (st .args .t)) same ∙ hold .headed (λ e. omega (arith, st .pre .1)) in
+    body-came (st .args .t) (st .args .from) (st .args .book .now) _ (st .args .lines .now) hold (taken .result .verdict) (taken .ensures .sound) (taken .ensures .named) (st .args .body .now) _ same (st .pre .1) (st .pre .3) (st .pre .4) (taken .result .line) (taken .ensures .next)
+    (taken .ensures .taken _ (head-places (st .args .t) _ (read .result) (read .ensures) passes))
+
+pub hear-rows-spec : {M : Type 1} → statement M
+hear-rows-spec =
+    tie.close
+    (tie.spec
+    returns
+    column-rules-requires
+    sub-read-header
+    part-read-header-start
+    part-read-header-end
+    read-header-requires
+    take-rows-requires
+    same-length
+    returns-2)

@@ -1,0 +1,2 @@
+-- What the code keeps of a table while its parts come.
+pub mod Hearing

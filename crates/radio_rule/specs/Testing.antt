@@ -1,0 +1,86 @@
+-- The rule of what is kept between parts, as tests on the numbers, the lines and the book.
+-- Inner: no promise and no contract of a public function speaks of it.
+use mathlib.Core.List.{List}
+use mathlib.Core.Bool.{Bool, true, _&&_}
+use Prim.Native.Nat.{ℕ, suc, _+_, _-_}
+use lib.Dec.{ltb, leb, eqb}
+use lib.ListN.{length, getD, take, drop, replicate}
+use Rattle.words.specs.Words.{Bytes, Row, if_then_else_, same}
+use Rattle.refusals.specs.Verdicts.{passes}
+use Rattle.rows.specs.Room.{sameRows}
+use Rattle.book.specs.Book.{empty}
+use Rattle.book.specs.Room.{laid}
+use Rattle.keeping.specs.Keeping.{keepsRule}
+use Rattle.header.specs.Header.{headerCheck}
+use Rattle.radio.specs.Room.{tableAt}
+
+-- from place a to before place e
+abbrev pub stretch : ℕ → ℕ → List ℕ → List ℕ
+stretch a e xs = take (e - a) (drop a xs)
+
+unfoldable pub zeros : List ℕ → Bool
+zeros xs = same xs (replicate (length xs) 0)
+
+-- the numbers by their places ---------------------------------------------------------------------------------------------------
+
+abbrev pub turn : List ℕ → ℕ
+turn ns = getD ns 0 0
+
+abbrev pub announced : List ℕ → ℕ
+announced ns = getD ns 1 0
+
+abbrev pub come : List ℕ → ℕ
+come ns = getD ns 2 0
+
+abbrev pub line : List ℕ → ℕ
+line ns = getD ns 3 0
+
+abbrev pub headLength : List ℕ → ℕ
+headLength ns = getD ns 4 0
+
+abbrev pub restLength : List ℕ → ℕ
+restLength ns = getD ns 5 0
+
+abbrev pub fault : List ℕ → ℕ
+fault ns = getD ns 6 0
+
+-- the numbers -------------------------------------------------------------------------------------------------------------------
+
+-- 1 and a fault, or zeros
+abbrev pub faultKeeps : List ℕ → Bool
+faultKeeps ns = if eqb (fault ns) 0 then zeros (stretch 7 11 ns) else eqb (fault ns) 1
+
+-- of a table that is heard, without a fault
+abbrev pub courseKeeps : List ℕ → Bool
+courseKeeps ns =
+    leb 1 (line ns)
+    && leb (restLength ns) 2049
+    && leb (line ns + restLength ns) (suc (come ns))
+    && leb (headLength ns) 2048
+    && (if eqb (line ns) 1 then eqb (headLength ns) 0 else true)
+
+-- of a table that is heard
+abbrev pub heardKeeps : List ℕ → Bool
+heardKeeps ns =
+    leb (announced ns) 65537
+    && leb (come ns) 65537
+    && (if eqb (fault ns) 0 then courseKeeps ns else zeros (stretch 3 6 ns))
+
+-- a turn that there is, the fault, and what is kept of a table that is heard
+unfoldable pub numbersKeep : List ℕ → Bool
+numbersKeep ns = leb (turn ns) 10 && faultKeeps ns && (if ltb (turn ns) 6 then zeros (stretch 1 6 ns) else heardKeeps ns)
+
+-- the lines ---------------------------------------------------------------------------------------------------------------------
+
+-- there is a header line where the unfinished line is not the first
+abbrev pub headerKeeps : List ℕ → Bytes → Bool
+headerKeeps ns l = if ltb 1 (line ns) then passes (headerCheck (tableAt (turn ns - 6)) (take (headLength ns) l)) else true
+
+-- zeros behind each line, and the header line
+unfoldable pub linesKeep : List ℕ → Bytes → Bool
+linesKeep ns l = zeros (stretch (headLength ns) 2048 l) && zeros (stretch (2048 + restLength ns) 4097 l) && headerKeeps ns l
+
+-- the book ----------------------------------------------------------------------------------------------------------------------
+
+unfoldable pub bookKeeps : List ℕ → List Row → Bool
+bookKeeps ns book = if eqb (fault ns) 0 then keepsRule book else sameRows book (laid empty)
