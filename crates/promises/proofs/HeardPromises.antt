@@ -2,15 +2,15 @@
 use mathlib.Core.Path.{_≡_, refl, ap, sym, _∙_, subst}
 use mathlib.Core.List.{List, [], _∷_, _++_}
 use mathlib.Core.Bool.{not, Bool, true, false}
-use mathlib.Core.Logic.{_⊎_, inl, inr}
-use Prim.Native.Nat.{ℕ, _-_, _≤_, suc}
+use mathlib.Core.Logic.{inl, inr}
+use Prim.Native.Nat.{ℕ, _≤_, suc}
 use native.Mathlib.Omega.{arith}
 use lib.Dec.{eqb, ltb}
 use lib.ListN.{length, take}
 use lib.Seq.{take-all}
 use borrow.Author.Tests.{ltb-false, eqb-true, not-false, eq-eqb}
 use Rattle.words.specs.Words.{Bytes, if_then_else_}
-use Rattle.refusals.specs.Verdicts.{_when_, inText, textTooLong, _⊳_, _before_, placed, place, inHeader, lengthDiffers}
+use Rattle.refusals.specs.Verdicts.{_when_, inText, textTooLong, _⊳_, _before_, placed, inHeader, lengthDiffers}
 use Rattle.refusals.specs.declared.Check.{Check}
 use Rattle.refusals.specs.declared.Check.the-variants.{Passes, Fails}
 use Rattle.refusals.specs.declared.Place.{Place}
@@ -27,10 +27,10 @@ use Rattle.row_line.specs.RowLine.{rowRead}
 use Rattle.table_lines.specs.Reading.{judged, lineAfter, rowsRead}
 use Rattle.table_reading.specs.Reading.{tableRead}
 use Rattle.delivery.specs.Delivery.{reading}
-use Rattle.radio.specs.Radio.{lengthCheck, heard, Course, stopped, going, Radio, awaits, counted, finished, next, announced, partTaken, closing, closed, hearing, hears, over as all-over, byteHeard, Call, announce, part, close, start, after, standing}
+use Rattle.radio.specs.Radio.{lengthCheck, heard, Course, stopped, going, Radio, awaits, counted, finished, next, announced, partTaken, closing, closed, hearing, hears, over as all-over, byteHeard, Call, announce, part, close, start, after, verdictOf, standing}
 use Rattle.radio.proofs.Hearing.{over, over-stopped, table-over, own-fault}
 use Rattle.radio.proofs.Counting.{counts, counted-short, part-whole, check-counted}
-use Rattle.promises.specs.Radio.{run, parts, joined, PartsJoin, EmptyPart, Clear, TableHeard, sendingOf, callsFor, callsOf, DeliveryHeard, HeardAsRead, FaultStays, FaultAnswers, FaultEnds, OutOfTurn}
+use Rattle.promises.specs.Radio.{run, parts, joined, PartsJoin, EmptyPart, Clear, TableHeard, sendingOf, callsFor, callsOf, DeliveryHeard, HeardAsRead, FaultStays, MayAnswer, FaultAnswers, FaultEnds, OutOfTurn}
 use Rattle.promises.proofs.TestLaws.{both, unfailed}
 
 pub parts-join : PartsJoin
@@ -221,28 +221,21 @@ fault-answers t a n p ps =
     let k = part-stopped t a n p (joined ps) in
     let e : standing (run (parts ps) (hears t a n (stopped p))) ≡ closing t a (k .0) (stopped p) =
     ap standing (run-parts ps (hears t a n (stopped p)) ∙ ap closed (k .1)) ∙ standing-next t (closing t a (k .0) (stopped p)) in
-    subst (λ (r : Result). (r ≡ refused p) ⊎ ((p .table ≡ number t) × ((r ≡ refused (place 18 (number t) 0 0)) ⊎ (r ≡ refused (place 1 (number t) 0 0))))) (sym e)
-    (judge (k .0))
+    subst (λ (r : Result). MayAnswer t p (verdictOf r)) (sym e) (go (eqb (p .table) (number t)) refl (ltb mostBytes a) (not (eqb a (k .0))))
   where
-    Answers : Result → Type 0
-    Answers r = (r ≡ refused p) ⊎ ((p .table ≡ number t) × ((r ≡ refused (place 18 (number t) 0 0)) ⊎ (r ≡ refused (place 1 (number t) 0 0))))
-
-    go : (q : Bool) → eqb (p .table) (number t) ≡ q → (u v : Bool) → (m : ℕ) →
-        Answers (if not q then refused p else unless (inText (number t) (Fails 1 0 when u ⊳ Fails 18 0 when v)) (refused p))
-    go true e true v m = inr (eqb-true (p .table) (number t) e, inr refl)
-    go true e false true m = inr (eqb-true (p .table) (number t) e, inl refl)
-    go true e false false m = inl refl
-    go false e u v m = inl refl
-
-    judge : (m : ℕ) → Answers (closing t a m (stopped p))
-    judge m = go (eqb (p .table) (number t)) refl (ltb mostBytes a) (not (eqb a m)) m
+    go : (q : Bool) → eqb (p .table) (number t) ≡ q → (u v : Bool) →
+        MayAnswer t p (verdictOf (if not q then refused p else unless (inText (number t) (textTooLong when u ⊳ lengthDiffers when v)) (refused p)))
+    go true e true v = inr (eqb-true (p .table) (number t) e, inr refl)
+    go true e false true = inr (eqb-true (p .table) (number t) e, inl refl)
+    go true e false false = inl refl
+    go false e u v = inl refl
 
 pub fault-ends : FaultEnds
 fault-ends t a ps p e = table-heard t a ps (refused p) e
 
 -- out of turn --------------------------------------------------------------------------------------------------------------
 
-never : {A : Type 0} → _≡_ {A = Bool} true false → A
+pub never : {A : Type 0} → _≡_ {A = Bool} true false → A
 never e = let z : _≡_ {A = ℕ} 0 1 = cc in let y : ⊥ = omega arith in absurd y
 
 pub out-of-turn : OutOfTurn

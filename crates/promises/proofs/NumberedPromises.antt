@@ -72,7 +72,7 @@ missing-required k (x ∷ cols) h m = go (x .rules .required) refl (member (suc 
     go false e p ih m = on (ih m)
 
 -- if the check fails, its number is one of these, with a column that it can name
-unfoldable given : List Numbered → Check → Bool
+unfoldable pub given : List Numbered → Check → Bool
 given xs Passes = true
 given xs (Fails n k) = among xs n k
 
@@ -142,7 +142,7 @@ module _ (t : Table) where
       let k : ℕ = faultyCell (cut l) in
       given-when xs 6 k (ltb 0 k) (λ e. h k (and-both (ltb 0 k) (leb k (suc mostBytes)) e (le-leb k (suc mostBytes) (omega (arith, cut-few Fresh l)))))
 
-  given-row : (h : Header) (l : Bytes) (b : Book) → length l ≤ mostBytes → given (rowNumbers t) (judged t h l b) ≡ true
+  pub given-row : (h : Header) (l : Bytes) (b : Book) → length l ≤ mostBytes → given (rowNumbers t) (judged t h l b) ≡ true
   unfolding judged among
   given-row h l b n =
       let xs = rowNumbers t in
@@ -170,7 +170,7 @@ module _ (t : Table) where
       go true ih = column-number-most t (content c)
       go false ih = ih
 
-  given-header : (l : Bytes) → length l ≤ mostBytes → given (headerNumbers t) (headerCheck t l) ≡ true
+  pub given-header : (l : Bytes) → length l ≤ mostBytes → given (headerNumbers t) (headerCheck t l) ≡ true
   unfolding headerCheck among
   given-header l n =
       let xs = headerNumbers t in

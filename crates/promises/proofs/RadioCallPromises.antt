@@ -1,13 +1,20 @@
 -- The calls by radio on the lent slices. Assumes nothing.
 use mathlib.Core.Path.{_≡_, refl, ap, sym, subst, _∙_}
-use mathlib.Core.List.{List, [], _∷_, _++_}
-use mathlib.Core.Bool.{true}
-use Prim.Native.Nat.{ℕ, _+_, _-_}
+use mathlib.Core.List.{List, [], _∷_, _++_, map}
+use mathlib.Core.Bool.{Bool, true, false}
+use mathlib.Core.Logic.{⊎-elim}
+use Prim.Native.Nat.{ℕ}
+use native.Mathlib.Omega.{arith}
 use lib.ListN.{length}
-use Rattle.words.specs.Words.{Bytes, same, all}
+use Rattle.words.specs.Words.{Bytes, if_then_else_, same, all}
+use Rattle.words.proofs.Lists.{and-left}
+use Rattle.refusals.specs.Verdicts.{nowhere, notThere, badLoan}
+use Rattle.refusals.specs.declared.Place.{Place}
 use Rattle.refusals.specs.declared.Verdict.{Verdict}
-use Rattle.refusals.specs.declared.Verdict.the-variants.{Accepted}
+use Rattle.refusals.specs.declared.Verdict.the-variants.{Accepted, Refused}
 use Rattle.rows.specs.Rows.{rising}
+use Rattle.tables.specs.Columns.{number}
+use Rattle.tables.specs.Parts.{tables}
 use Rattle.tables.specs.declared.Table.{Table}
 use Rattle.tables.specs.declared.Table.the-variants.{VehicleType, Depot, Stop, StopPoint, Block}
 use Rattle.book.specs.Book.{empty}
@@ -15,13 +22,14 @@ use Rattle.book.specs.Result.{Result, refused, leaves}
 use Rattle.keeping.specs.Keeping.{lawfulBook, keepsRule}
 use Rattle.delivery.specs.Calls.{readOutcome}
 use Rattle.delivery.specs.Delivery.{reading}
-use Rattle.radio.specs.Radio.{Sending, hearing, Course, Radio, awaits, hears, Call, announce, start, counted, begun, partTaken, after, answer, verdictOf, standing}
-use Rattle.radio.specs.Rule.{lawfulResult, lawfulRadio}
+use Rattle.header.specs.Header.{member}
+use Rattle.radio.specs.Radio.{Sending, hearing, Course, Radio, awaits, hears, Call, announce, part, close, start, counted, begun, partTaken, after, inTurn, said, answer, verdictOf, standing}
+use Rattle.radio.specs.Rule.{readingNumbers, lawfulFault, lawfulResult, lawfulRadio}
 use Rattle.radio.specs.Room.{Slices, Outcome, outcome, laidBook, laidOut, radioIn, keepsRadio, radioCall, openCall}
 use Rattle.radio.proofs.Laying.{OrderlyIn, handed}
-use Rattle.promises.specs.Radio.{run, parts, joined, sendingOf, deliveryOf, callsFor, callsOf, lastAnswer, called, SlicesTested, FoundAgain, CallsKeep, CallsLawful, CallsRun, RadioReads}
+use Rattle.promises.specs.Radio.{run, parts, joined, sendingOf, deliveryOf, callsFor, callsOf, lastAnswer, called, SlicesTested, FoundAgain, CallsKeep, RefusalStays, CallsLawful, CallsRun, RadioReads}
 use Rattle.promises.proofs.RuleLaws.{lawful-standing, laid-keeps, standing-orderly}
-use Rattle.promises.proofs.HeardPromises.{table-heard, Four, four-heard, delivery-heard, heard-as-read}
+use Rattle.promises.proofs.HeardPromises.{table-heard, Four, four-heard, delivery-heard, heard-as-read, never, out-of-turn}
 use Rattle.promises.proofs.RadioRulePromises.{standing-of, radio-kept}
 use Rattle.radio.proofs.Laying as laying
 
@@ -58,6 +66,35 @@ call-lays c s e = rw e
 
 pub calls-keep : CallsKeep
 calls-keep c s e = ap keepsRadio (call-lays c s e) ∙ laid-out-keeps (after c (radioIn s)) (radio-kept c (radioIn s) (handed s e .lawful))
+
+-- no table that is read gives another number
+unlisted : (p : Place) → lawfulFault p ≡ true → {n : ℕ} → p .number ≡ n → member n readingNumbers ≡ false → ⊥
+unlisted p e f h = never (sym (and-left (member (p .number) readingNumbers) (member (p .table) (map number tables)) e) ∙ ap (λ (m : ℕ). member m readingNumbers) f ∙ h)
+
+said-lawful : (c : Call) (k : Radio) (p : Place) → lawfulRadio (after c k) ≡ true → said c (after c k) ≡ Refused p → lawfulFault p ≡ true
+said-lawful (announce a) k p e f = let z : _≡_ {A = ℕ} 0 1 = cc in let y : ⊥ = omega arith in absurd y
+said-lawful (part s) k p e f = let z : _≡_ {A = ℕ} 0 1 = cc in let y : ⊥ = omega arith in absurd y
+said-lawful close k p e f = go (standing (after close k)) (standing-of (after close k) e) f
+  where
+    go : (r : Result) → lawfulResult r ≡ true → verdictOf r ≡ Refused p → lawfulFault p ≡ true
+    go (refused q) l g = let s : q ≡ p = cc in subst (λ (z : Place). lawfulFault z ≡ true) s l
+    go (leaves b) l g = let z : _≡_ {A = ℕ} 0 1 = cc in let y : ⊥ = omega arith in absurd y
+
+pub refusal-stays : RefusalStays
+unfolding radioCall member
+refusal-stays c s p v n = go (keepsRadio s) refl v
+  where
+    k : Radio
+    k = radioIn s
+
+    turn : (q : Bool) → inTurn c k ≡ q → keepsRadio s ≡ true → (if q then said c (after c k) else nowhere notThere) ≡ Refused p → laidOut (after c k) ≡ s
+    turn true f e w = let l = said-lawful c k p (radio-kept c k (handed s e .lawful)) w in absurd (⊎-elim (λ m. unlisted p l m refl) (λ m. unlisted p l m refl) n)
+    turn false f e w = ap laidOut (out-of-turn c k f .0) ∙ sym (handed s e .is)
+
+    go : (q : Bool) → keepsRadio s ≡ q → (if q then outcome (answer c k) (laidOut (after c k)) else outcome (nowhere badLoan) s) .verdict ≡ Refused p
+        → (if q then outcome (answer c k) (laidOut (after c k)) else outcome (nowhere badLoan) s) .slices ≡ s
+    go true e w = turn (inTurn c k) refl e w
+    go false e w = refl
 
 book-keeps : (r : Result) → lawfulResult r ≡ true → keepsRule (laidBook r) ≡ true
 book-keeps (refused p) e = laid-keeps empty (lawful-standing empty empty-lawful)

@@ -1,42 +1,45 @@
 -- The rule of what is kept between parts is kept by every call, and the book that closes keeps the book rule. Assumes nothing.
-use mathlib.Core.Path.{_≡_, refl, ap, subst, _∙_}
-use mathlib.Core.List.{List, [], _∷_, _++_}
+use mathlib.Core.Path.{_≡_, refl, sym, ap, subst, _∙_}
+use mathlib.Core.List.{List, [], _∷_, _++_, map}
 use mathlib.Core.Bool.{Bool, true, false, _&&_, not}
 use Prim.Native.Nat.{ℕ, suc, _+_, _≤_, _<_}
 use native.Mathlib.Omega.{arith}
 use lib.Dec.{eqb, ltb}
 use lib.ListN.{length, length-append}
-use borrow.Author.Tests.{ltb-true, ltb-false, ne-eqb}
+use borrow.Author.Tests.{ltb-true, ltb-false, ne-eqb, eqb-true}
 use Rattle.words.specs.Words.{Bytes, Row, if_then_else_}
-use Rattle.refusals.specs.Verdicts.{_⊳_, _when_, placed, inText, inHeader}
+use Rattle.words.proofs.Lists.{and-left, and-right, every}
+use Rattle.refusals.specs.Verdicts.{_⊳_, _when_, placed, inText, textTooLong, tooManyRows, lineTooLong, lengthDiffers}
 use Rattle.refusals.specs.declared.Check.{Check}
 use Rattle.refusals.specs.declared.Check.the-variants.{Passes, Fails}
-use Rattle.refusals.specs.declared.Verdict.{Verdict}
-use Rattle.refusals.specs.declared.Verdict.the-variants.{Accepted, Refused}
-use Rattle.lines.specs.Lines.{mostLine}
+use Rattle.lines.specs.Lines.{mostBytes, mostLine}
 use Rattle.rows.specs.Rows.{stands, inserted, sameKey}
 use Rattle.rows.proofs.Changes.{stands-key, stands-inserted, other-stands-inserted}
 use Rattle.tables.specs.Columns.{number, keyWidth, references}
+use Rattle.tables.specs.Parts.{tables}
 use Rattle.tables.specs.declared.Table.{Table}
 use Rattle.tables.specs.declared.Table.the-variants.{VehicleType, Depot, Stop, StopPoint, Block}
 use Rattle.tables.specs.declared.Reference.{Reference}
-use Rattle.book.specs.Book.{Book, rows, entered, knows}
+use Rattle.book.specs.Book.{Book, rows, entered, knows, full}
 use Rattle.book.specs.Result.{Result, refused, leaves, unless}
 use Rattle.book.proofs.Laying.{every-table, rows-with}
 use Rattle.rules.specs.Rules.{named, finds, unknownOf}
 use Rattle.keeping.specs.Keeping.{lawfulBook}
-use Rattle.header.specs.Header.{Header, headerCheck}
+use Rattle.header.specs.Header.{Header, member, headerCheck}
 use Rattle.row_line.specs.RowLine.{rowRead}
 use Rattle.table_lines.specs.Reading.{judged, lineAfter}
 use Rattle.radio.specs.Radio.{lengthCheck, Course, stopped, going, onward, headerIn, headHeard, rowHeard, lineHeard, endsLine, ended, byteHeard, none, cameTo, finished, faultBefore, Radio, awaits, hears, over, counted, announce, part, close, next, begun, byteTaken, partTaken, closing, after, standing, keptLine}
-use Rattle.radio.specs.Rule.{lawfulResult, lawfulHead, lawfulCourse, lawfulRadio}
+use Rattle.radio.specs.Rule.{readingNumbers, lawfulResult, lawfulHead, lawfulCourse, lawfulRadio}
 use Rattle.radio.proofs.Parting.{ended-short}
-use Rattle.radio.proofs.Hearing.{line-after, line-before, long-stops}
+use Rattle.radio.proofs.Hearing.{line-after, line-before, long-judged, long-headed}
 use Rattle.radio.proofs.Counting.{counts, counted-next, counted-grows}
 use Rattle.radio.proofs.Lawful.{Kept, kept, is-lawful, Heard, heard-of, of-heard}
+use Rattle.promises.specs.Promises.{Numbered, among, headerNumbers, rowNumbers}
 use Rattle.promises.specs.Radio.{RadioKept, ClosesLawful}
 use Rattle.promises.proofs.HeldLaws.{Good, EachGood, Held, Taken, judged-taken, held-entered}
 use Rattle.promises.proofs.DeliveryLaws.{Standing}
+use Rattle.promises.proofs.NumberedPromises.{given, given-header, given-row}
+use Rattle.promises.proofs.HeardPromises.{never}
 use Rattle.promises.proofs.RuleLaws.{lawful-standing, standing-lawful, laid-keeps}
 
 -- a row more breaks no other table's references -------------------------------------------------------------------------------
@@ -82,10 +85,55 @@ lawful-entered t h l b e p =
     standing-lawful (entered t (rowRead t h l) b)
     (standing-entered t (rowRead t h l) b (lawful-standing b e) (judged-taken t b h l p))
 
+-- a fault of a table that is read ------------------------------------------------------------------------------------------------
+
+-- what is numbered by these is numbered by those
+among-listed : (xs : List Numbered) (ys : List ℕ) (n k : ℕ) → every (λ x. member (x .number) ys) xs ≡ true → among xs n k ≡ true → member n ys ≡ true
+unfolding among
+among-listed [] ys n k h e = never (sym e)
+among-listed (x ∷ xs) ys n k h e = go (eqb n (x .number)) refl (among-listed xs ys n k (and-right (member (x .number) ys) (every (λ x. member (x .number) ys) xs) h)) e
+  where
+    go : (q : Bool) → eqb n (x .number) ≡ q → (among xs n k ≡ true → member n ys ≡ true) → (if q then (x .column) k else among xs n k) ≡ true → member n ys ≡ true
+    go true f ih e = ap (λ (m : ℕ). member m ys) (eqb-true n (x .number) f) ∙ and-left (member (x .number) ys) (every (λ x. member (x .number) ys) xs) h
+    go false f ih e = ih e
+
+table-listed : (t : Table) → member (number t) (map number tables) ≡ true
+unfolding member
+table-listed VehicleType = refl
+table-listed Depot = refl
+table-listed Stop = refl
+table-listed StopPoint = refl
+table-listed Block = refl
+
+abbrev Listed : List Numbered → Type 0
+Listed xs = every (λ x. member (x .number) readingNumbers) xs ≡ true
+
+header-listed : (t : Table) → Listed (headerNumbers t)
+unfolding member
+header-listed t = refl
+
+row-listed : (t : Table) → Listed (rowNumbers t)
+unfolding member
+row-listed t = refl
+
+-- a check of a line: on, unless it stops the table
+onward-lawful : (t : Table) (n i : ℕ) (xs : List Numbered) → Listed xs → (v : Check) → given xs v ≡ true → (c : Course) → (v ≡ Passes → lawfulCourse t n c ≡ true)
+    → lawfulCourse t n (onward (placed (number t) i v) c) ≡ true
+unfolding given
+onward-lawful t n i xs l Passes g c h = h refl
+onward-lawful t n i xs l (Fails m k) g c h = rw (among-listed xs readingNumbers m k l g, table-listed t)
+
+-- 1 and 18
+text-lawful : (t : Table) (p q : Bool) (r : Result) → lawfulResult r ≡ true → lawfulResult (unless (inText (number t) (textTooLong when p ⊳ lengthDiffers when q)) r) ≡ true
+unfolding member
+text-lawful t true q r e = table-listed t
+text-lawful t false true r e = table-listed t
+text-lawful t false false r e = e
+
 -- a line, a byte, a part --------------------------------------------------------------------------------------------------------
 
 course-more : (t : Table) (n m : ℕ) (c : Course) → n ≤ m → lawfulCourse t n c ≡ true → lawfulCourse t m c ≡ true
-course-more t n m (stopped p) l e = refl
+course-more t n m (stopped p) l e = e
 course-more t n m (going b i head rest) l e =
     let k : Kept t n b i head rest = kept t n b i head rest e in
     is-lawful t m b i head rest (record { book = k .book; some = k .some; few = omega arith; top = k .top; short = k .short })
@@ -100,29 +148,47 @@ line-lawful t n b i head rest line l k = go (eqb i 1) refl
     head-kept : headerCheck t line ≡ Passes → lawfulHead t (lineAfter 1 line) line ≡ true
     head-kept e = rw (no-header 1 (omega arith) line, e)
 
-    top : (v : Check) → headerCheck t line ≡ v → lawfulCourse t (suc n) (onward (inHeader (number t) v) (going b (lineAfter 1 line) line [])) ≡ true
-    top Passes e = is-lawful t (suc n) b (lineAfter 1 line) line [] (record { book = k .book; some = omega (arith, line-after 1 line); few = omega (arith, line-before 1 line, k .some, k .few); top = head-kept e; short = omega arith })
-    top (Fails m c) e = refl
+    short : length line ≤ mostBytes
+    short = omega (arith, k .short)
+
+    top : lawfulCourse t (suc n) (headHeard t line b) ≡ true
+    top =
+        onward-lawful t (suc n) 1 (headerNumbers t) (header-listed t) (headerCheck t line) (given-header t line short) (going b (lineAfter 1 line) line [])
+        (λ e. is-lawful t (suc n) b (lineAfter 1 line) line [] (record { book = k .book; some = omega (arith, line-after 1 line); few = omega (arith, line-before 1 line, k .some, k .few); top = head-kept e; short = omega arith }))
 
     same-head : eqb i 1 ≡ false → lawfulHead t (lineAfter i line) head ≡ true
     same-head e =
         let h : lawfulHead t i head ≡ true = k .top in
         rw (no-header i (k .some) line) (rw e at h)
 
-    row : eqb i 1 ≡ false → (v : Check) → judged t (headerIn t head) line b ≡ v
-        → lawfulCourse t (suc n) (onward (placed (number t) i v) (going (entered t (rowRead t (headerIn t head) line) b) (lineAfter i line) head [])) ≡ true
-    row q Passes e =
+    row : eqb i 1 ≡ false → lawfulCourse t (suc n) (rowHeard t line b i head) ≡ true
+    row q =
+        onward-lawful t (suc n) i (rowNumbers t) (row-listed t) (judged t (headerIn t head) line b) (given-row t (headerIn t head) line b short)
+        (going (entered t (rowRead t (headerIn t head) line) b) (lineAfter i line) head [])
+        (λ e.
         is-lawful t (suc n) (entered t (rowRead t (headerIn t head) line) b) (lineAfter i line) head []
-        (record { book = lawful-entered t (headerIn t head) line b (k .book) e; some = omega (arith, line-after i line); few = omega (arith, line-before i line, k .few); top = same-head q; short = omega arith })
-    row q (Fails m c) e = refl
+        (record { book = lawful-entered t (headerIn t head) line b (k .book) e; some = omega (arith, line-after i line); few = omega (arith, line-before i line, k .few); top = same-head q; short = omega arith }))
 
     go : (q : Bool) → eqb i 1 ≡ q → lawfulCourse t (suc n) (if q then headHeard t line b else rowHeard t line b i head) ≡ true
-    go true e = top (headerCheck t line) refl
-    go false e = row e (judged t (headerIn t head) line b) refl
+    go true e = top
+    go false e = row e
+
+-- a line that is too long stops the table
+long-lawful : (t : Table) (n : ℕ) (b : Book) (i : ℕ) (head line : Bytes) → mostLine < length line → lawfulCourse t n (lineHeard t line b i head) ≡ true
+unfolding lineHeard member
+long-lawful t n b i head line l = go (eqb i 1)
+  where
+    row : (q : Bool) (c : Course) → lawfulCourse t n (onward (placed (number t) i (tooManyRows when q ⊳ lineTooLong)) c) ≡ true
+    row true c = table-listed t
+    row false c = table-listed t
+
+    go : (q : Bool) → lawfulCourse t n (if q then headHeard t line b else rowHeard t line b i head) ≡ true
+    go true = rw (long-headed t line l) (table-listed t)
+    go false = rw (long-judged t (headerIn t head) line b l) (row (full t b) _)
 
 byte-lawful : (t : Table) (n x : ℕ) (c : Course) → lawfulCourse t n c ≡ true → lawfulCourse t (suc n) (byteHeard t x c) ≡ true
 unfolding byteHeard
-byte-lawful t n x (stopped p) e = refl
+byte-lawful t n x (stopped p) e = e
 byte-lawful t n x (going b i head rest) e = go (endsLine rest x) (ltb (length rest) keptLine) refl (kept t n b i head rest e)
   where
     go : (q u : Bool) → ltb (length rest) keptLine ≡ u → Kept t n b i head rest →
@@ -133,7 +199,7 @@ byte-lawful t n x (going b i head rest) e = go (endsLine rest x) (ltb (length re
         (record { book = k .book; some = k .some; few = rw length-append (omega (arith, k .few)); top = k .top; short = rw length-append (omega (arith, ltb-true (length rest) keptLine f)) })
     go false false f k =
         let long : mostLine < length (rest ++ (x ∷ [])) = rw length-append (omega (arith, ltb-false (length rest) keptLine f)) in
-        ap (lawfulCourse t (suc n)) (long-stops t (rest ++ (x ∷ [])) b i head long .is)
+        long-lawful t (suc n) b i head (rest ++ (x ∷ [])) long
 
 byte-keeps : (x : ℕ) (k : Radio) → lawfulRadio k ≡ true → lawfulRadio (byteTaken x k) ≡ true
 byte-keeps x (awaits t r) e = e
@@ -157,16 +223,12 @@ part-keeps (x ∷ s) k e = part-keeps s (byteTaken x k) (byte-keeps x k e)
 -- a table closed -----------------------------------------------------------------------------------------------------------------
 
 course-result : (t : Table) (n : ℕ) (c : Course) → lawfulCourse t n c ≡ true → lawfulResult (cameTo c) ≡ true
-course-result t n (stopped p) e = refl
+course-result t n (stopped p) e = e
 course-result t n (going b i head rest) e = kept t n b i head rest e .book
-
-lawful-unless : (v : Verdict) (r : Result) → lawfulResult r ≡ true → lawfulResult (unless v r) ≡ true
-lawful-unless Accepted r e = e
-lawful-unless (Refused p) r e = refl
 
 finished-lawful : (t : Table) (n : ℕ) (c : Course) → lawfulCourse t n c ≡ true → lawfulResult (finished t c) ≡ true
 unfolding finished
-finished-lawful t n (stopped p) e = refl
+finished-lawful t n (stopped p) e = e
 finished-lawful t n (going b i head rest) e = go (not (eqb i 1) && none rest) (kept t n b i head rest e)
   where
     go : (q : Bool) → Kept t n b i head rest → lawfulResult (if q then leaves b else cameTo (lineHeard t rest b i head)) ≡ true
@@ -179,7 +241,7 @@ closing-lawful t a n c e = go (faultBefore t c)
   where
     go : (q : Bool) → lawfulResult (if q then cameTo c else unless (inText (number t) (lengthCheck a n)) (finished t c)) ≡ true
     go true = course-result t n c e
-    go false = lawful-unless (inText (number t) (lengthCheck a n)) (finished t c) (finished-lawful t n c e)
+    go false = text-lawful t (ltb mostBytes a) (not (eqb a n)) (finished t c) (finished-lawful t n c e)
 
 next-lawful : (t : Table) (r : Result) → lawfulResult r ≡ true → lawfulRadio (next t r) ≡ true
 unfolding lawfulRadio
@@ -190,7 +252,7 @@ next-lawful StopPoint r e = e
 next-lawful Block r e = e
 
 begun-lawful : (t : Table) (r : Result) → lawfulResult r ≡ true → lawfulCourse t 0 (begun r) ≡ true
-begun-lawful t (refused p) e = refl
+begun-lawful t (refused p) e = e
 begun-lawful t (leaves b) e = rw e
 
 pub radio-kept : RadioKept

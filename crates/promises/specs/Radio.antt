@@ -7,7 +7,7 @@ use Prim.Native.Nat.{ℕ}
 use lib.Dec.{eqb}
 use lib.ListN.{length}
 use Rattle.words.specs.Words.{Bytes}
-use Rattle.refusals.specs.Verdicts.{place}
+use Rattle.refusals.specs.Verdicts.{paper}
 use Rattle.refusals.specs.declared.Place.{Place}
 use Rattle.refusals.specs.declared.Verdict.{Verdict}
 use Rattle.refusals.specs.declared.Verdict.the-variants.{Accepted, Refused}
@@ -20,9 +20,10 @@ use Rattle.book.specs.Result.{Result, refused, leaves, _▹_}
 use Rattle.keeping.specs.Keeping.{keepsRule}
 use Rattle.delivery.specs.Delivery.{Delivery, reading}
 use Rattle.delivery.specs.Calls.{readOutcome}
-use Rattle.radio.specs.Radio.{heard, Sending, hearing, stopped, Radio, awaits, hears, over, Call, announce, part, close, start, next, after, inTurn, answer, standing}
+use Rattle.radio.specs.Radio.{heard, Sending, hearing, stopped, Radio, awaits, hears, over, Call, announce, part, close, start, next, after, inTurn, answer, verdictOf, standing}
 use Rattle.radio.specs.Rule.{lawfulRadio}
 use Rattle.radio.specs.Room.{Slices, Outcome, outcome, laidOut, radioIn, fits, keepsRadio, radioCall, openCall}
+use Rattle.promises.specs.Promises.{unplaced}
 
 -- calls one after another ---------------------------------------------------------------------------------------------------
 
@@ -87,10 +88,11 @@ abbrev pub FaultStays : Type 0
 FaultStays = (t : Table) (a n : ℕ) (p : Place) (s : Bytes) → standing (after (part s) (hears t a n (stopped p))) ≡ refused p
 
 -- "but 18 may still come": in place of a fault of the same table, and so may 1, which is "before 18"
+abbrev pub MayAnswer : Table → Place → Verdict → Type 0
+MayAnswer t p v = (v ≡ Refused p) ⊎ ((p .table ≡ number t) × ((paper v ≡ 18 ∷ number t ∷ 0 ∷ 0 ∷ []) ⊎ (paper v ≡ 1 ∷ number t ∷ 0 ∷ 0 ∷ [])))
+
 abbrev pub FaultAnswers : Type 0
-FaultAnswers = (t : Table) (a n : ℕ) (p : Place) (ps : List Bytes) →
-    let r = standing (run (parts ps) (hears t a n (stopped p))) in
-    (r ≡ refused p) ⊎ ((p .table ≡ number t) × ((r ≡ refused (place 18 (number t) 0 0)) ⊎ (r ≡ refused (place 1 (number t) 0 0))))
+FaultAnswers = (t : Table) (a n : ℕ) (p : Place) (ps : List Bytes) → MayAnswer t p (verdictOf (standing (run (parts ps) (hears t a n (stopped p)))))
 
 -- a fault of a table that is closed stands through all later ones, whatever is announced and comes
 abbrev pub FaultEnds : Type 0
@@ -98,7 +100,7 @@ FaultEnds = (t : Table) (a : ℕ) (ps : List Bytes) (p : Place) → eqb (p .tabl
 
 -- "a call out of turn is 15 and does nothing"
 abbrev pub OutOfTurn : Type 0
-OutOfTurn = (c : Call) (k : Radio) → inTurn c k ≡ false → (after c k ≡ k) × (answer c k ≡ Refused (place 15 0 0 0))
+OutOfTurn = (c : Call) (k : Radio) → inTurn c k ≡ false → (after c k ≡ k) × (paper (answer c k) ≡ unplaced 15)
 
 -- the rule ------------------------------------------------------------------------------------------------------------------------
 
@@ -123,6 +125,10 @@ FoundAgain = (k : Radio) → lawfulRadio k ≡ true → radioIn (laidOut k) ≡ 
 -- "which every call keeps"
 abbrev pub CallsKeep : Type 0
 CallsKeep = (c : Call) (s : Slices) → keepsRadio s ≡ true → keepsRadio (radioCall c s .slices) ≡ true
+
+-- 16 "stays as it came", and 15 "does nothing": no call gives one of these numbers and changes what is lent, whatever it was handed
+abbrev pub RefusalStays : Type 0
+RefusalStays = (c : Call) (s : Slices) (p : Place) → radioCall c s .verdict ≡ Refused p → (p .number ≡ 15) ⊎ (p .number ≡ 16) → radioCall c s .slices ≡ s
 
 -- "none that keeps the rule closes with a book that breaks the book rule"
 abbrev pub CallsLawful : Type 0

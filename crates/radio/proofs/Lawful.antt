@@ -7,11 +7,10 @@ use lib.ListN.{length}
 use borrow.Author.Tests.{leb-true, le-leb}
 use Rattle.words.specs.Words.{Bytes}
 use Rattle.words.proofs.Lists.{and-left, and-right}
-use Rattle.lines.specs.Lines.{mostBytes}
 use Rattle.tables.specs.declared.Table.{Table}
 use Rattle.book.specs.Book.{Book}
 use Rattle.keeping.specs.Keeping.{lawfulBook}
-use Rattle.radio.specs.Radio.{Course, going, hears, keptLine}
+use Rattle.radio.specs.Radio.{Course, going, hears, mostCounted, keptLine}
 use Rattle.radio.specs.Rule.{lawfulHead, lawfulCourse, lawfulRadio}
 
 pub record Kept (t : Table) (n : ℕ) (b : Book) (i : ℕ) (head rest : Bytes) : Type 0 where
@@ -39,20 +38,20 @@ module _ (t : Table) (n : ℕ) (b : Book) (i : ℕ) (head rest : Bytes) where
   is-lawful k = rw (k .book, le-leb 1 i (k .some), le-leb (i + length rest) (suc n) (k .few), k .top, le-leb (length rest) keptLine (k .short))
 
 pub record Heard (t : Table) (a n : ℕ) (c : Course) : Type 0 where
-  pub announced : a ≤ (suc mostBytes)
-  pub come : n ≤ (suc mostBytes)
+  pub announced : a ≤ mostCounted
+  pub come : n ≤ mostCounted
   pub course : lawfulCourse t n c ≡ true
 
 pub heard-of : (t : Table) (a n : ℕ) (c : Course) → lawfulRadio (hears t a n c) ≡ true → Heard t a n c
 unfolding lawfulRadio
 heard-of t a n c e =
-    let e2 = and-left (leb a (suc mostBytes) && leb n (suc mostBytes)) (lawfulCourse t n c) e in
+    let e2 = and-left (leb a mostCounted && leb n mostCounted) (lawfulCourse t n c) e in
     record {
-      announced = leb-true a (suc mostBytes) (and-left (leb a (suc mostBytes)) (leb n (suc mostBytes)) e2);
-      come = leb-true n (suc mostBytes) (and-right (leb a (suc mostBytes)) (leb n (suc mostBytes)) e2);
-      course = and-right (leb a (suc mostBytes) && leb n (suc mostBytes)) (lawfulCourse t n c) e;
+      announced = leb-true a mostCounted (and-left (leb a mostCounted) (leb n mostCounted) e2);
+      come = leb-true n mostCounted (and-right (leb a mostCounted) (leb n mostCounted) e2);
+      course = and-right (leb a mostCounted && leb n mostCounted) (lawfulCourse t n c) e;
     }
 
 pub of-heard : (t : Table) (a n : ℕ) (c : Course) → Heard t a n c → lawfulRadio (hears t a n c) ≡ true
 unfolding lawfulRadio
-of-heard t a n c h = rw (le-leb a (suc mostBytes) (h .announced), le-leb n (suc mostBytes) (h .come), h .course)
+of-heard t a n c h = rw (le-leb a mostCounted (h .announced), le-leb n mostCounted (h .come), h .course)

@@ -69,8 +69,11 @@ pub data Radio : Type 0 where
   over : Result → Radio
 
 -- a length is counted to 65,537, which stands for all that are longer
+abbrev pub mostCounted : ℕ
+mostCounted = suc mostBytes
+
 abbrev pub counted : ℕ → ℕ
-counted n = if ltb mostBytes n then suc mostBytes else n
+counted n = if ltb mostBytes n then mostCounted else n
 
 -- of an unfinished line so many bytes are kept: the last may be a carriage return that is dropped
 abbrev pub keptLine : ℕ

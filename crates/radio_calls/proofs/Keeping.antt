@@ -1,18 +1,16 @@
 -- What slices that keep the rule have. Assumes nothing.
-use mathlib.Core.Path.{_≡_, refl, sym, _∙_}
+use mathlib.Core.Path.{_≡_, sym, _∙_}
 use mathlib.Core.List.{List}
-use mathlib.Core.Bool.{Bool, true, false}
+use mathlib.Core.Bool.{true}
 use Prim.Native.Nat.{ℕ, _≤_}
-use native.Mathlib.Omega.{arith}
-use lib.Dec.{eqb}
 use lib.ListN.{length, getD}
-use borrow.Author.Tests.{eqb-true}
-use Rattle.words.specs.Words.{Bytes, Row, if_then_else_}
+use Rattle.words.specs.Words.{Bytes, Row}
 use Rattle.tables.specs.Parts.{bookRows}
 use Rattle.radio.specs.Room.{fits, keepsRadio}
 use Rattle.radio.proofs.Laying.{handed}
 use Rattle.radio_rule.specs.Lent.{slices}
-use Rattle.radio_rule.specs.Testing.{zeros, stretch, numbersKeep, linesKeep, bookKeeps}
+use Rattle.radio_rule.specs.Testing.{numbersKeep, linesKeep, bookKeeps}
+use Rattle.radio_rule.proofs.Faults.{flag-small}
 use Rattle.radio_rule.proofs.Numbers.{Numbers, numbers, and-three}
 use Rattle.radio_rule.proofs.Rule.{book-fits, numbers-fit, lines-fit, rule-tested}
 
@@ -34,8 +32,4 @@ module _ (b : List Row) (k : List ℕ) (l : Bytes) (keeps : keepsRadio (slices b
 
   -- whether there is a fault is 0 or 1
   pub fault-flag : getD k 6 0 ≤ 1
-  fault-flag = go (eqb (getD k 6 0) 0) refl (numbers-kept .faults)
-    where
-      go : (q : Bool) → eqb (getD k 6 0) 0 ≡ q → (if q then zeros (stretch 7 11 k) else eqb (getD k 6 0) 1) ≡ true → getD k 6 0 ≤ 1
-      go true e f = let z : getD k 6 0 ≡ 0 = eqb-true (getD k 6 0) 0 e in omega arith
-      go false e f = let z : getD k 6 0 ≡ 1 = eqb-true (getD k 6 0) 1 f in omega arith
+  fault-flag = flag-small k (numbers-kept .faults)

@@ -1,3 +1,4 @@
 pub mod Zeros
+pub mod Faults
 pub mod Numbers
 pub mod Rule

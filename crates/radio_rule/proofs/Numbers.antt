@@ -39,12 +39,6 @@ of-eleven P p ns e = subst P (sym (numbers-from 11 0 ns e)) (p _ _ _ _ _ _ _ _ _
 -- the tests in the order of the code ----------------------------------------------------------------------------------------------
 
 module _ (ns : List ℕ) where
-  pub fault-none : fault ns ≡ 0 → faultKeeps ns ≡ zeros (stretch 7 11 ns)
-  fault-none e = rw (eq-eqb (fault ns) 0 e)
-
-  pub fault-some : (fault ns ≡ 0 → ⊥) → faultKeeps ns ≡ eqb (fault ns) 1
-  fault-some n = rw (ne-eqb (fault ns) 0 n)
-
   pub heard-announced : 65537 < announced ns → heardKeeps ns ≡ false
   heard-announced h = rw (lt-leb (announced ns) 65537 h)
 

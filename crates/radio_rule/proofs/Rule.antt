@@ -26,7 +26,7 @@ use Rattle.header.specs.declared.Heading.{Heading}
 use Rattle.refusals.specs.declared.Check.{Check}
 use Rattle.refusals.specs.declared.Check.the-variants.{Passes, Fails}
 use Rattle.radio.specs.Radio.{Course, stopped, going, Radio, awaits, hears, over, none, standing, cameTo}
-use Rattle.radio.specs.Rule.{lawfulResult, lawfulHead, lawfulCourse, lawfulRadio}
+use Rattle.radio.specs.Rule.{lawfulFault, lawfulResult, lawfulHead, lawfulCourse, lawfulRadio}
 use Rattle.radio.specs.Room.{Slices, laidBook, laidFault, courseLines, laidNumbers, courseBytes, laidLines, laidOut, tableAt, faultIn, resultIn, courseIn, radioIn, fits, sameSlices, keepsRadio}
 use Rattle.radio_rule.specs.Lent.{slices}
 use Rattle.radio_rule.specs.Testing.{stretch, zeros, turn, announced, come, line, headLength, restLength, fault, faultKeeps, courseKeeps, numbersKeep, headerKeeps, linesKeep, bookKeeps}
@@ -52,10 +52,10 @@ at-place (suc (suc (suc (suc (suc i))))) h = absurd (omega arith)
 -- what is laid out passes the tests ---------------------------------------------------------------------------------------------
 
 -- between tables
-between-keeps : (i : ℕ) (r : Result) → i < 6 → numbersKeep (i ∷ replicate 5 0 ++ laidFault r) ≡ true
+between-keeps : (i : ℕ) (r : Result) → i < 6 → lawfulResult r ≡ true → numbersKeep (i ∷ replicate 5 0 ++ laidFault r) ≡ true
 unfolding numbersKeep zeros same
-between-keeps i (refused p) h = rw (le-leb i 10 (omega arith), lt-ltb i 6 h)
-between-keeps i (leaves b) h = rw (le-leb i 10 (omega arith), lt-ltb i 6 h)
+between-keeps i (refused p) h e = rw (le-leb i 10 (omega arith), lt-ltb i 6 h, e)
+between-keeps i (leaves b) h e = rw (le-leb i 10 (omega arith), lt-ltb i 6 h)
 
 module _ (t : Table) (a n : ℕ) where
   stopped-keeps : (ms : List ℕ) → faultKeeps (0 ∷ 0 ∷ 0 ∷ 0 ∷ 0 ∷ 0 ∷ ms) ≡ true → (getD ms 0 0 ≡ 0 → ⊥) → leb a 65537 ≡ true → leb n 65537 ≡ true
@@ -110,16 +110,17 @@ module _ (t : Table) (a n : ℕ) where
         record { some = j .1; came = j .2; top = k .1; fit = leb-true (length rest) 2049 (k .2); room = head-within 2048 2049 head rest long }
 
 numbers-laid : (k : Radio) → lawfulRadio k ≡ true → length (laidLines k) ≡ 4097 → numbersKeep (laidNumbers k) ≡ true
-numbers-laid (awaits t r) e l = between-keeps (partOf t) r (omega (arith, part-below t))
+unfolding lawfulRadio
+numbers-laid (awaits t r) e l = between-keeps (partOf t) r (omega (arith, part-below t)) e
 numbers-laid (hears t a n (stopped p)) e l =
     let h = heard-of t a n (stopped p) e in
-    stopped-keeps t a n (laidFault (refused p)) refl (λ z. let y : _≡_ {A = ℕ} 1 0 = z in omega arith) (h .0) (h .1)
+    stopped-keeps t a n (laidFault (refused p)) (h .2) (λ z. let y : _≡_ {A = ℕ} 1 0 = z in omega arith) (h .0) (h .1)
 numbers-laid (hears t a n (going b i head rest)) e l =
     let h = heard-of t a n (going b i head rest) e in
     let g : Going t n i head rest = going-of t a n i head rest (lawfulBook b) (h .2) l in
     going-keeps t a n i (length head) (length rest) (h .0) (h .1)
     (rw (g .some, g .came, le-leb (length rest) 2049 (g .fit), le-leb (length head) 2048 (g .room), first-head t i head (g .top)))
-numbers-laid (over r) e l = between-keeps 5 r (omega arith)
+numbers-laid (over r) e l = between-keeps 5 r (omega arith) e
 
 -- two lines laid out
 lines-laid-as : (ns : List ℕ) (head rest : Bytes) → headLength ns ≡ length head → restLength ns ≡ length rest → length head ≤ 2048 → length rest ≤ 2049
@@ -184,12 +185,15 @@ module _ (s : Slices) where
       go false true = refl
       go false false = course-in
 
-  -- the book's test
-  book-result : length (s .book) ≡ bookRows → bookKeeps ns (s .book) ≡ (lawfulResult (resultIn s) && sameRows (s .book) (laidBook (resultIn s)))
+  -- the book's test, with the fault's
+  abbrev faultLawful : Bool
+  faultLawful = if eqb (fault ns) 0 then true else lawfulFault (faultIn s)
+
+  book-result : length (s .book) ≡ bookRows → (faultLawful && bookKeeps ns (s .book)) ≡ (lawfulResult (resultIn s) && sameRows (s .book) (laidBook (resultIn s)))
   unfolding bookKeeps
   book-result l = go (eqb (fault ns) 0)
     where
-      go : (q : Bool) → (if q then keepsRule (s .book) else sameRows (s .book) (laid empty))
+      go : (q : Bool) → ((if q then true else lawfulFault (faultIn s)) && (if q then keepsRule (s .book) else sameRows (s .book) (laid empty)))
           ≡ (lawfulResult (if q then leaves (bookOf (s .book)) else refused (faultIn s)) && sameRows (s .book) (laidBook (if q then leaves (bookOf (s .book)) else refused (faultIn s))))
       go true = rw (eq-eqb (length (s .book)) bookRows l)
       go false = refl
@@ -197,7 +201,7 @@ module _ (s : Slices) where
 standing-lawful : (k : Radio) → lawfulRadio k ≡ true → lawfulResult (standing k) ≡ true
 unfolding lawfulRadio
 standing-lawful (awaits t r) e = e
-standing-lawful (hears t a n (stopped p)) e = refl
+standing-lawful (hears t a n (stopped p)) e = heard-of t a n (stopped p) e .2
 standing-lawful (hears t a n (going b i head rest)) e =
     let k = and-three (lawfulBook b && leb 1 i && leb (i + length rest) (suc n)) (lawfulHead t i head) (leb (length rest) 2049) (and-right (leb a 65537 && leb n 65537) (lawfulCourse t n (going b i head rest)) e) in
     and-three (lawfulBook b) (leb 1 i) (leb (i + length rest) (suc n)) (k .0) .0
@@ -232,9 +236,10 @@ rule-passes s e =
     (and-both (numbersKeep (s .numbers)) (linesKeep (s .numbers) (s .lines))
     (ap numbersKeep n ∙ numbers-laid k (u .1) m)
     (ap (λ (x : List ℕ). linesKeep x (s .lines)) n ∙ ap (linesKeep (laidNumbers k)) l ∙ lines-laid k (u .1) m))
+    (and-right (faultLawful s) (bookKeeps (s .numbers) (s .book))
     (book-result s (f .book) ∙ and-both (lawfulResult (resultIn s)) (sameRows (s .book) (laidBook (resultIn s)))
     (ap lawfulResult (sym (standing-in s)) ∙ standing-lawful k (u .1))
-    (ap (λ (r : Result). sameRows (s .book) (laidBook r)) (sym (standing-in s)) ∙ v .0))
+    (ap (λ (r : Result). sameRows (s .book) (laidBook r)) (sym (standing-in s)) ∙ v .0)))
 
 -- what passes the tests is laid out ------------------------------------------------------------------------------------------------
 
@@ -242,14 +247,21 @@ rule-passes s e =
 fault-back : (b : List Row) (l : Bytes) (ms : List ℕ) → length ms ≡ 11 → faultKeeps ms ≡ true → drop 6 ms ≡ laidFault (resultIn (slices b ms l))
 fault-back b l ms e = of-eleven (λ xs. faultKeeps xs ≡ true → drop 6 xs ≡ laidFault (resultIn (slices b xs l))) all ms e
   where
-    all : (n0 n1 n2 n3 n4 n5 n6 n7 n8 n9 n10 : ℕ) → (if eqb n6 0 then zeros (n7 ∷ n8 ∷ n9 ∷ n10 ∷ []) else eqb n6 1) ≡ true
+    all : (n0 n1 n2 n3 n4 n5 n6 n7 n8 n9 n10 : ℕ) → (if eqb n6 0 then zeros (n7 ∷ n8 ∷ n9 ∷ n10 ∷ []) else eqb n6 1 && lawfulFault (place n7 n8 n9 n10)) ≡ true
         → (n6 ∷ n7 ∷ n8 ∷ n9 ∷ n10 ∷ []) ≡ laidFault (if eqb n6 0 then leaves (bookOf b) else refused (place n7 n8 n9 n10))
     all n0 n1 n2 n3 n4 n5 n6 n7 n8 n9 n10 = go (eqb n6 0) refl
       where
-        go : (q : Bool) → eqb n6 0 ≡ q → (if q then zeros (n7 ∷ n8 ∷ n9 ∷ n10 ∷ []) else eqb n6 1) ≡ true
+        go : (q : Bool) → eqb n6 0 ≡ q → (if q then zeros (n7 ∷ n8 ∷ n9 ∷ n10 ∷ []) else eqb n6 1 && lawfulFault (place n7 n8 n9 n10)) ≡ true
             → (n6 ∷ n7 ∷ n8 ∷ n9 ∷ n10 ∷ []) ≡ laidFault (if q then leaves (bookOf b) else refused (place n7 n8 n9 n10))
         go true p f = ap (λ (x : ℕ). x ∷ n7 ∷ n8 ∷ n9 ∷ n10 ∷ []) (eqb-true n6 0 p) ∙ ap (λ (x : List ℕ). 0 ∷ x) (zeros-true (n7 ∷ n8 ∷ n9 ∷ n10 ∷ []) 4 refl f)
-        go false p f = ap (λ (x : ℕ). x ∷ n7 ∷ n8 ∷ n9 ∷ n10 ∷ []) (eqb-true n6 1 f)
+        go false p f = ap (λ (x : ℕ). x ∷ n7 ∷ n8 ∷ n9 ∷ n10 ∷ []) (eqb-true n6 1 (and-left (eqb n6 1) (lawfulFault (place n7 n8 n9 n10)) f))
+
+fault-lawful : (s : Slices) → faultKeeps (s .numbers) ≡ true → faultLawful s ≡ true
+fault-lawful s = go (eqb (fault (s .numbers)) 0)
+  where
+    go : (q : Bool) → (if q then zeros (stretch 7 11 (s .numbers)) else eqb (fault (s .numbers)) 1 && lawfulFault (faultIn s)) ≡ true → (if q then true else lawfulFault (faultIn s)) ≡ true
+    go true e = refl
+    go false e = and-right (eqb (fault (s .numbers)) 1) (lawfulFault (faultIn s)) e
 
 -- the numbers before it
 between-back : (fs ms : List ℕ) → length ms ≡ 11 → zeros (stretch 1 6 ms) ≡ true → drop 6 ms ≡ fs → ms ≡ turn ms ∷ replicate 5 0 ++ fs
@@ -269,9 +281,9 @@ heard-back cs fs ms e = of-eleven (λ xs. stretch 3 6 xs ≡ cs → drop 6 xs �
         ap (λ (x : List ℕ). n0 ∷ n1 ∷ n2 ∷ x ++ (n6 ∷ n7 ∷ n8 ∷ n9 ∷ n10 ∷ [])) z ∙ ap (λ (x : List ℕ). n0 ∷ n1 ∷ n2 ∷ cs ++ x) f
 
 -- a lawful state that is found again and laid out as it came
-module _ (s : Slices) (fit : fits s ≡ true) (book : bookKeeps (s .numbers) (s .book) ≡ true) where
+module _ (s : Slices) (fit : fits s ≡ true) (nums : numbersKeep (s .numbers) ≡ true) (book : bookKeeps (s .numbers) (s .book) ≡ true) where
   result-lawful : (lawfulResult (resultIn s) && sameRows (s .book) (laidBook (resultIn s))) ≡ true
-  result-lawful = sym (book-result s (fitting s fit .book)) ∙ book
+  result-lawful = sym (book-result s (fitting s fit .book)) ∙ and-both (faultLawful s) (bookKeeps (s .numbers) (s .book)) (fault-lawful s (numbers.numbers (s .numbers) nums .faults)) book
 
   keeps-as : (k : Radio) → radioIn s ≡ k → lawfulRadio k ≡ true → s .numbers ≡ laidNumbers k → s .lines ≡ laidLines k → keepsRadio s ≡ true
   unfolding keepsRadio laidOut
@@ -285,7 +297,7 @@ module _ (s : Slices) (fit : fits s ≡ true) (book : bookKeeps (s .numbers) (s 
       (and-both (sameRows (s .book) (laidBook (standing k)) && same (s .numbers) (laidNumbers k)) (same (s .lines) (laidLines k))
       (and-both (sameRows (s .book) (laidBook (standing k))) (same (s .numbers) (laidNumbers k)) b c) d))
 
-  module _ (nums : numbersKeep (s .numbers) ≡ true) (lins : linesKeep (s .numbers) (s .lines) ≡ true) where
+  module _ (lins : linesKeep (s .numbers) (s .lines) ≡ true) where
     abbrev ms : List ℕ
     ms = s .numbers
 
@@ -359,7 +371,8 @@ module _ (s : Slices) (fit : fits s ≡ true) (book : bookKeeps (s .numbers) (s 
       stopped-back g =
           let z : stretch 3 6 ms ≡ replicate 3 0 = zeros-true (stretch 3 6 ms) 3 (three-long ms (sizes .numbers)) (told .stopped g) in
           let m : ms ≡ turn ms ∷ announced ms ∷ come ms ∷ replicate 3 0 ++ drop 6 ms = heard-back (replicate 3 0) (drop 6 ms) ms (sizes .numbers) z refl in
-          heard-keeps (stopped (faultIn s)) (rw (ne-eqb (fault ms) 0 g)) refl z (no-lines (ap headLength m) (ap restLength m))
+          let f : lawfulFault (faultIn s) ≡ true = (rw (ne-eqb (fault ms) 0 g) at lawful-result) in
+          heard-keeps (stopped (faultIn s)) (rw (ne-eqb (fault ms) 0 g)) f z (no-lines (ap headLength m) (ap restLength m))
         where
           three-long : (xs : List ℕ) → length xs ≡ 11 → length (stretch 3 6 xs) ≡ 3
           three-long xs e = of-eleven (λ ys. length (stretch 3 6 ys) ≡ 3) (λ n0 n1 n2 n3 n4 n5 n6 n7 n8 n9 n10. refl) xs e
@@ -397,13 +410,13 @@ tests-keep s fit e =
   where
     go : numbersKeep (s .numbers) ≡ true → linesKeep (s .numbers) (s .lines) ≡ true → bookKeeps (s .numbers) (s .book) ≡ true
         → (p : Bool) → ltb (turn (s .numbers)) 5 ≡ p → (q : Bool) → ltb (turn (s .numbers)) 6 ≡ q → (r : Bool) → eqb (fault (s .numbers)) 0 ≡ r → keepsRadio s ≡ true
-    go n l b true p q o r m = let h : turn (s .numbers) < 5 = ltb-true (turn (s .numbers)) 5 p in awaits-keeps s fit b n l (omega arith) h
+    go n l b true p q o r m = let h : turn (s .numbers) < 5 = ltb-true (turn (s .numbers)) 5 p in awaits-keeps s fit n b l (omega arith) h
     go n l b false p true o r m =
         let h : 5 ≤ turn (s .numbers) = ltb-false (turn (s .numbers)) 5 p in
         let g : turn (s .numbers) < 6 = ltb-true (turn (s .numbers)) 6 o in
-        over-keeps s fit b n l g (omega arith)
-    go n l b false p false o true m = going-back s fit b n l (ltb-false (turn (s .numbers)) 6 o) (eqb-true (fault (s .numbers)) 0 m)
-    go n l b false p false o false m = stopped-back s fit b n l (ltb-false (turn (s .numbers)) 6 o) (eqb-false (fault (s .numbers)) 0 m)
+        over-keeps s fit n b l g (omega arith)
+    go n l b false p false o true m = going-back s fit n b l (ltb-false (turn (s .numbers)) 6 o) (eqb-true (fault (s .numbers)) 0 m)
+    go n l b false p false o false m = stopped-back s fit n b l (ltb-false (turn (s .numbers)) 6 o) (eqb-false (fault (s .numbers)) 0 m)
 
 -- the rule is the tests
 pub rule-tested : (s : Slices) → fits s ≡ true → keepsRadio s ≡ tested s

@@ -6,12 +6,14 @@ use Prim.Native.Nat.{ℕ, suc, _+_, _-_}
 use lib.Dec.{ltb, leb, eqb}
 use lib.ListN.{length, getD, take, drop, replicate}
 use Rattle.words.specs.Words.{Bytes, Row, if_then_else_, same}
-use Rattle.refusals.specs.Verdicts.{passes}
+use Rattle.refusals.specs.Verdicts.{passes, place}
+use Rattle.refusals.specs.declared.Place.{Place}
 use Rattle.rows.specs.Room.{sameRows}
 use Rattle.book.specs.Book.{empty}
 use Rattle.book.specs.Room.{laid}
 use Rattle.keeping.specs.Keeping.{keepsRule}
 use Rattle.header.specs.Header.{headerCheck}
+use Rattle.radio.specs.Rule.{lawfulFault}
 use Rattle.radio.specs.Room.{tableAt}
 
 -- from place a to before place e
@@ -44,11 +46,14 @@ restLength ns = getD ns 5 0
 abbrev pub fault : List ℕ → ℕ
 fault ns = getD ns 6 0
 
+abbrev pub faultPlace : List ℕ → Place
+faultPlace ns = place (getD ns 7 0) (getD ns 8 0) (getD ns 9 0) (getD ns 10 0)
+
 -- the numbers -------------------------------------------------------------------------------------------------------------------
 
--- 1 and a fault, or zeros
+-- 1 and a lawful fault, or zeros
 abbrev pub faultKeeps : List ℕ → Bool
-faultKeeps ns = if eqb (fault ns) 0 then zeros (stretch 7 11 ns) else eqb (fault ns) 1
+faultKeeps ns = if eqb (fault ns) 0 then zeros (stretch 7 11 ns) else eqb (fault ns) 1 && lawfulFault (faultPlace ns)
 
 -- of a table that is heard, without a fault
 abbrev pub courseKeeps : List ℕ → Bool

@@ -1,18 +1,25 @@
 // The test of the rule of what is kept between parts of a delivery by radio: "handed in against that rule it is 16".
 ghost use mathlib.Core.Path.{_≡_};
 ghost use mathlib.Core.Bool.{true};
+ghost use mathlib.Core.List.{map};
 ghost use Prim.Native.Nat.{_≤_};
 ghost use lib.ListN.{length};
 ghost use Rattle.rows.specs.Room.{sameRows};
-ghost use Rattle.tables.specs.Parts.{bookRows};
+ghost use Rattle.tables.specs.Columns as columns;
+ghost use Rattle.tables.specs.Parts.{tables, bookRows};
 ghost use Rattle.book.specs.Book.{empty};
 ghost use Rattle.book.specs.Room.{laid};
-ghost use Rattle.radio.specs.Room.{fits, keepsRadio};
+ghost use Rattle.header.specs.Header.{member};
+ghost use Rattle.radio.specs.Radio.{mostCounted};
+ghost use Rattle.radio.specs.Rule.{lawfulFault};
+ghost use Rattle.radio.specs.Room.{radioNumbers, radioBytes, fits, keepsRadio};
 ghost use Rattle.radio_rule.specs.Lent.{slices};
-ghost use Rattle.radio_rule.specs.Testing.{zeros, faultKeeps, come, courseKeeps, heardKeeps, numbersKeep, headerKeeps, linesKeep, bookKeeps};
+ghost use Rattle.radio_rule.specs.Testing.{zeros, faultPlace, faultKeeps, come, courseKeeps, heardKeeps, numbersKeep, headerKeeps, linesKeep, bookKeeps};
 use refusals::Check;
+use refusals::Place;
 use rows::Row;
 use tables::BOOK_ROWS;
+use tables::Named;
 use tables::Table;
 
 // Room for the header line, and for the unfinished line, which may have one byte more: a carriage return that its line feed drops.
@@ -58,6 +65,23 @@ pub const LAST_TURN: u64 = 10;
 // Lengths are counted to here, which stands for all that are longer.
 pub const MOST_COUNTED: u64 = 65537;
 
+// The numbers of refusal of tables that are read.
+const READING_NUMBERS: [u64; 13] = [
+    Place::TEXT_TOO_LONG,
+    Place::COLUMN_MISSING,
+    Place::COLUMN_TWICE,
+    Place::TOO_MANY_CELLS,
+    Place::TOO_MANY_ROWS,
+    Place::QUOTE_FAULT,
+    Place::CELL_COUNT,
+    Place::CELL_FAULT,
+    Place::KEY_STANDS,
+    Place::NO_ROW,
+    Place::ENDS_EARLY,
+    Place::LINE_TOO_LONG,
+    Place::LENGTH_DIFFERS,
+];
+
 fn zero_numbers(list: &[u64]) -> bool
     ensures { λ r. ⌜ r ≡ zeros (now (list .entry)) ⌝ }
 {
@@ -99,19 +123,58 @@ fn no_rows(book: &[Row]) -> bool
     rows::holding(book, 1)
 }
 
+fn among(number: u64, list: &[u64]) -> bool
+    ensures { λ r. ⌜ r ≡ member number (now (list .entry)) ⌝ }
+{
+    let mut found = false;
+    let mut i = 0;
+    'numbers: while i < list.len() {
+        if list[i] == number {
+            found = true;
+            break 'numbers;
+        }
+        i += 1;
+    }
+    found
+}
+
+fn names_table(number: u64) -> bool
+    ensures { λ r. ⌜ r ≡ member number (map columns.number tables) ⌝ }
+{
+    let named = Table::numbered(number);
+    match named {
+        Named::Known(_) => true,
+        Named::Unknown => false,
+    }
+}
+
+// Whether the fault is one of a table that is read: a call's own 15 and 16 are none.
+fn lawful_fault(kept: &[u64]) -> bool
+    requires { ⌜ length (now kept) ≡ radioNumbers ⌝ }
+    ensures { λ r. ⌜ r ≡ lawfulFault (faultPlace (now (kept .entry))) ⌝ }
+{
+    if !among(kept[FAULT_NUMBER], &READING_NUMBERS) {
+        return false;
+    }
+    names_table(kept[FAULT_TABLE])
+}
+
 fn fault_keeps(kept: &[u64]) -> bool
-    requires { ⌜ length (now kept) ≡ 11 ⌝ }
+    requires { ⌜ length (now kept) ≡ radioNumbers ⌝ }
     ensures { λ r. ⌜ r ≡ faultKeeps (now (kept .entry)) ⌝ }
 {
     if kept[FAULT] == 0 {
         return zero_numbers(&kept[FAULT_NUMBER..KEPT]);
     }
-    kept[FAULT] == 1
+    if kept[FAULT] != 1 {
+        return false;
+    }
+    lawful_fault(kept)
 }
 
 // Of a table that is heard, without a fault.
 fn course_keeps(kept: &[u64]) -> bool
-    requires { ⌜ (length (now kept) ≡ 11) × (come (now kept) ≤ 65537) ⌝ }
+    requires { ⌜ (length (now kept) ≡ radioNumbers) × (come (now kept) ≤ mostCounted) ⌝ }
     ensures { λ r. ⌜ r ≡ courseKeeps (now (kept .entry)) ⌝ }
 {
     let line = kept[LINE];
@@ -139,7 +202,7 @@ fn course_keeps(kept: &[u64]) -> bool
 
 // Of a table that is heard.
 fn heard_keeps(kept: &[u64]) -> bool
-    requires { ⌜ length (now kept) ≡ 11 ⌝ }
+    requires { ⌜ length (now kept) ≡ radioNumbers ⌝ }
     ensures { λ r. ⌜ r ≡ heardKeeps (now (kept .entry)) ⌝ }
 {
     if MOST_COUNTED < kept[ANNOUNCED] {
@@ -155,7 +218,7 @@ fn heard_keeps(kept: &[u64]) -> bool
 }
 
 fn numbers_keep(kept: &[u64]) -> bool
-    requires { ⌜ length (now kept) ≡ 11 ⌝ }
+    requires { ⌜ length (now kept) ≡ radioNumbers ⌝ }
     ensures { λ r. ⌜ r ≡ numbersKeep (now (kept .entry)) ⌝ }
 {
     if LAST_TURN < kept[TURN] {
@@ -172,7 +235,7 @@ fn numbers_keep(kept: &[u64]) -> bool
 
 // The header line, where there is one: it has passed its checks.
 fn header_keeps(kept: &[u64], lines: &[u8]) -> bool
-    requires { ⌜ (length (now kept) ≡ 11) × (length (now lines) ≡ 4097) × (numbersKeep (now kept) ≡ true) ⌝ }
+    requires { ⌜ (length (now kept) ≡ radioNumbers) × (length (now lines) ≡ radioBytes) × (numbersKeep (now kept) ≡ true) ⌝ }
     ensures { λ r. ⌜ r ≡ headerKeeps (now (kept .entry)) (now (lines .entry)) ⌝ }
 {
     if kept[LINE] <= 1 {
@@ -192,7 +255,7 @@ fn header_keeps(kept: &[u64], lines: &[u8]) -> bool
 }
 
 fn lines_keep(kept: &[u64], lines: &[u8]) -> bool
-    requires { ⌜ (length (now kept) ≡ 11) × (length (now lines) ≡ 4097) × (numbersKeep (now kept) ≡ true) ⌝ }
+    requires { ⌜ (length (now kept) ≡ radioNumbers) × (length (now lines) ≡ radioBytes) × (numbersKeep (now kept) ≡ true) ⌝ }
     ensures { λ r. ⌜ r ≡ linesKeep (now (kept .entry)) (now (lines .entry)) ⌝ }
 {
     let head = kept[HEAD_LENGTH] as usize;
@@ -207,7 +270,7 @@ fn lines_keep(kept: &[u64], lines: &[u8]) -> bool
 }
 
 fn book_keeps(kept: &[u64], book: &[Row]) -> bool
-    requires { ⌜ (length (now kept) ≡ 11) × (length (now book) ≡ bookRows) ⌝ }
+    requires { ⌜ (length (now kept) ≡ radioNumbers) × (length (now book) ≡ bookRows) ⌝ }
     ensures { λ r. ⌜ r ≡ bookKeeps (now (kept .entry)) (now (book .entry)) ⌝ }
 {
     if kept[FAULT] == 0 {
