@@ -640,7 +640,6 @@ static void call_on_damaged(enum radio_call call, uint64_t length, struct text p
     struct radio lent = lend_kept(0);
     uint64_t place[4] = {99, 99, 99, 99};
     uint64_t returned;
-    int repeated;
 
     radio.before = radio.kept[0];
     returned = make_radio_call(sides[0], call, length, part, &lent, place);
@@ -648,13 +647,6 @@ static void call_on_damaged(enum radio_call call, uint64_t length, struct text p
         show_numbers("on what is damaged", place, 4);
     if (returned != place[0])
         fail("the returned number is not the place's");
-    /* A close repeats the fault that is kept, whatever its number became by the damage; 15 and 16 of the call have no place. */
-    repeated = call == CLOSE && (place[1] != 0 || place[2] != 0 || place[3] != 0);
-    if (repeated) {
-        radio.taken = 1;
-        want_book("a table is closed with a book that breaks the book rule", (const row *)radio.kept[0].book);
-        return;
-    }
     if (returned == 15 || returned == 16) {
         want_kept("a call by radio that is 15 or 16 changed something");
         want_no_place(place);
@@ -665,6 +657,8 @@ static void call_on_damaged(enum radio_call call, uint64_t length, struct text p
         radio.taken = 1;
     if (call != CLOSE && returned != 0 && returned != 15 && returned != 16)
         fail("a call by radio that is no close gives a verdict");
+    if (returned >= 12 && returned <= 14)
+        fail("a call by radio gives a number of a slip or of the writer");
     if (call == CLOSE && returned != 15 && returned != 16)
         want_book("a table is closed with a book that breaks the book rule", (const row *)radio.kept[0].book);
 }

@@ -1659,6 +1659,37 @@ static void run_damaged_radio(struct run *run)
     }
 }
 
+/* The same behind a fault. A fault is a table's, with one of the numbers of a reading: what became another number is not
+ * repeated by a close. */
+static void run_damaged_fault(struct run *run)
+{
+    static const uint64_t numbers[] = {0, 5, 12, 13, 14, 15, 16, 99};
+    static const struct text types = T(V "VEH_TYPE_SEATS\n1;4;x\n");
+    const struct side *side = run->side;
+    size_t i, k;
+    int call;
+
+    if (side->radio_open == second_side.radio_open)
+        return;
+    for (k = 0; k < sizeof numbers / sizeof numbers[0]; k++)
+        for (i = 0; i < RADIO_KEPT; i++) {
+            uint64_t place[4], answer;
+            int good = open_radio(side) && announce(side, types.length) && send_parts(side, types, 5, 5);
+
+            answer = side->radio_close(&lent_radio, place);
+            good = good && answered(answer, place, 8, 1, 2, 3);
+            radio_kept[i] = numbers[k];
+            for (call = ANNOUNCE; call <= CLOSE; call++) {
+                keep_radio(&kept_before);
+                answer = make_call(side, (enum radio_call)call, &lent_radio, place);
+                good = good && (answer < 12 || answer > 14) && answer != 99;
+                if (answer == 15 || answer == 16)
+                    good = good && answered(answer, place, answer, 0, 0, 0) && is_as_kept(&kept_before);
+            }
+            tell(run, "C3-12 a number kept behind a fault is another", good);
+        }
+}
+
 static void run_radio(struct run *run)
 {
     size_t i;
@@ -1672,6 +1703,7 @@ static void run_radio(struct run *run)
     run_turns(run);
     run_kept_radio(run);
     run_damaged_radio(run);
+    run_damaged_fault(run);
 }
 
 #define COUNT(list) (sizeof(list) / sizeof(list)[0])
