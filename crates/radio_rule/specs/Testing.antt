@@ -8,13 +8,15 @@ use lib.ListN.{length, getD, take, drop, replicate}
 use Rattle.words.specs.Words.{Bytes, Row, if_then_else_, same}
 use Rattle.refusals.specs.Verdicts.{passes, place}
 use Rattle.refusals.specs.declared.Place.{Place}
+use Rattle.lines.specs.Lines.{mostLine}
 use Rattle.rows.specs.Room.{sameRows}
 use Rattle.book.specs.Book.{empty}
 use Rattle.book.specs.Room.{laid}
 use Rattle.keeping.specs.Keeping.{keepsRule}
 use Rattle.header.specs.Header.{headerCheck}
+use Rattle.radio.specs.Radio.{mostCounted, keptLine}
 use Rattle.radio.specs.Rule.{lawfulFault}
-use Rattle.radio.specs.Room.{tableAt}
+use Rattle.radio.specs.Room.{radioNumbers, radioBytes, tableAt}
 
 -- from place a to before place e
 abbrev pub stretch : ℕ → ℕ → List ℕ → List ℕ
@@ -53,22 +55,22 @@ faultPlace ns = place (getD ns 7 0) (getD ns 8 0) (getD ns 9 0) (getD ns 10 0)
 
 -- 1 and a lawful fault, or zeros
 abbrev pub faultKeeps : List ℕ → Bool
-faultKeeps ns = if eqb (fault ns) 0 then zeros (stretch 7 11 ns) else eqb (fault ns) 1 && lawfulFault (faultPlace ns)
+faultKeeps ns = if eqb (fault ns) 0 then zeros (stretch 7 radioNumbers ns) else eqb (fault ns) 1 && lawfulFault (faultPlace ns)
 
 -- of a table that is heard, without a fault
 abbrev pub courseKeeps : List ℕ → Bool
 courseKeeps ns =
     leb 1 (line ns)
-    && leb (restLength ns) 2049
+    && leb (restLength ns) keptLine
     && leb (line ns + restLength ns) (suc (come ns))
-    && leb (headLength ns) 2048
+    && leb (headLength ns) mostLine
     && (if eqb (line ns) 1 then eqb (headLength ns) 0 else true)
 
 -- of a table that is heard
 abbrev pub heardKeeps : List ℕ → Bool
 heardKeeps ns =
-    leb (announced ns) 65537
-    && leb (come ns) 65537
+    leb (announced ns) mostCounted
+    && leb (come ns) mostCounted
     && (if eqb (fault ns) 0 then courseKeeps ns else zeros (stretch 3 6 ns))
 
 -- a turn that there is, the fault, and what is kept of a table that is heard
@@ -83,7 +85,7 @@ headerKeeps ns l = if ltb 1 (line ns) then passes (headerCheck (tableAt (turn ns
 
 -- zeros behind each line, and the header line
 unfoldable pub linesKeep : List ℕ → Bytes → Bool
-linesKeep ns l = zeros (stretch (headLength ns) 2048 l) && zeros (stretch (2048 + restLength ns) 4097 l) && headerKeeps ns l
+linesKeep ns l = zeros (stretch (headLength ns) mostLine l) && zeros (stretch (mostLine + restLength ns) radioBytes l) && headerKeeps ns l
 
 -- the book ----------------------------------------------------------------------------------------------------------------------
 
