@@ -1683,8 +1683,10 @@ static void run_damaged_fault(struct run *run)
                 keep_radio(&kept_before);
                 answer = make_call(side, (enum radio_call)call, &lent_radio, place);
                 good = good && (answer < 12 || answer > 14) && answer != 99;
+                if (answer == 0 || answer == 15 || answer == 16)
+                    good = good && answered(answer, place, answer, 0, 0, 0);
                 if (answer == 15 || answer == 16)
-                    good = good && answered(answer, place, answer, 0, 0, 0) && is_as_kept(&kept_before);
+                    good = good && is_as_kept(&kept_before);
             }
             tell(run, "C3-12 a number kept behind a fault is another", good);
         }
