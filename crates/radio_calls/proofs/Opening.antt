@@ -1,36 +1,22 @@
 -- A delivery opened, and a table announced. Assumes nothing.
 use mathlib.Core.Path.{_≡_, refl, ap, sym, _∙_}
-use mathlib.Core.List.{List, [], _∷_, _++_}
+use mathlib.Core.List.{List}
 use mathlib.Core.Bool.{true, false}
-use Prim.Native.Nat.{ℕ, zero, suc, _+_, _-_, _<_}
-use native.Mathlib.Omega.{arith}
+use Prim.Native.Nat.{ℕ, _<_}
 use lib.ListN.{replicate}
 use Rattle.words.specs.Words.{Bytes, Row}
 use Rattle.refusals.specs.Verdicts.{nowhere, badLoan}
 use Rattle.refusals.specs.declared.Verdict.the-variants.{Accepted}
-use Rattle.lines.specs.Lines.{mostLine}
 use Rattle.tables.specs.declared.Table.{Table}
 use Rattle.tables.specs.declared.Table.the-variants.{VehicleType, Depot, Stop, StopPoint, Block}
-use Rattle.book.specs.Room.{laid}
 use Rattle.book.specs.Result.{Result, refused, leaves}
-use Rattle.radio.specs.Radio.{awaits, hears, announce, counted, begun, keptLine}
-use Rattle.radio.specs.Room.{Slices, outcome, twoLines, laidOut, tableAt, numberAt, resultIn, fits, keepsRadio, radioCall, openCall}
+use Rattle.radio.specs.Radio.{awaits, hears, announce, counted, begun}
+use Rattle.radio.specs.Room.{Slices, outcome, laidOut, tableAt, numberAt, resultIn, fits, keepsRadio, radioCall, openCall}
 use Rattle.radio.proofs.Laying.{handed}
 use Rattle.radio_rule.specs.Lent.{slices}
-use Rattle.radio_calls.specs.Numbers.{emptySlices, numbersAnnounced}
-use Rattle.radio_calls.proofs.Turns.{is-awaited, announced-in-turn}
-
--- what is laid out from its three slices
-pub slices-are : (b c : List Row) (k m : List ℕ) (l n : Bytes) → b ≡ c → k ≡ m → l ≡ n → slices b k l ≡ slices c m n
-slices-are b c k m l n p q r = ap (λ (x : List Row). slices x k l) p ∙ ap (λ (x : List ℕ). slices c x l) q ∙ ap (slices c m) r
-
--- no line at all: zeros
-zeros-together : (n m : ℕ) → replicate {A = ℕ} (n + m) 0 ≡ replicate n 0 ++ replicate m 0
-zeros-together zero m = let e : 0 + m ≡ m = omega arith in rw e
-zeros-together (suc n) m = let e : suc n + m ≡ suc (n + m) = omega arith in rw e (ap (λ (l : Bytes). 0 ∷ l) (zeros-together n m))
-
-pub no-lines : (n : ℕ) → n ≡ 4097 → replicate n 0 ≡ twoLines [] []
-no-lines n e = ap (λ (k : ℕ). replicate k 0) e ∙ zeros-together mostLine keptLine
+use Rattle.radio_slices.specs.Numbers.{emptySlices, numbersAnnounced}
+use Rattle.radio_slices.proofs.Turns.{is-awaited}
+use Rattle.radio_calls.proofs.Turns.{announced-in-turn}
 
 module _ (b : List Row) (k : List ℕ) (l : Bytes) where
   pub not-fit : fits (slices b k l) ≡ false → openCall (slices b k l) ≡ outcome (nowhere badLoan) (slices b k l)

@@ -6,7 +6,7 @@ use Prim.Native.Nat.{ℕ, _+_, _-_, _<_, _≤_}
 use native.Mathlib.Omega.{arith}
 use lib.Dec.{ltb, eqb}
 use lib.ListN.{length, take}
-use borrow.Author.Tests.{lt-ltb, le-ltb, eq-eqb, ne-eqb, eqb-true, eqb-false, ltb-true, ltb-false}
+use borrow.Author.Tests.{eqb-true, eqb-false, ltb-true, ltb-false}
 use Rattle.words.specs.Words.{Bytes}
 use Rattle.refusals.specs.Verdicts.{nowhere, notThere, badLoan}
 use Rattle.refusals.specs.declared.Verdict.the-variants.{Accepted}
@@ -14,13 +14,13 @@ use Rattle.tables.specs.declared.Table.{Table}
 use Rattle.tables.specs.declared.Table.the-variants.{VehicleType, Depot, Stop, StopPoint, Block}
 use Rattle.book.specs.Result.{Result}
 use Rattle.radio.specs.Radio.{Radio, awaits, hears, over, Call, announce, part, close, counted, begun, closing, next, after, inTurn, answer, standing, partTaken, byteTaken, verdictOf}
-use Rattle.radio.specs.Rule.{lawfulRadio}
 use Rattle.radio.specs.Room.{Slices, outcome, laidOut, tableAt, numberAt, resultIn, courseIn, radioIn, keepsRadio, radioCall}
 use Rattle.radio.proofs.Hearing as hearing
 use Rattle.radio.proofs.Counting.{part-taken}
 use Rattle.radio.proofs.Laying.{handed}
-use Rattle.radio.proofs.Lawful.{Heard, heard-of}
-use Rattle.radio_calls.proofs.Counting.{within-the-count}
+use Rattle.radio_slices.specs.Hearing.{tableOf}
+use Rattle.radio_slices.proofs.Counting.{within-the-count}
+use Rattle.radio_slices.proofs.Turns.{is-awaited, is-over, is-heard, heard-keeps}
 
 -- 16 --------------------------------------------------------------------------------------------------------------------------------
 
@@ -55,32 +55,20 @@ module _ (s : Slices) (keeps : keepsRadio s ≡ true) where
 -- the turns -------------------------------------------------------------------------------------------------------------------------
 
 module _ (s : Slices) where
-  pub is-awaited : numberAt 0 s < 5 → radioIn s ≡ awaits (tableAt (numberAt 0 s)) (resultIn s)
-  unfolding radioIn
-  is-awaited h = rw (lt-ltb (numberAt 0 s) 5 h)
-
-  is-over : numberAt 0 s ≡ 5 → radioIn s ≡ over (resultIn s)
-  unfolding radioIn
-  is-over e = rw (le-ltb (numberAt 0 s) 5 (omega arith), eq-eqb (numberAt 0 s) 5 e)
-
-  pub is-heard : 6 ≤ numberAt 0 s → radioIn s ≡ hears (tableAt (numberAt 0 s - 6)) (numberAt 1 s) (numberAt 2 s) (courseIn s)
-  unfolding radioIn
-  is-heard h = let n : numberAt 0 s ≡ 5 → ⊥ = λ e. omega arith in rw (le-ltb (numberAt 0 s) 5 (omega arith), ne-eqb (numberAt 0 s) 5 n)
-
   no-announcing : (a : ℕ) → 5 ≤ numberAt 0 s → inTurn (announce a) (radioIn s) ≡ false
   no-announcing a h = go (eqb (numberAt 0 s) 5) refl
     where
       go : (q : Bool) → eqb (numberAt 0 s) 5 ≡ q → inTurn (announce a) (radioIn s) ≡ false
-      go true e = ap (inTurn (announce a)) (is-over (eqb-true (numberAt 0 s) 5 e))
-      go false e = let n : numberAt 0 s ≡ 5 → ⊥ = eqb-false (numberAt 0 s) 5 e in ap (inTurn (announce a)) (is-heard (omega arith))
+      go true e = ap (inTurn (announce a)) (is-over s (eqb-true (numberAt 0 s) 5 e))
+      go false e = let n : numberAt 0 s ≡ 5 → ⊥ = eqb-false (numberAt 0 s) 5 e in ap (inTurn (announce a)) (is-heard s (omega arith))
 
   -- what holds while no table is heard
   unheard : (P : Radio → Type 0) → ((t : Table) (r : Result) → P (awaits t r)) → ((r : Result) → P (over r)) → numberAt 0 s < 6 → P (radioIn s)
   unheard P f g h = go (ltb (numberAt 0 s) 5) refl
     where
       go : (q : Bool) → ltb (numberAt 0 s) 5 ≡ q → P (radioIn s)
-      go true e = subst P (sym (is-awaited (ltb-true (numberAt 0 s) 5 e))) (f _ _)
-      go false e = let l : 5 ≤ numberAt 0 s = ltb-false (numberAt 0 s) 5 e in subst P (sym (is-over (omega arith))) (g _)
+      go true e = subst P (sym (is-awaited s (ltb-true (numberAt 0 s) 5 e))) (f _ _)
+      go false e = let l : 5 ≤ numberAt 0 s = ltb-false (numberAt 0 s) 5 e in subst P (sym (is-over s (omega arith))) (g _)
 
   module _ (keeps : keepsRadio s ≡ true) where
     pub late : (a : ℕ) → 5 ≤ numberAt 0 s → radioCall (announce a) s ≡ outcome (nowhere notThere) s
@@ -103,12 +91,8 @@ pub announced-in-turn : (s : Slices) → keepsRadio s ≡ true → (a : ℕ) →
 announced-in-turn s keeps a h = in-turn s keeps (announce a) (awaits (tableAt (numberAt 0 s)) (resultIn s)) (is-awaited s h)
 
 module _ (s : Slices) (keeps : keepsRadio s ≡ true) (h : 6 ≤ numberAt 0 s) where
-  abbrev pub table : Table
-  table = tableAt (numberAt 0 s - 6)
-
-  -- the counts and what is kept of the table keep the rule
-  pub heard-keeps : Heard table (numberAt 1 s) (numberAt 2 s) (courseIn s)
-  heard-keeps = heard-of table (numberAt 1 s) (numberAt 2 s) (courseIn s) (ap lawfulRadio (sym (is-heard s h)) ∙ handed s keeps .lawful)
+  abbrev table : Table
+  table = tableOf (s .numbers)
 
   pub part-in-turn : (x : Bytes) → radioCall (part x) s
       ≡ outcome Accepted (laidOut (hears table (numberAt 1 s) (counted (numberAt 2 s + length x)) (hearing.over table (take (numberAt 1 s - numberAt 2 s) x) (courseIn s))))
@@ -116,9 +100,9 @@ module _ (s : Slices) (keeps : keepsRadio s ≡ true) (h : 6 ≤ numberAt 0 s) w
       let a = numberAt 1 s in
       let n = numberAt 2 s in
       let z : n + 0 ≡ n = omega arith in
-      let e : counted n ≡ n = ap counted (sym z) ∙ within-the-count n 0 (omega (arith, heard-keeps .come)) ∙ z in
+      let e : counted n ≡ n = ap counted (sym z) ∙ within-the-count n 0 (omega (arith, heard-keeps s keeps h .come)) ∙ z in
       let f : partTaken x (hears table a n (courseIn s)) ≡ hears table a (counted (n + length x)) (hearing.over table (take (a - n) x) (courseIn s)) =
-      ap (λ (m : ℕ). partTaken x (hears table a m (courseIn s))) (sym e) ∙ part-taken table a x n (courseIn s) (heard-keeps .announced)
+      ap (λ (m : ℕ). partTaken x (hears table a m (courseIn s))) (sym e) ∙ part-taken table a x n (courseIn s) (heard-keeps s keeps h .announced)
       ∙ ap (λ (m : ℕ). hears table a (counted (n + length x)) (hearing.over table (take (a - m) x) (courseIn s))) e in
       in-turn s keeps (part x) (hears table a n (courseIn s)) (is-heard s h) ∙ ap (λ (k : Radio). outcome Accepted (laidOut k)) f
 

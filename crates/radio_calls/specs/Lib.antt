@@ -1,5 +1,2 @@
--- The calls of a delivery by radio, to be read in this order.
+-- The calls of a delivery by radio.
 pub mod Calls
-pub mod Numbers
-pub mod Closing
-pub mod Hearing

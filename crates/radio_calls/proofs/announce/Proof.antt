@@ -8,7 +8,7 @@ use Rattle.refusals.specs.declared.Verdict.the-variants.{Accepted}
 use Rattle.radio.specs.Radio.{announce}
 use Rattle.radio.specs.Room.{outcome}
 use Rattle.radio_rule.specs.Lent.{slices}
-use Rattle.radio_calls.proofs.Keeping.{numbers-long, fault-flag}
+use Rattle.radio_slices.proofs.Keeping.{numbers-long, fault-flag}
 use Rattle.radio_calls.proofs.Turns.{against, late}
 use Rattle.radio_calls.proofs.Opening.{announced}
 use borrow.Author.Needs.{needs}

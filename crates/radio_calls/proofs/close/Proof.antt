@@ -5,9 +5,10 @@ use Rattle.refusals.specs.declared.Verdict.{Verdict}
 use Rattle.radio.specs.Radio.{close}
 use Rattle.radio.specs.Room.{outcome}
 use Rattle.radio_rule.specs.Lent.{slices}
-use Rattle.radio_calls.proofs.Keeping.{numbers-long}
+use Rattle.radio_slices.proofs.Keeping.{numbers-long}
 use Rattle.radio_calls.proofs.Turns.{against, no-close}
-use Rattle.radio_calls.proofs.Hearing.{hears-so, closed}
+use Rattle.radio_slices.proofs.Hearing.{hears-so}
+use Rattle.radio_calls.proofs.Closing.{closed}
 use borrow.Author.Needs.{needs}
 use Rattle.radio_calls.proofs.close.Statement.{statement}
 use Rattle.radio_calls.proofs.close.Tie as tie

@@ -6,9 +6,9 @@ use Rattle.refusals.specs.declared.Verdict.the-variants.{Accepted}
 use Rattle.radio.specs.Radio.{part}
 use Rattle.radio.specs.Room.{outcome}
 use Rattle.radio_rule.specs.Lent.{slices}
-use Rattle.radio_calls.proofs.Keeping.{numbers-long}
+use Rattle.radio_slices.proofs.Keeping.{numbers-long}
 use Rattle.radio_calls.proofs.Turns.{against, no-part, part-in-turn}
-use Rattle.radio_calls.proofs.Hearing.{hears-so}
+use Rattle.radio_slices.proofs.Hearing.{hears-so}
 use borrow.Author.Needs.{needs}
 use Rattle.radio_calls.proofs.part.Statement.{statement}
 use Rattle.radio_calls.proofs.part.Tie as tie

@@ -1,0 +1,79 @@
+-- A table that is closed. Assumes nothing.
+use mathlib.Core.Path.{_≡_, refl, ap, sym, _∙_}
+use mathlib.Core.List.{List, [], _∷_}
+use mathlib.Core.Bool.{false, not}
+use Prim.Native.Nat.{ℕ, zero, suc, _-_, _<_, _≤_}
+use native.Mathlib.Omega.{arith}
+use lib.Dec.{eqb}
+use lib.ListN.{getD}
+use borrow.Author.Tests.{lt-ltb, le-ltb, eq-eqb, ne-eqb}
+use Rattle.words.specs.Words.{Bytes, Row}
+use Rattle.refusals.specs.Verdicts.{textTooLong, lengthDiffers}
+use Rattle.refusals.specs.declared.Check.the-variants.{Passes}
+use Rattle.refusals.specs.declared.Place.{Place}
+use Rattle.refusals.specs.declared.Verdict.{Verdict}
+use Rattle.refusals.specs.declared.Verdict.the-variants.{Accepted, Refused}
+use Rattle.lines.specs.Lines.{mostBytes}
+use Rattle.book.specs.Room.{laid, bookOf}
+use Rattle.book.specs.Holding.{resultOf}
+use Rattle.book.specs.Result.{Result, refused, leaves}
+use Rattle.book.proofs.Laying.{laid-book}
+use Rattle.radio.specs.Radio.{next, lengthCheck}
+use Rattle.radio.specs.Room.{Slices, laidBook, laidFault, twoLines, laidOut, tableAt}
+use Rattle.radio_rule.specs.Lent.{slices}
+use Rattle.radio_slices.specs.Numbers.{stoppedSlices}
+use Rattle.radio_slices.proofs.Slices.{slices-are}
+use Rattle.radio_closing.specs.Closing.{Settling, earlierFault}
+
+-- the next turn ---------------------------------------------------------------------------------------------------------------------
+
+abbrev settledNumbers : ℕ → Result → List ℕ
+settledNumbers turn r = turn ∷ 0 ∷ 0 ∷ 0 ∷ 0 ∷ 0 ∷ laidFault r
+
+settled : (i : ℕ) → i < 5 → (r : Result) → slices (laidBook r) (settledNumbers (suc i) r) (twoLines [] []) ≡ laidOut (next (tableAt i) r)
+unfolding laidOut
+settled zero h r = refl
+settled (suc zero) h r = refl
+settled (suc (suc zero)) h r = refl
+settled (suc (suc (suc zero))) h r = refl
+settled (suc (suc (suc (suc zero)))) h r = refl
+settled (suc (suc (suc (suc (suc i))))) h r = absurd (omega arith)
+
+module _ (turn : ℕ) (heard : 6 ≤ turn) (last : turn ≤ 10) where
+  settled-turn : (r : Result) → slices (laidBook r) (settledNumbers (turn - 5) r) (twoLines [] []) ≡ laidOut (next (tableAt (turn - 6)) r)
+  settled-turn r =
+      let e : turn - 5 ≡ suc (turn - 6) = omega arith in
+      ap (λ (n : ℕ). slices (laidBook r) (settledNumbers n r) (twoLines [] [])) e ∙ settled (turn - 6) (omega arith) r
+
+  pub settled-fault : (v : Verdict) (book : List Row) (p : Place) → v ≡ Refused p → (s : Slices) → s ≡ stoppedSlices (turn - 5) 0 0 p
+      → s ≡ laidOut (next (tableAt (turn - 6)) (resultOf v book))
+  settled-fault v book p e s f = f ∙ settled-turn (refused p) ∙ ap (λ (w : Verdict). laidOut (next (tableAt (turn - 6)) (resultOf w book))) (sym e)
+
+module _ (v : Verdict) (b : List Row) (k : List ℕ) (l : Bytes) (s : Settling v b k l) where
+  pub settled-book : v ≡ Accepted → (m : List ℕ) (n : Bytes) → m ≡ settledNumbers (getD k 0 0 - 5) (leaves (bookOf b)) → n ≡ twoLines [] []
+      → slices b m n ≡ laidOut (next (tableAt (getD k 0 0 - 6)) (resultOf v b))
+  settled-book e m n p q =
+      slices-are b (laid (bookOf b)) m (settledNumbers (getD k 0 0 - 5) (leaves (bookOf b))) n (twoLines [] []) (sym (laid-book b (s .sound e))) p q
+      ∙ settled-turn (getD k 0 0) (s .heard) (s .last) (leaves (bookOf b))
+      ∙ ap (λ (w : Verdict). laidOut (next (tableAt (getD k 0 0 - 6)) (resultOf w b))) (sym e)
+
+-- the lengths -----------------------------------------------------------------------------------------------------------------------
+
+module _ (a n : ℕ) where
+  pub length-over : mostBytes < a → textTooLong ≡ lengthCheck a n
+  length-over h = rw (lt-ltb mostBytes a h)
+
+  pub length-differs : a ≤ mostBytes → (a ≡ n → ⊥) → lengthDiffers ≡ lengthCheck a n
+  length-differs h d = rw (le-ltb mostBytes a h, ne-eqb a n d)
+
+  pub length-right : a ≤ mostBytes → a ≡ n → Passes ≡ lengthCheck a n
+  length-right h e = rw (le-ltb mostBytes a h, eq-eqb a n e)
+
+-- the fault of an earlier table -------------------------------------------------------------------------------------------------------
+
+module _ (table : ℕ) (k : List ℕ) where
+  pub no-fault : getD k 6 0 ≡ 0 → false ≡ earlierFault table k
+  no-fault e = rw (eq-eqb (getD k 6 0) 0 e)
+
+  pub whose-fault : (getD k 6 0 ≡ 0 → ⊥) → not (eqb (getD k 8 0) table) ≡ earlierFault table k
+  whose-fault d = rw (ne-eqb (getD k 6 0) 0 d)

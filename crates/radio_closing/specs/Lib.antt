@@ -1,0 +1,2 @@
+-- What a table comes to when it is closed.
+pub mod Closing

@@ -1,0 +1,139 @@
+// A table that is closed: 1, 18, its last line; and the next turn.
+ghost use mathlib.Core.Path.{_≡_};
+ghost use Prim.Native.Nat.{_+_, _-_, _<_, _^_};
+ghost use lib.ListN.{length, getD, take, drop};
+ghost use Rattle.refusals.specs.Verdicts.{place};
+ghost use Rattle.book.specs.Holding.{resultOf};
+ghost use Rattle.book.specs.Room.{bookOf};
+ghost use Rattle.radio.specs.Radio as radio;
+ghost use Rattle.radio.specs.Room.{tableAt, laidOut, courseIn};
+ghost use Rattle.radio_rule.specs.Lent.{slices};
+ghost use Rattle.radio_hearing.specs.Hearing.{Holding};
+ghost use Rattle.radio_slices.specs.Hearing.{tableOf, Hears};
+ghost use Rattle.radio_closing.specs.Closing.{earlierFault, noneLeft, Comes, Settling};
+use lines::MOST_BYTES;
+use radio_hearing::Heard;
+use radio_rule::ANNOUNCED;
+use radio_rule::COME;
+use radio_rule::FAULT;
+use radio_rule::FAULT_COLUMN;
+use radio_rule::FAULT_LINE;
+use radio_rule::FAULT_NUMBER;
+use radio_rule::FAULT_TABLE;
+use radio_rule::HEAD;
+use radio_rule::LINE;
+use radio_rule::OVER;
+use radio_rule::REST;
+use radio_rule::REST_LENGTH;
+use radio_rule::TURN;
+use refusals::Check;
+use refusals::Place;
+use refusals::Verdict;
+use rows::Row;
+use tables::Table;
+
+// The fault that is kept.
+fn kept_fault(kept: &[u64]) -> Place
+    requires { ⌜ length (now kept) ≡ 11 ⌝ }
+    ensures { λ r. ⌜ r ≡ place (getD (now (kept .entry)) 7 0) (getD (now (kept .entry)) 8 0) (getD (now (kept .entry)) 9 0) (getD (now (kept .entry)) 10 0) ⌝ }
+{
+    Place::new(
+        kept[FAULT_NUMBER],
+        kept[FAULT_TABLE],
+        kept[FAULT_LINE],
+        kept[FAULT_COLUMN],
+    )
+}
+
+// "an announced length over 65,536 is 1, before 18"
+fn judge_length(announced: u64, come: u64) -> Check
+    ensures { λ r. ⌜ r ≡ radio.lengthCheck announced come ⌝ }
+{
+    if (MOST_BYTES as u64) < announced {
+        return Check::text_too_long();
+    }
+    if announced != come {
+        return Check::length_differs();
+    }
+    Check::Passes
+}
+
+// Whether the fault that is kept is an earlier table's.
+fn faulty_before(table: u64, kept: &[u64]) -> bool
+    requires { ⌜ length (now kept) ≡ 11 ⌝ }
+    ensures { λ r. ⌜ r ≡ earlierFault table (now (kept .entry)) ⌝ }
+{
+    if kept[FAULT] == 0 {
+        return false;
+    }
+    kept[FAULT_TABLE] != table
+}
+
+fn none_left(kept: &[u64]) -> bool
+    requires { ⌜ length (now kept) ≡ 11 ⌝ }
+    ensures { λ r. ⌜ r ≡ noneLeft (now (kept .entry)) ⌝ }
+{
+    if kept[LINE] == Place::HEADER_LINE {
+        return false;
+    }
+    kept[REST_LENGTH] == 0
+}
+
+// "A last line may lack its line feed": the unfinished line is the last. It is copied, for its room is lent on.
+fn last_line(t: Table, book: &mut [Row], lines: &mut [u8], from: Heard) -> Verdict
+    requires { ⌜ Holding t from (now book) (now lines) × (from .line + 1 < 2 ^ 64) ⌝ }
+    ensures { λ r. ⌜ Comes (radio.cameTo (radio.lineHeard t (take (from .rest) (drop 2048 (now (lines .entry)))) (bookOf (now (book .entry))) (from .line) (take (from .head) (now (lines .entry))))) r (now (book .exit)) ⌝ }
+{
+    let rest = from.rest;
+    let mut room = [0u8; REST];
+    number_lines::write_bytes(&mut room, &lines[HEAD..HEAD + rest]);
+    let heard = radio_hearing::hear_line(&room[0..rest], t, book, lines, from);
+    heard.verdict
+}
+
+// All bytes of a table have come.
+fn finish(t: Table, book: &mut [Row], kept: &[u64], lines: &mut [u8]) -> Verdict
+    requires { ⌜ Hears (now book) (now kept) (now lines) × (t ≡ tableOf (now kept)) ⌝ }
+    ensures { λ r. ⌜ Comes (radio.finished t (courseIn (slices (now (book .entry)) (now (kept .entry)) (now (lines .entry))))) r (now (book .exit)) ⌝ }
+{
+    if kept[FAULT] != 0 {
+        return Verdict::Refused(kept_fault(kept));
+    }
+    if none_left(kept) {
+        return Verdict::Accepted;
+    }
+    let from = radio_slices::take_up(kept);
+    last_line(t, book, lines, from)
+}
+
+// A table is closed: "The first fault ends the reading", and 1 or 18 stands "in place of that table's other faults".
+pub fn close_table(t: Table, book: &mut [Row], kept: &[u64], lines: &mut [u8]) -> Verdict
+    requires { ⌜ Hears (now book) (now kept) (now lines) × (t ≡ tableOf (now kept)) ⌝ }
+    ensures { λ r. ⌜ Comes (radio.closing t (getD (now (kept .entry)) 1 0) (getD (now (kept .entry)) 2 0) (courseIn (slices (now (book .entry)) (now (kept .entry)) (now (lines .entry))))) r (now (book .exit)) ⌝ }
+{
+    if faulty_before(t.number(), kept) {
+        return Verdict::Refused(kept_fault(kept));
+    }
+    let check = judge_length(kept[ANNOUNCED], kept[COME]);
+    let verdict = check.on(t.number(), Place::NO_LINE);
+    match verdict {
+        Verdict::Refused(p) => Verdict::Refused(p),
+        Verdict::Accepted => finish(t, book, kept, lines),
+    }
+}
+
+// The next table is to be announced, or all are closed.
+pub fn settle(verdict: Verdict, book: &mut [Row], kept: &mut [u64], lines: &mut [u8])
+    requires { ⌜ Settling verdict (now book) (now kept) (now lines) ⌝ }
+    ensures { λ _. ⌜ slices (now (book .exit)) (now (kept .exit)) (now (lines .exit)) ≡ laidOut (radio.next (tableAt (getD (now (kept .entry)) 0 0 - 6)) (resultOf verdict (now (book .entry)))) ⌝ }
+{
+    let turn = kept[TURN] - OVER;
+    match verdict {
+        Verdict::Refused(p) => radio_slices::stop(turn, 0, 0, p, book, kept, lines),
+        Verdict::Accepted => {
+            let numbers = [turn, 0, 0, 0, 0, 0, 0, 0, 0, 0, 0];
+            radio_slices::copy_numbers(&numbers, kept);
+            radio_slices::clear_bytes(lines);
+        }
+    }
+}

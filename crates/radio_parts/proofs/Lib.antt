@@ -1,0 +1,4 @@
+pub mod Reading
+pub mod Lines
+pub mod Keeping
+pub mod Parting

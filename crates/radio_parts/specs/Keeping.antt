@@ -1,0 +1,21 @@
+-- What the code of a part keeps behind it.
+-- Inner: no promise and no contract of a public function speaks of it.
+use mathlib.Core.Path.{_≡_}
+use mathlib.Core.List.{List}
+use Prim.Native.Nat.{ℕ, _≤_}
+use lib.ListN.{length, getD}
+use Rattle.words.specs.Words.{Bytes, Row}
+use Rattle.refusals.specs.declared.Verdict.the-variants.{Accepted}
+use Rattle.tables.specs.Parts.{bookRows}
+use Rattle.radio_hearing.specs.declared.Heard.{Heard}
+use Rattle.radio_hearing.specs.Hearing.{Holding}
+use Rattle.radio_slices.specs.Hearing.{tableOf}
+
+-- what is to be kept of a table that is heard: where there is no fault, it can go on
+pub record Keeping (heard : Heard) (book : List Row) (kept : List ℕ) (lines : Bytes) : Type 0 where
+  pub rows : length book ≡ bookRows
+  pub numbers : length kept ≡ 11
+  pub bytes : length lines ≡ 4097
+  pub least : 6 ≤ getD kept 0 0
+  pub last : getD kept 0 0 ≤ 10
+  pub holds : heard .verdict ≡ Accepted → Holding (tableOf kept) heard book lines

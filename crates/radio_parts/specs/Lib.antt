@@ -1,0 +1,2 @@
+-- What is kept behind a part of a table.
+pub mod Keeping

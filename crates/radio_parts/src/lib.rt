@@ -1,0 +1,99 @@
+// A part of a table: its bytes are counted, those that were announced are heard, and what they came to is kept.
+ghost use mathlib.Core.Path.{_≡_};
+ghost use Prim.Native.Nat.{_+_, _-_, _≤_};
+ghost use lib.ListN.{length, getD, take, drop};
+ghost use Rattle.radio.specs.Radio as radio;
+ghost use Rattle.radio.specs.Room.{twoLines, laidOut, courseIn};
+ghost use Rattle.radio.proofs.Hearing.{over};
+ghost use Rattle.radio_rule.specs.Lent.{slices};
+ghost use Rattle.radio_hearing.specs.Hearing.{courseHeld};
+ghost use Rattle.radio_slices.specs.Hearing.{tableOf, Hears};
+ghost use Rattle.radio_parts.specs.Keeping.{Keeping};
+use radio_hearing::Heard;
+use radio_rule::ANNOUNCED;
+use radio_rule::COME;
+use radio_rule::FAULT;
+use radio_rule::HEAD;
+use radio_rule::HEARD;
+use radio_rule::LINES;
+use radio_rule::TURN;
+use refusals::Verdict;
+use rows::Row;
+use tables::Table;
+
+// Of the bytes that come those that were announced: a surplus is counted and not read.
+fn to_be_read(announced: u64, come: u64, bytes: &[u8]) -> &[u8]
+    ensures { λ r. ⌜ now r ≡ take (announced - come) (now (bytes .entry)) ⌝ }
+{
+    if announced <= come {
+        return &bytes[0..0];
+    }
+    let left = announced - come;
+    if (bytes.len() as u64) < left {
+        return bytes;
+    }
+    &bytes[0..left as usize]
+}
+
+// Zeros behind both lines.
+fn clear_behind(head: usize, rest: usize, lines: &mut [u8])
+    requires { ⌜ (length (now lines) ≡ 4097) × (head ≤ 2048) × (rest ≤ 2049) ⌝ }
+    ensures { λ _. ⌜ now (lines .exit) ≡ twoLines (take head (now (lines .entry))) (take rest (drop 2048 (now (lines .entry)))) ⌝ }
+{
+    radio_slices::clear_bytes(&mut lines[head..HEAD]);
+    radio_slices::clear_bytes(&mut lines[HEAD + rest..LINES]);
+}
+
+// What a part came to is kept.
+fn keep(heard: Heard, come: u64, book: &mut [Row], kept: &mut [u64], lines: &mut [u8])
+    requires { ⌜ Keeping heard (now book) (now kept) (now lines) ⌝ }
+    ensures { λ _. ⌜ slices (now (book .exit)) (now (kept .exit)) (now (lines .exit)) ≡ laidOut (radio.hears (tableOf (now (kept .entry))) (getD (now (kept .entry)) 1 0) come (courseHeld (heard .verdict) (heard .line) (heard .head) (heard .rest) (now (book .entry)) (now (lines .entry)))) ⌝ }
+{
+    let turn = kept[TURN];
+    let announced = kept[ANNOUNCED];
+    let verdict = heard.verdict;
+    match verdict {
+        Verdict::Refused(p) => radio_slices::stop(turn, announced, come, p, book, kept, lines),
+        Verdict::Accepted => {
+            let head = heard.head;
+            let rest = heard.rest;
+            let numbers = [
+                turn,
+                announced,
+                come,
+                heard.line,
+                head as u64,
+                rest as u64,
+                0,
+                0,
+                0,
+                0,
+                0,
+            ];
+            radio_slices::copy_numbers(&numbers, kept);
+            clear_behind(head, rest, lines);
+        }
+    }
+}
+
+// The bytes of a part are counted, and those that were announced are heard.
+pub fn take_part(bytes: &[u8], book: &mut [Row], kept: &mut [u64], lines: &mut [u8])
+    requires { ⌜ Hears (now book) (now kept) (now lines) ⌝ }
+    ensures { λ _. ⌜ slices (now (book .exit)) (now (kept .exit)) (now (lines .exit)) ≡ laidOut (radio.hears (tableOf (now (kept .entry))) (getD (now (kept .entry)) 1 0) (radio.counted (getD (now (kept .entry)) 2 0 + length (now (bytes .entry)))) (over (tableOf (now (kept .entry))) (take (getD (now (kept .entry)) 1 0 - getD (now (kept .entry)) 2 0) (now (bytes .entry))) (courseIn (slices (now (book .entry)) (now (kept .entry)) (now (lines .entry)))))) ⌝ }
+{
+    let come = radio_slices::counted(kept[COME], bytes.len() as u64);
+    if kept[FAULT] != 0 {
+        kept[COME] = come;
+        return;
+    }
+    let t = Table::in_order((kept[TURN] - HEARD) as usize);
+    let from = radio_slices::take_up(kept);
+    let heard = radio_hearing::hear(
+        to_be_read(kept[ANNOUNCED], kept[COME], bytes),
+        t,
+        book,
+        lines,
+        from,
+    );
+    keep(heard, come, book, kept, lines);
+}

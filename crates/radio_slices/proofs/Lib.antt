@@ -1,0 +1,5 @@
+pub mod Counting
+pub mod Slices
+pub mod Keeping
+pub mod Turns
+pub mod Hearing

@@ -1,0 +1,25 @@
+-- What a call leaves in the slices: the numbers that it writes, in the order in which they are kept.
+-- Inner: no promise and no contract of a public function speaks of it.
+use mathlib.Core.List.{List, [], _∷_}
+use Prim.Native.Nat.{ℕ, _+_, _-_}
+use lib.ListN.{getD}
+use Rattle.refusals.specs.declared.Place.{Place}
+use Rattle.book.specs.Book.{empty}
+use Rattle.book.specs.Room.{laid}
+use Rattle.book.specs.Result.{refused}
+use Rattle.radio.specs.Room.{Slices, laidFault, twoLines}
+use Rattle.radio_rule.specs.Lent.{slices}
+
+-- no row, no line, and these numbers
+abbrev pub emptySlices : List ℕ → Slices
+emptySlices ns = slices (laid empty) ns (twoLines [] [])
+
+-- behind a fault: the turn, the counts, and the fault
+abbrev pub stoppedSlices : ℕ → ℕ → ℕ → Place → Slices
+stoppedSlices turn a n p = emptySlices (turn ∷ a ∷ n ∷ 0 ∷ 0 ∷ 0 ∷ laidFault (refused p))
+
+-- a table is announced: its turn, its length, no byte; its first line, where there is no fault; and the fault as it stands
+abbrev pub numbersAnnounced : ℕ → List ℕ → List ℕ
+numbersAnnounced a ns =
+    (getD ns 0 0 + 6) ∷ a ∷ 0 ∷ (1 - getD ns 6 0) ∷ 0 ∷ 0
+    ∷ getD ns 6 0 ∷ getD ns 7 0 ∷ getD ns 8 0 ∷ getD ns 9 0 ∷ getD ns 10 0 ∷ []
