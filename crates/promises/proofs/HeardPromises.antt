@@ -28,7 +28,8 @@ use Rattle.table_lines.specs.Reading.{judged, lineAfter, rowsRead}
 use Rattle.table_reading.specs.Reading.{tableRead}
 use Rattle.delivery.specs.Delivery.{reading}
 use Rattle.radio.specs.Radio.{lengthCheck, heard, Course, stopped, going, Radio, awaits, counted, finished, next, announced, partTaken, closing, closed, hearing, hears, over as all-over, byteHeard, Call, announce, part, close, start, after, verdictOf, standing}
-use Rattle.radio.proofs.Hearing.{over, over-stopped, table-over, own-fault}
+use Rattle.radio.specs.Hearing.{bytesHeard}
+use Rattle.radio.proofs.Hearing.{over-stopped, table-over, own-fault}
 use Rattle.radio.proofs.Counting.{counts, counted-short, part-whole, check-counted}
 use Rattle.promises.specs.Radio.{run, parts, joined, PartsJoin, EmptyPart, Clear, TableHeard, sendingOf, callsFor, callsOf, DeliveryHeard, HeardAsRead, FaultStays, MayAnswer, FaultAnswers, FaultEnds, OutOfTurn}
 use Rattle.promises.proofs.TestLaws.{both, unfailed}
@@ -49,14 +50,14 @@ same-length a n e =
     let k = both (textTooLong when ltb mostBytes a) (lengthDiffers when not (eqb a n)) e in
     (ltb-false mostBytes a (unfailed 1 0 (ltb mostBytes a) (k .0)), eqb-true a n (not-false (eqb a n) (unfailed 18 0 (not (eqb a n)) (k .1))))
 
-closing-heard : (t : Table) (a : ℕ) (s : Bytes) (b : Book) → closing t (counted a) (counted (length s)) (over t (take (counted a) s) (going b 1 [] [])) ≡ heard t a s b
+closing-heard : (t : Table) (a : ℕ) (s : Bytes) (b : Book) → closing t (counted a) (counted (length s)) (bytesHeard t (take (counted a) s) (going b 1 [] [])) ≡ heard t a s b
 unfolding closing
 closing-heard t a s b =
-    let c : Course = over t (take (counted a) s) (going b 1 [] []) in
+    let c : Course = bytesHeard t (take (counted a) s) (going b 1 [] []) in
     rw (own-fault t (take (counted a) s) (going b 1 [] []) refl, check-counted a (length s)) (go (lengthCheck a (length s)) refl)
   where
     go : (v : Check) → lengthCheck a (length s) ≡ v →
-        unless (inText (number t) v) (finished t (over t (take (counted a) s) (going b 1 [] []))) ≡ unless (inText (number t) v) (tableRead t s b)
+        unless (inText (number t) v) (finished t (bytesHeard t (take (counted a) s) (going b 1 [] []))) ≡ unless (inText (number t) v) (tableRead t s b)
     go Passes e =
         let k = same-length a (length s) e in
         let n : length s ≤ mostBytes = omega (arith, k .0, k .1) in

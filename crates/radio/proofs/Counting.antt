@@ -12,7 +12,7 @@ use Rattle.words.specs.Words.{Bytes, if_then_else_}
 use Rattle.lines.specs.Lines.{mostBytes}
 use Rattle.tables.specs.declared.Table.{Table}
 use Rattle.radio.specs.Radio.{Course, hears, counted, byteHeard, partTaken, lengthCheck}
-use Rattle.radio.proofs.Hearing.{over}
+use Rattle.radio.specs.Hearing.{bytesHeard}
 
 pub counted-short : (n : ℕ) → n ≤ mostBytes → counted n ≡ n
 counted-short n h = rw (le-ltb mostBytes n h)
@@ -58,11 +58,11 @@ counted-grows n h = go (ltb mostBytes (suc n))
 
 -- a part: so many bytes are counted, and those that were announced are read
 read-on : (t : Table) (a n : ℕ) (x : ℕ) (s : Bytes) (c : Course) → a ≤ (suc mostBytes) → n ≤ (suc mostBytes) →
-    over t (take (a - counted (suc n)) s) (if ltb n a then byteHeard t x c else c) ≡ over t (take (a - n) (x ∷ s)) c
-unfolding over
+    bytesHeard t (take (a - counted (suc n)) s) (if ltb n a then byteHeard t x c else c) ≡ bytesHeard t (take (a - n) (x ∷ s)) c
+unfolding bytesHeard
 read-on t a n x s c h k = go (ltb n a) refl
   where
-    go : (q : Bool) → ltb n a ≡ q → over t (take (a - counted (suc n)) s) (if q then byteHeard t x c else c) ≡ over t (take (a - n) (x ∷ s)) c
+    go : (q : Bool) → ltb n a ≡ q → bytesHeard t (take (a - counted (suc n)) s) (if q then byteHeard t x c else c) ≡ bytesHeard t (take (a - n) (x ∷ s)) c
     go true e =
         let l : n < a = ltb-true n a e in
         let f : a - n ≡ suc (a - suc n) = omega arith in
@@ -74,18 +74,18 @@ read-on t a n x s c h k = go (ltb n a) refl
         rw (f, z)
 
 pub part-taken : (t : Table) (a : ℕ) (s : Bytes) (m : ℕ) (c : Course) → a ≤ (suc mostBytes) →
-    partTaken s (hears t a (counted m) c) ≡ hears t a (counted (m + length s)) (over t (take (a - counted m) s) c)
-unfolding partTaken over
+    partTaken s (hears t a (counted m) c) ≡ hears t a (counted (m + length s)) (bytesHeard t (take (a - counted m) s) c)
+unfolding partTaken bytesHeard
 part-taken t a [] m c h = let z : m + 0 ≡ m = omega arith in rw (take-nil, z)
 part-taken t a (x ∷ s) m c h =
     let z : m + suc (length s) ≡ suc m + length s = omega arith in
     ap (λ (n : ℕ). partTaken s (hears t a n (if ltb (counted m) a then byteHeard t x c else c))) (counted-suc m)
     ∙ part-taken t a s (suc m) (if ltb (counted m) a then byteHeard t x c else c) h
-    ∙ ap (λ (n : ℕ). hears t a (counted (suc m + length s)) (over t (take (a - n) s) (if ltb (counted m) a then byteHeard t x c else c))) (sym (counted-suc m))
+    ∙ ap (λ (n : ℕ). hears t a (counted (suc m + length s)) (bytesHeard t (take (a - n) s) (if ltb (counted m) a then byteHeard t x c else c))) (sym (counted-suc m))
     ∙ ap (hears t a (counted (suc m + length s))) (read-on t a (counted m) x s c h (counts m .most))
-    ∙ ap (λ (n : ℕ). hears t a (counted n) (over t (take (a - counted m) (x ∷ s)) c)) (sym z)
+    ∙ ap (λ (n : ℕ). hears t a (counted n) (bytesHeard t (take (a - counted m) (x ∷ s)) c)) (sym z)
 
-pub part-whole : (t : Table) (a : ℕ) (s : Bytes) (c : Course) → a ≤ (suc mostBytes) → partTaken s (hears t a 0 c) ≡ hears t a (counted (length s)) (over t (take a s) c)
+pub part-whole : (t : Table) (a : ℕ) (s : Bytes) (c : Course) → a ≤ (suc mostBytes) → partTaken s (hears t a 0 c) ≡ hears t a (counted (length s)) (bytesHeard t (take a s) c)
 part-whole t a s c h =
     let z : 0 + length s ≡ length s = omega arith in
     let f : a - 0 ≡ a = omega arith in

@@ -2,7 +2,7 @@
 use mathlib.Core.Path.{_≡_, refl, ap, _∙_}
 use mathlib.Core.List.{List, [], _∷_, _++_}
 use mathlib.Core.Bool.{Bool, true, false}
-use Prim.Native.Nat.{ℕ, suc, _+_, _-_, _≤_, _<_}
+use Prim.Native.Nat.{ℕ, suc, _+_, _≤_, _<_}
 use native.Mathlib.Omega.{arith}
 use lib.Dec.{eqb, ltb}
 use lib.ListN.{length, length-append}
@@ -24,6 +24,7 @@ use Rattle.row_line.specs.RowLine.{rowRead}
 use Rattle.table_lines.specs.Reading.{judged, lineAfter, rowsRead}
 use Rattle.table_reading.specs.Reading.{tableRead}
 use Rattle.radio.specs.Radio.{Course, stopped, going, onward, headerIn, lineHeard, headHeard, rowHeard, byteHeard, finished, cameTo, ended, endsLine, faultBefore, keptLine}
+use Rattle.radio.specs.Hearing.{bytesHeard}
 use Rattle.radio.proofs.Parting.{linesFrom, lines-all, FirstLong, first-long}
 
 -- a line ends behind its begin, and no further than it has bytes
@@ -35,17 +36,12 @@ pub line-before : (i : ℕ) (line : Bytes) → lineAfter i line ≤ suc (i + len
 unfolding lineAfter
 line-before i line = omega arith
 
--- the bytes of a table that are read, one by one
-unfoldable pub over : Table → Bytes → Course → Course
-over t [] c = c
-over t (x ∷ xs) c = over t xs (byteHeard t x c)
-
-pub over-stopped : (t : Table) (s : Bytes) (p : Place) → over t s (stopped p) ≡ stopped p
-unfolding over byteHeard
+pub over-stopped : (t : Table) (s : Bytes) (p : Place) → bytesHeard t s (stopped p) ≡ stopped p
+unfolding bytesHeard byteHeard
 over-stopped t [] p = refl
 over-stopped t (x ∷ s) p = over-stopped t s p
 
-finished-stopped : (t : Table) (s : Bytes) (p : Place) → finished t (over t s (stopped p)) ≡ refused p
+finished-stopped : (t : Table) (s : Bytes) (p : Place) → finished t (bytesHeard t s (stopped p)) ≡ refused p
 unfolding finished
 finished-stopped t s p = ap (finished t) (over-stopped t s p)
 
@@ -100,35 +96,35 @@ module _ (t : Table) (head : Bytes) where
 
   -- a long line ends it
   long-row : (s l : Bytes) (ls : List Bytes) (b : Book) (i : ℕ) → 2 ≤ i → mostLine < length l → (m : Bytes) → mostLine < length m →
-      finished t (over t s (lineHeard t l b i head)) ≡ rowsRead t (headerIn t head) i (m ∷ ls) b
+      finished t (bytesHeard t s (lineHeard t l b i head)) ≡ rowsRead t (headerIn t head) i (m ∷ ls) b
   unfolding rowsRead
   long-row s l ls b i two n m k =
       rw (row-heard l b i two, long-judged t (headerIn t head) l b n, long-judged t (headerIn t head) m b k) (go (full t b))
     where
-      go : (q : Bool) → finished t (over t s (onward (placed (number t) i (tooManyRows when q ⊳ lineTooLong)) (going (entered t (rowRead t (headerIn t head) l) b) (lineAfter i l) head [])))
+      go : (q : Bool) → finished t (bytesHeard t s (onward (placed (number t) i (tooManyRows when q ⊳ lineTooLong)) (going (entered t (rowRead t (headerIn t head) l) b) (lineAfter i l) head [])))
           ≡ unless (placed (number t) i (tooManyRows when q ⊳ lineTooLong)) (rowsRead t (headerIn t head) (lineAfter i m) ls (entered t (rowRead t (headerIn t head) m) b))
       go true = finished-stopped t s _
       go false = finished-stopped t s _
 
   pub rows-over : (s : Bytes) (b : Book) (i : ℕ) (rest : Bytes) → 2 ≤ i → length rest ≤ keptLine →
-      finished t (over t s (going b i head rest)) ≡ rowsRead t (headerIn t head) i (linesFrom rest s) b
-  unfolding over linesFrom finished rowsRead byteHeard
+      finished t (bytesHeard t s (going b i head rest)) ≡ rowsRead t (headerIn t head) i (linesFrom rest s) b
+  unfolding bytesHeard linesFrom finished rowsRead byteHeard
   rows-over [] b i [] two few = rw (ne-eqb i 1 (λ e. omega arith))
   rows-over [] b i (x ∷ xs) two few = rw (ne-eqb i 1 (λ e. omega arith), row-heard (x ∷ xs) b i two) (result-onward (placed (number t) i (judged t (headerIn t head) (x ∷ xs) b)) _ (lineAfter i (x ∷ xs)))
   rows-over (x ∷ s) b i rest two few = go (endsLine rest x) refl (ltb (length rest) keptLine) refl (λ c j l. rows-over s c j [] l (omega arith)) (rows-over s b i (rest ++ (x ∷ [])) two)
     where
       IH : Type 0
-      IH = (c : Book) (j : ℕ) → 2 ≤ j → finished t (over t s (going c j head [])) ≡ rowsRead t (headerIn t head) j (linesFrom [] s) c
+      IH = (c : Book) (j : ℕ) → 2 ≤ j → finished t (bytesHeard t s (going c j head [])) ≡ rowsRead t (headerIn t head) j (linesFrom [] s) c
 
       row : (line : Bytes) (v : Verdict) → IH →
-          finished t (over t s (onward v (going (entered t (rowRead t (headerIn t head) line) b) (lineAfter i line) head [])))
+          finished t (bytesHeard t s (onward v (going (entered t (rowRead t (headerIn t head) line) b) (lineAfter i line) head [])))
           ≡ unless v (rowsRead t (headerIn t head) (lineAfter i line) (linesFrom [] s) (entered t (rowRead t (headerIn t head) line) b))
       row line Accepted ih = ih _ (lineAfter i line) (omega (arith, line-after i line))
       row line (Refused p) ih = finished-stopped t s p
 
       go : (q : Bool) → endsLine rest x ≡ q → (u : Bool) → ltb (length rest) keptLine ≡ u → IH →
-          (length (rest ++ (x ∷ [])) ≤ keptLine → finished t (over t s (going b i head (rest ++ (x ∷ [])))) ≡ rowsRead t (headerIn t head) i (linesFrom (rest ++ (x ∷ [])) s) b) →
-          finished t (over t s (byteHeard t x (going b i head rest)))
+          (length (rest ++ (x ∷ [])) ≤ keptLine → finished t (bytesHeard t s (going b i head (rest ++ (x ∷ [])))) ≡ rowsRead t (headerIn t head) i (linesFrom (rest ++ (x ∷ [])) s) b) →
+          finished t (bytesHeard t s (byteHeard t x (going b i head rest)))
           ≡ rowsRead t (headerIn t head) i (if q then ended rest ∷ linesFrom [] s else linesFrom (rest ++ (x ∷ [])) s) b
       go true e u f ih more = rw (e, row-heard (ended rest) b i two) (row (ended rest) (placed (number t) i (judged t (headerIn t head) (ended rest) b)) ih)
       go false e true f ih more = rw (e, f) (more (rw length-append (omega (arith, ltb-true (length rest) keptLine f))))
@@ -152,23 +148,23 @@ module _ (t : Table) (head : Bytes) where
   head-result Accepted b line = refl
   head-result (Refused p) b line = refl
 
-  long-head : (s l : Bytes) (ls : List Bytes) (b : Book) → mostLine < length l → (m : Bytes) → mostLine < length m → finished t (over t s (lineHeard t l b 1 head)) ≡ linesRead t (m ∷ ls) b
+  long-head : (s l : Bytes) (ls : List Bytes) (b : Book) → mostLine < length l → (m : Bytes) → mostLine < length m → finished t (bytesHeard t s (lineHeard t l b 1 head)) ≡ linesRead t (m ∷ ls) b
   long-head s l ls b n m k = rw (head-heard l b, long-headed t l n, long-headed t m k) (finished-stopped t s _)
 
-  pub head-over : (s : Bytes) (b : Book) (rest : Bytes) → length rest ≤ keptLine → finished t (over t s (going b 1 head rest)) ≡ linesRead t (linesFrom rest s) b
-  unfolding over linesFrom finished rowsRead byteHeard
+  pub head-over : (s : Bytes) (b : Book) (rest : Bytes) → length rest ≤ keptLine → finished t (bytesHeard t s (going b 1 head rest)) ≡ linesRead t (linesFrom rest s) b
+  unfolding bytesHeard linesFrom finished rowsRead byteHeard
   head-over [] b [] few = rw head-heard (head-result (inHeader (number t) (headerCheck t [])) b [])
   head-over [] b (x ∷ xs) few = rw head-heard (head-result (inHeader (number t) (headerCheck t (x ∷ xs))) b (x ∷ xs))
   head-over (x ∷ s) b rest few = go (endsLine rest x) refl (ltb (length rest) keptLine) refl (head-over s b (rest ++ (x ∷ [])))
     where
       top : (line : Bytes) (v : Verdict) →
-          finished t (over t s (onward v (going b (lineAfter 1 line) line []))) ≡ unless v (rowsRead t (headerIn t line) (lineAfter 1 line) (linesFrom [] s) b)
+          finished t (bytesHeard t s (onward v (going b (lineAfter 1 line) line []))) ≡ unless v (rowsRead t (headerIn t line) (lineAfter 1 line) (linesFrom [] s) b)
       top line Accepted = rows-over t line s b (lineAfter 1 line) [] (line-after 1 line) (omega arith)
       top line (Refused p) = finished-stopped t s p
 
       go : (q : Bool) → endsLine rest x ≡ q → (u : Bool) → ltb (length rest) keptLine ≡ u →
-          (length (rest ++ (x ∷ [])) ≤ keptLine → finished t (over t s (going b 1 head (rest ++ (x ∷ [])))) ≡ linesRead t (linesFrom (rest ++ (x ∷ [])) s) b) →
-          finished t (over t s (byteHeard t x (going b 1 head rest)))
+          (length (rest ++ (x ∷ [])) ≤ keptLine → finished t (bytesHeard t s (going b 1 head (rest ++ (x ∷ [])))) ≡ linesRead t (linesFrom (rest ++ (x ∷ [])) s) b) →
+          finished t (bytesHeard t s (byteHeard t x (going b 1 head rest)))
           ≡ linesRead t (if q then ended rest ∷ linesFrom [] s else linesFrom (rest ++ (x ∷ [])) s) b
       go true e u f more = rw (e, head-heard (ended rest) b) (top (ended rest) (inHeader (number t) (headerCheck t (ended rest))))
       go false e true f more = rw (e, f) (more (rw length-append (omega (arith, ltb-true (length rest) keptLine f))))
@@ -177,7 +173,7 @@ module _ (t : Table) (head : Bytes) where
           let first : FirstLong (linesFrom (rest ++ (x ∷ [])) s) = first-long (rest ++ (x ∷ [])) s long in
           rw (e, f, first .is) (long-head s (rest ++ (x ∷ [])) (first .behind) b (omega arith) (first .line) (first .long))
 
-pub table-over : (t : Table) (s : Bytes) (b : Book) → length s ≤ mostBytes → finished t (over t s (going b 1 [] [])) ≡ tableRead t s b
+pub table-over : (t : Table) (s : Bytes) (b : Book) → length s ≤ mostBytes → finished t (bytesHeard t s (going b 1 [] [])) ≡ tableRead t s b
 unfolding tableRead
 table-over t s b n =
     head-over t [] s b [] (omega arith) ∙ ap (λ (ls : List Bytes). linesRead t ls b) (lines-all s)
@@ -207,7 +203,7 @@ own-byte t x (going b i head rest) e = go (endsLine rest x) (ltb (length rest) k
     go false true = refl
     go false false = own-line t (rest ++ (x ∷ [])) b i head
 
-pub own-fault : (t : Table) (s : Bytes) (c : Course) → faultBefore t c ≡ false → faultBefore t (over t s c) ≡ false
-unfolding over
+pub own-fault : (t : Table) (s : Bytes) (c : Course) → faultBefore t c ≡ false → faultBefore t (bytesHeard t s c) ≡ false
+unfolding bytesHeard
 own-fault t [] c e = e
 own-fault t (x ∷ s) c e = own-fault t s (byteHeard t x c) (own-byte t x c e)

@@ -4,4 +4,3 @@ pub mod Counting
 pub mod Stretching
 pub mod Lawful
 pub mod Laying
-pub mod Whole

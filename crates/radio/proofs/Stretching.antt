@@ -16,50 +16,51 @@ use Rattle.tables.specs.declared.Table.{Table}
 use Rattle.book.specs.Book.{Book}
 use Rattle.radio.specs.Radio.{Course, going, lineHeard, endsLine, ended, byteHeard, keptLine}
 use Rattle.radio.proofs.Parting.{Unfed, lines-fed}
-use Rattle.radio.proofs.Hearing.{over, over-stopped, long-alike, Stops, long-stops}
+use Rattle.radio.specs.Hearing.{bytesHeard}
+use Rattle.radio.proofs.Hearing.{over-stopped, long-alike, Stops, long-stops}
 
 -- none of these bytes, behind those that came, ends the line
 unfoldable pub Unended : Bytes → Bytes → Type 0
 Unended rest [] = Unit {0}
 Unended rest (x ∷ xs) = (endsLine rest x ≡ false) × Unended (rest ++ (x ∷ [])) xs
 
-pub over-join : (t : Table) (p q : Bytes) (c : Course) → over t (p ++ q) c ≡ over t q (over t p c)
-unfolding over
+pub over-join : (t : Table) (p q : Bytes) (c : Course) → bytesHeard t (p ++ q) c ≡ bytesHeard t q (bytesHeard t p c)
+unfolding bytesHeard
 over-join t [] q c = refl
 over-join t (x ∷ p) q c = over-join t p q (byteHeard t x c)
 
 -- bytes that end no line are kept, or are too many
 pub stretch-over : (t : Table) (l : Bytes) (b : Book) (i : ℕ) (head rest : Bytes) → Unended rest l → length rest ≤ keptLine →
-    over t l (going b i head rest) ≡ (if leb (length (rest ++ l)) keptLine then going b i head (rest ++ l) else lineHeard t (rest ++ l) b i head)
-unfolding over Unended byteHeard
+    bytesHeard t l (going b i head rest) ≡ (if leb (length (rest ++ l)) keptLine then going b i head (rest ++ l) else lineHeard t (rest ++ l) b i head)
+unfolding bytesHeard Unended byteHeard
 stretch-over t [] b i head rest h few = rw (append-nil, le-leb (length rest) keptLine few)
 stretch-over t (x ∷ l) b i head rest h few = go (ltb (length rest) keptLine) refl (stretch-over t l b i head (rest ++ (x ∷ [])) (h .1))
   where
     whole : Bytes → Course
     whole s = if leb (length s) keptLine then going b i head s else lineHeard t s b i head
 
-    go : (q : Bool) → ltb (length rest) keptLine ≡ q → (length (rest ++ (x ∷ [])) ≤ keptLine → over t l (going b i head (rest ++ (x ∷ []))) ≡ whole ((rest ++ (x ∷ [])) ++ l)) →
-        over t l (byteHeard t x (going b i head rest)) ≡ whole (rest ++ (x ∷ l))
+    go : (q : Bool) → ltb (length rest) keptLine ≡ q → (length (rest ++ (x ∷ [])) ≤ keptLine → bytesHeard t l (going b i head (rest ++ (x ∷ []))) ≡ whole ((rest ++ (x ∷ [])) ++ l)) →
+        bytesHeard t l (byteHeard t x (going b i head rest)) ≡ whole (rest ++ (x ∷ l))
     go true e ih = rw (h .0, e) (ih (rw length-append (omega (arith, ltb-true (length rest) keptLine e))) ∙ ap whole (append-snoc rest x l))
     go false e ih =
         let one : mostLine < length (rest ++ (x ∷ [])) = rw length-append (omega (arith, ltb-false (length rest) keptLine e)) in
         let all : keptLine < length (rest ++ (x ∷ l)) = rw length-append (omega (arith, ltb-false (length rest) keptLine e)) in
         let k : Stops (lineHeard t (rest ++ (x ∷ [])) b i head) = long-stops t (rest ++ (x ∷ [])) b i head one in
         rw (h .0, e, lt-leb (length (rest ++ (x ∷ l))) keptLine all)
-        (ap (over t l) (k .is) ∙ over-stopped t l (k .at) ∙ sym (k .is) ∙ long-alike t (rest ++ (x ∷ [])) (rest ++ (x ∷ l)) b i head one (omega arith))
+        (ap (bytesHeard t l) (k .is) ∙ over-stopped t l (k .at) ∙ sym (k .is) ∙ long-alike t (rest ++ (x ∷ [])) (rest ++ (x ∷ l)) b i head one (omega arith))
 
-pub stretch-kept : (t : Table) (l : Bytes) (b : Book) (i : ℕ) (head rest : Bytes) → Unended rest l → length (rest ++ l) ≤ keptLine → over t l (going b i head rest) ≡ going b i head (rest ++ l)
+pub stretch-kept : (t : Table) (l : Bytes) (b : Book) (i : ℕ) (head rest : Bytes) → Unended rest l → length (rest ++ l) ≤ keptLine → bytesHeard t l (going b i head rest) ≡ going b i head (rest ++ l)
 stretch-kept t l b i head rest h few =
     let short : length rest ≤ keptLine = omega (arith, length-append rest l) in
     stretch-over t l b i head rest h short ∙ rw (le-leb (length (rest ++ l)) keptLine few)
 
 -- and one that ends the line lets it be taken
 pub line-over : (t : Table) (l : Bytes) (x : ℕ) (s : Bytes) (b : Book) (i : ℕ) (head rest : Bytes) → Unended rest l → length (rest ++ l) ≤ keptLine → endsLine (rest ++ l) x ≡ true →
-    over t (l ++ (x ∷ s)) (going b i head rest) ≡ over t s (lineHeard t (ended (rest ++ l)) b i head)
-unfolding over byteHeard
+    bytesHeard t (l ++ (x ∷ s)) (going b i head rest) ≡ bytesHeard t s (lineHeard t (ended (rest ++ l)) b i head)
+unfolding bytesHeard byteHeard
 line-over t l x s b i head rest h few e =
     over-join t l (x ∷ s) (going b i head rest)
-    ∙ ap (λ (c : Course). over t (x ∷ s) c) (stretch-kept t l b i head rest h few)
+    ∙ ap (λ (c : Course). bytesHeard t (x ∷ s) c) (stretch-kept t l b i head rest h few)
     ∙ rw e
 
 -- up to the first line feed, as `lines` finds it --------------------------------------------------------------------------------
@@ -98,26 +99,26 @@ splits (x ∷ s) h = go (eqb x 10) refl h (splits s)
 module _ (t : Table) (s : Bytes) (b : Book) (i : ℕ) (head rest : Bytes) where
   -- a line that ends in the part
   pub part-line : slipLength s < length s → length (rest ++ front s) ≤ keptLine →
-      over t s (going b i head rest) ≡ over t (drop (suc (slipLength s)) s) (lineHeard t (ended (rest ++ front s)) b i head)
+      bytesHeard t s (going b i head rest) ≡ bytesHeard t (drop (suc (slipLength s)) s) (lineHeard t (ended (rest ++ front s)) b i head)
   unfolding endsLine
   part-line h few =
-      ap (λ (z : Bytes). over t z (going b i head rest)) (splits s h)
+      ap (λ (z : Bytes). bytesHeard t z (going b i head rest)) (splits s h)
       ∙ line-over t (front s) 10 (drop (suc (slipLength s)) s) b i head rest (unfed-unended rest (front s) (front-unfed s)) few refl
 
   -- a line that is too long already: it stops the table
-  pub part-long : length rest ≤ keptLine → keptLine < length (rest ++ front s) → over t s (going b i head rest) ≡ lineHeard t (rest ++ front s) b i head
+  pub part-long : length rest ≤ keptLine → keptLine < length (rest ++ front s) → bytesHeard t s (going b i head rest) ≡ lineHeard t (rest ++ front s) b i head
   part-long few h =
       let k : Stops (lineHeard t (rest ++ front s) b i head) = long-stops t (rest ++ front s) b i head (omega arith) in
-      ap (λ (z : Bytes). over t z (going b i head rest)) (sym (take-append-drop (slipLength s) s))
+      ap (λ (z : Bytes). bytesHeard t z (going b i head rest)) (sym (take-append-drop (slipLength s) s))
       ∙ over-join t (front s) (drop (slipLength s) s) (going b i head rest)
-      ∙ ap (over t (drop (slipLength s) s)) (stretch-over t (front s) b i head rest (unfed-unended rest (front s) (front-unfed s)) few ∙ kept-long ∙ k .is)
+      ∙ ap (bytesHeard t (drop (slipLength s) s)) (stretch-over t (front s) b i head rest (unfed-unended rest (front s) (front-unfed s)) few ∙ kept-long ∙ k .is)
       ∙ over-stopped t (drop (slipLength s) s) (k .at) ∙ sym (k .is)
     where
       kept-long : (if leb (length (rest ++ front s)) keptLine then going b i head (rest ++ front s) else lineHeard t (rest ++ front s) b i head) ≡ lineHeard t (rest ++ front s) b i head
       kept-long = rw (lt-leb (length (rest ++ front s)) keptLine h)
 
   -- a line that does not end in the part
-  pub part-tail : length s ≤ slipLength s → length (rest ++ s) ≤ keptLine → over t s (going b i head rest) ≡ going b i head (rest ++ s)
+  pub part-tail : length s ≤ slipLength s → length (rest ++ s) ≤ keptLine → bytesHeard t s (going b i head rest) ≡ going b i head (rest ++ s)
   part-tail h few = stretch-kept t s b i head rest (unfed-unended rest s (subst Unfed (front-all s h) (front-unfed s))) few
 
 -- where nothing of the line came before, it is the line that `lines` finds

@@ -2,3 +2,4 @@
 pub mod Radio
 pub mod Rule
 pub mod Room
+pub mod Hearing

@@ -44,10 +44,16 @@ laidBook (leaves b) = laid b
 abbrev pub allClosed : ℕ
 allClosed = length tables
 
+abbrev pub firstHeard : ℕ
+firstHeard = suc allClosed
+
+abbrev pub lastHeard : ℕ
+lastHeard = allClosed + length tables
+
 abbrev pub laidTurn : Radio → ℕ
 laidTurn (awaits t r) = partOf t
 laidTurn (over r) = allClosed
-laidTurn (hears t a n c) = suc allClosed + partOf t
+laidTurn (hears t a n c) = firstHeard + partOf t
 
 -- the announced length, and how many bytes came
 abbrev pub laidCounts : Radio → List ℕ
@@ -66,8 +72,11 @@ laidLengths (hears t a n c) = courseLines c
 laidLengths (over r) = replicate 3 0
 
 -- 1 and a fault, or zeros
+abbrev pub laidPlace : Place → List ℕ
+laidPlace p = p .number ∷ p .table ∷ p .line ∷ p .column ∷ []
+
 abbrev pub laidFault : Result → List ℕ
-laidFault (refused p) = 1 ∷ p .number ∷ p .table ∷ p .line ∷ p .column ∷ []
+laidFault (refused p) = 1 ∷ laidPlace p
 laidFault (leaves b) = replicate 5 0
 
 abbrev pub laidNumbers : Radio → List ℕ
@@ -97,26 +106,49 @@ laidOut k = record { book = laidBook (standing k); numbers = laidNumbers k; line
 abbrev pub tableAt : ℕ → Table
 tableAt i = getD tables i Block
 
-abbrev pub numberAt : ℕ → Slices → ℕ
-numberAt i s = getD (s .numbers) i 0
+-- the numbers by their places
+abbrev pub turnOf : List ℕ → ℕ
+turnOf ns = getD ns 0 0
+
+abbrev pub announcedOf : List ℕ → ℕ
+announcedOf ns = getD ns 1 0
+
+abbrev pub comeOf : List ℕ → ℕ
+comeOf ns = getD ns 2 0
+
+abbrev pub lineOf : List ℕ → ℕ
+lineOf ns = getD ns 3 0
+
+abbrev pub headOf : List ℕ → ℕ
+headOf ns = getD ns 4 0
+
+abbrev pub restOf : List ℕ → ℕ
+restOf ns = getD ns 5 0
+
+abbrev pub flagOf : List ℕ → ℕ
+flagOf ns = getD ns 6 0
+
+abbrev pub placeOf : List ℕ → Place
+placeOf ns = place (getD ns 7 0) (getD ns 8 0) (getD ns 9 0) (getD ns 10 0)
 
 abbrev pub faultIn : Slices → Place
-faultIn s = place (numberAt 7 s) (numberAt 8 s) (numberAt 9 s) (numberAt 10 s)
+faultIn s = placeOf (s .numbers)
 
 abbrev pub resultIn : Slices → Result
-resultIn s = if eqb (numberAt 6 s) 0 then leaves (bookOf (s .book)) else refused (faultIn s)
+resultIn s = if eqb (flagOf (s .numbers)) 0 then leaves (bookOf (s .book)) else refused (faultIn s)
 
 abbrev pub courseIn : Slices → Course
 courseIn s =
-    if eqb (numberAt 6 s) 0 then going (bookOf (s .book)) (numberAt 3 s) (take (numberAt 4 s) (s .lines)) (take (numberAt 5 s) (drop mostLine (s .lines)))
+    let ns = s .numbers in
+    if eqb (flagOf ns) 0 then going (bookOf (s .book)) (lineOf ns) (take (headOf ns) (s .lines)) (take (restOf ns) (drop mostLine (s .lines)))
     else stopped (faultIn s)
 
 unfoldable pub radioIn : Slices → Radio
 radioIn s =
-    let turn = numberAt 0 s in
+    let turn = turnOf (s .numbers) in
     if ltb turn allClosed then awaits (tableAt turn) (resultIn s)
     else if eqb turn allClosed then over (resultIn s)
-    else hears (tableAt (turn - suc allClosed)) (numberAt 1 s) (numberAt 2 s) (courseIn s)
+    else hears (tableAt (turn - firstHeard)) (announcedOf (s .numbers)) (comeOf (s .numbers)) (courseIn s)
 
 -- the rule, and the calls ------------------------------------------------------------------------------------------------------------
 

@@ -11,7 +11,7 @@ use Rattle.tables.specs.declared.Table.{Table}
 use Rattle.tables.specs.declared.Table.the-variants.{VehicleType, Depot, Stop, StopPoint, Block}
 use Rattle.book.specs.Result.{Result, refused, leaves}
 use Rattle.radio.specs.Radio.{awaits, hears, announce, counted, begun}
-use Rattle.radio.specs.Room.{Slices, outcome, laidOut, tableAt, numberAt, resultIn, fits, keepsRadio, radioCall, openCall}
+use Rattle.radio.specs.Room.{Slices, outcome, laidOut, tableAt, resultIn, fits, keepsRadio, radioCall, openCall, radioNumbers, allClosed, turnOf}
 use Rattle.radio.proofs.Laying.{handed}
 use Rattle.radio_rule.specs.Lent.{slices}
 use Rattle.radio_slices.specs.Numbers.{emptySlices, numbersAnnounced}
@@ -22,7 +22,7 @@ module _ (b : List Row) (k : List ℕ) (l : Bytes) where
   pub not-fit : fits (slices b k l) ≡ false → openCall (slices b k l) ≡ outcome (nowhere badLoan) (slices b k l)
   not-fit e = rw e
 
-  pub opened : fits (slices b k l) ≡ true → (s : Slices) → s ≡ emptySlices (replicate 11 0) → outcome Accepted s ≡ openCall (slices b k l)
+  pub opened : fits (slices b k l) ≡ true → (s : Slices) → s ≡ emptySlices (replicate radioNumbers 0) → outcome Accepted s ≡ openCall (slices b k l)
   unfolding laidOut
   opened e s f = rw e (ap (outcome Accepted) f)
 
@@ -40,10 +40,10 @@ announced-laid StopPoint (leaves b) a = refl
 announced-laid Block (refused p) a = refl
 announced-laid Block (leaves b) a = refl
 
-pub announced : (s : Slices) → keepsRadio s ≡ true → (a : ℕ) → numberAt 0 s < 5
+pub announced : (s : Slices) → keepsRadio s ≡ true → (a : ℕ) → turnOf (s .numbers) < allClosed
     → outcome Accepted (slices (s .book) (numbersAnnounced (counted a) (s .numbers)) (s .lines)) ≡ radioCall (announce a) s
 announced s keeps a h =
-    let e : s ≡ laidOut (awaits (tableAt (numberAt 0 s)) (resultIn s)) = handed s keeps .is ∙ ap laidOut (is-awaited s h) in
+    let e : s ≡ laidOut (awaits (tableAt (turnOf (s .numbers))) (resultIn s)) = handed s keeps .is ∙ ap laidOut (is-awaited s h) in
     ap (λ (u : Slices). outcome Accepted (slices (u .book) (numbersAnnounced (counted a) (u .numbers)) (u .lines))) e
-    ∙ ap (outcome Accepted) (announced-laid (tableAt (numberAt 0 s)) (resultIn s) (counted a))
+    ∙ ap (outcome Accepted) (announced-laid (tableAt (turnOf (s .numbers))) (resultIn s) (counted a))
     ∙ sym (announced-in-turn s keeps a h)

@@ -14,8 +14,8 @@ use Rattle.tables.specs.declared.Table.{Table}
 use Rattle.tables.specs.declared.Table.the-variants.{VehicleType, Depot, Stop, StopPoint, Block}
 use Rattle.book.specs.Result.{Result}
 use Rattle.radio.specs.Radio.{Radio, awaits, hears, over, Call, announce, part, close, counted, begun, closing, next, after, inTurn, answer, standing, partTaken, byteTaken, verdictOf}
-use Rattle.radio.specs.Room.{Slices, outcome, laidOut, tableAt, numberAt, resultIn, courseIn, radioIn, keepsRadio, radioCall}
-use Rattle.radio.proofs.Hearing as hearing
+use Rattle.radio.specs.Room.{Slices, outcome, laidOut, tableAt, resultIn, courseIn, radioIn, keepsRadio, radioCall, firstHeard, allClosed, turnOf, announcedOf, comeOf}
+use Rattle.radio.specs.Hearing.{bytesHeard}
 use Rattle.radio.proofs.Counting.{part-taken}
 use Rattle.radio.proofs.Laying.{handed}
 use Rattle.radio_slices.specs.Hearing.{tableOf}
@@ -55,29 +55,29 @@ module _ (s : Slices) (keeps : keepsRadio s ≡ true) where
 -- the turns -------------------------------------------------------------------------------------------------------------------------
 
 module _ (s : Slices) where
-  no-announcing : (a : ℕ) → 5 ≤ numberAt 0 s → inTurn (announce a) (radioIn s) ≡ false
-  no-announcing a h = go (eqb (numberAt 0 s) 5) refl
+  no-announcing : (a : ℕ) → allClosed ≤ turnOf (s .numbers) → inTurn (announce a) (radioIn s) ≡ false
+  no-announcing a h = go (eqb (turnOf (s .numbers)) allClosed) refl
     where
-      go : (q : Bool) → eqb (numberAt 0 s) 5 ≡ q → inTurn (announce a) (radioIn s) ≡ false
-      go true e = ap (inTurn (announce a)) (is-over s (eqb-true (numberAt 0 s) 5 e))
-      go false e = let n : numberAt 0 s ≡ 5 → ⊥ = eqb-false (numberAt 0 s) 5 e in ap (inTurn (announce a)) (is-heard s (omega arith))
+      go : (q : Bool) → eqb (turnOf (s .numbers)) allClosed ≡ q → inTurn (announce a) (radioIn s) ≡ false
+      go true e = ap (inTurn (announce a)) (is-over s (eqb-true (turnOf (s .numbers)) allClosed e))
+      go false e = let n : turnOf (s .numbers) ≡ allClosed → ⊥ = eqb-false (turnOf (s .numbers)) allClosed e in ap (inTurn (announce a)) (is-heard s (omega arith))
 
   -- what holds while no table is heard
-  unheard : (P : Radio → Type 0) → ((t : Table) (r : Result) → P (awaits t r)) → ((r : Result) → P (over r)) → numberAt 0 s < 6 → P (radioIn s)
-  unheard P f g h = go (ltb (numberAt 0 s) 5) refl
+  unheard : (P : Radio → Type 0) → ((t : Table) (r : Result) → P (awaits t r)) → ((r : Result) → P (over r)) → turnOf (s .numbers) < firstHeard → P (radioIn s)
+  unheard P f g h = go (ltb (turnOf (s .numbers)) allClosed) refl
     where
-      go : (q : Bool) → ltb (numberAt 0 s) 5 ≡ q → P (radioIn s)
-      go true e = subst P (sym (is-awaited s (ltb-true (numberAt 0 s) 5 e))) (f _ _)
-      go false e = let l : 5 ≤ numberAt 0 s = ltb-false (numberAt 0 s) 5 e in subst P (sym (is-over s (omega arith))) (g _)
+      go : (q : Bool) → ltb (turnOf (s .numbers)) allClosed ≡ q → P (radioIn s)
+      go true e = subst P (sym (is-awaited s (ltb-true (turnOf (s .numbers)) allClosed e))) (f _ _)
+      go false e = let l : allClosed ≤ turnOf (s .numbers) = ltb-false (turnOf (s .numbers)) allClosed e in subst P (sym (is-over s (omega arith))) (g _)
 
   module _ (keeps : keepsRadio s ≡ true) where
-    pub late : (a : ℕ) → 5 ≤ numberAt 0 s → radioCall (announce a) s ≡ outcome (nowhere notThere) s
+    pub late : (a : ℕ) → allClosed ≤ turnOf (s .numbers) → radioCall (announce a) s ≡ outcome (nowhere notThere) s
     late a h = out-of-turn s keeps (announce a) (no-announcing a h)
 
-    pub no-part : (x : Bytes) → numberAt 0 s < 6 → radioCall (part x) s ≡ outcome (nowhere notThere) s
+    pub no-part : (x : Bytes) → turnOf (s .numbers) < firstHeard → radioCall (part x) s ≡ outcome (nowhere notThere) s
     no-part x h = out-of-turn s keeps (part x) (unheard (λ k. inTurn (part x) k ≡ false) (λ t r. refl) (λ r. refl) h)
 
-    pub no-close : numberAt 0 s < 6 → radioCall close s ≡ outcome (nowhere notThere) s
+    pub no-close : turnOf (s .numbers) < firstHeard → radioCall close s ≡ outcome (nowhere notThere) s
     no-close h = out-of-turn s keeps close (unheard (λ k. inTurn close k ≡ false) (λ t r. refl) (λ r. refl) h)
 
 -- in turn ---------------------------------------------------------------------------------------------------------------------------
@@ -86,31 +86,31 @@ in-turn : (s : Slices) → keepsRadio s ≡ true → (c : Call) (k : Radio) → 
 unfolding radioCall
 in-turn s keeps c k e = rw (keeps, e)
 
-pub announced-in-turn : (s : Slices) → keepsRadio s ≡ true → (a : ℕ) → numberAt 0 s < 5
-    → radioCall (announce a) s ≡ outcome Accepted (laidOut (hears (tableAt (numberAt 0 s)) (counted a) 0 (begun (resultIn s))))
-announced-in-turn s keeps a h = in-turn s keeps (announce a) (awaits (tableAt (numberAt 0 s)) (resultIn s)) (is-awaited s h)
+pub announced-in-turn : (s : Slices) → keepsRadio s ≡ true → (a : ℕ) → turnOf (s .numbers) < allClosed
+    → radioCall (announce a) s ≡ outcome Accepted (laidOut (hears (tableAt (turnOf (s .numbers))) (counted a) 0 (begun (resultIn s))))
+announced-in-turn s keeps a h = in-turn s keeps (announce a) (awaits (tableAt (turnOf (s .numbers))) (resultIn s)) (is-awaited s h)
 
-module _ (s : Slices) (keeps : keepsRadio s ≡ true) (h : 6 ≤ numberAt 0 s) where
+module _ (s : Slices) (keeps : keepsRadio s ≡ true) (h : firstHeard ≤ turnOf (s .numbers)) where
   abbrev table : Table
   table = tableOf (s .numbers)
 
   pub part-in-turn : (x : Bytes) → radioCall (part x) s
-      ≡ outcome Accepted (laidOut (hears table (numberAt 1 s) (counted (numberAt 2 s + length x)) (hearing.over table (take (numberAt 1 s - numberAt 2 s) x) (courseIn s))))
+      ≡ outcome Accepted (laidOut (hears table (announcedOf (s .numbers)) (counted (comeOf (s .numbers) + length x)) (bytesHeard table (take (announcedOf (s .numbers) - comeOf (s .numbers)) x) (courseIn s))))
   part-in-turn x =
-      let a = numberAt 1 s in
-      let n = numberAt 2 s in
+      let a = announcedOf (s .numbers) in
+      let n = comeOf (s .numbers) in
       let z : n + 0 ≡ n = omega arith in
       let e : counted n ≡ n = ap counted (sym z) ∙ within-the-count n 0 (omega (arith, heard-keeps s keeps h .come)) ∙ z in
-      let f : partTaken x (hears table a n (courseIn s)) ≡ hears table a (counted (n + length x)) (hearing.over table (take (a - n) x) (courseIn s)) =
+      let f : partTaken x (hears table a n (courseIn s)) ≡ hears table a (counted (n + length x)) (bytesHeard table (take (a - n) x) (courseIn s)) =
       ap (λ (m : ℕ). partTaken x (hears table a m (courseIn s))) (sym e) ∙ part-taken table a x n (courseIn s) (heard-keeps s keeps h .announced)
-      ∙ ap (λ (m : ℕ). hears table a (counted (n + length x)) (hearing.over table (take (a - m) x) (courseIn s))) e in
+      ∙ ap (λ (m : ℕ). hears table a (counted (n + length x)) (bytesHeard table (take (a - m) x) (courseIn s))) e in
       in-turn s keeps (part x) (hears table a n (courseIn s)) (is-heard s h) ∙ ap (λ (k : Radio). outcome Accepted (laidOut k)) f
 
   pub close-in-turn : radioCall close s
-      ≡ outcome (verdictOf (closing table (numberAt 1 s) (numberAt 2 s) (courseIn s))) (laidOut (next table (closing table (numberAt 1 s) (numberAt 2 s) (courseIn s))))
+      ≡ outcome (verdictOf (closing table (announcedOf (s .numbers)) (comeOf (s .numbers)) (courseIn s))) (laidOut (next table (closing table (announcedOf (s .numbers)) (comeOf (s .numbers)) (courseIn s))))
   close-in-turn =
-      let r = closing table (numberAt 1 s) (numberAt 2 s) (courseIn s) in
-      in-turn s keeps close (hears table (numberAt 1 s) (numberAt 2 s) (courseIn s)) (is-heard s h)
+      let r = closing table (announcedOf (s .numbers)) (comeOf (s .numbers)) (courseIn s) in
+      in-turn s keeps close (hears table (announcedOf (s .numbers)) (comeOf (s .numbers)) (courseIn s)) (is-heard s h)
       ∙ ap (λ (x : Result). outcome (verdictOf x) (laidOut (next table r))) (stands table r)
     where
       stands : (t : Table) (r : Result) → standing (next t r) ≡ r

@@ -5,7 +5,6 @@ use mathlib.Core.Bool.{false, not}
 use Prim.Native.Nat.{ℕ, zero, suc, _-_, _<_, _≤_}
 use native.Mathlib.Omega.{arith}
 use lib.Dec.{eqb}
-use lib.ListN.{getD}
 use borrow.Author.Tests.{lt-ltb, le-ltb, eq-eqb, ne-eqb}
 use Rattle.words.specs.Words.{Bytes, Row}
 use Rattle.refusals.specs.Verdicts.{textTooLong, lengthDiffers}
@@ -19,9 +18,10 @@ use Rattle.book.specs.Holding.{resultOf}
 use Rattle.book.specs.Result.{Result, refused, leaves}
 use Rattle.book.proofs.Laying.{laid-book}
 use Rattle.radio.specs.Radio.{next, lengthCheck}
-use Rattle.radio.specs.Room.{Slices, laidBook, laidFault, twoLines, laidOut, tableAt}
+use Rattle.radio.specs.Room.{Slices, laidBook, laidFault, twoLines, laidOut, tableAt, firstHeard, lastHeard, allClosed, turnOf, flagOf, placeOf}
 use Rattle.radio_rule.specs.Lent.{slices}
 use Rattle.radio_slices.specs.Numbers.{stoppedSlices}
+use Rattle.radio_slices.specs.Hearing.{tableOf}
 use Rattle.radio_slices.proofs.Slices.{slices-are}
 use Rattle.radio_closing.specs.Closing.{Settling, earlierFault}
 
@@ -30,7 +30,7 @@ use Rattle.radio_closing.specs.Closing.{Settling, earlierFault}
 abbrev settledNumbers : ℕ → Result → List ℕ
 settledNumbers turn r = turn ∷ 0 ∷ 0 ∷ 0 ∷ 0 ∷ 0 ∷ laidFault r
 
-settled : (i : ℕ) → i < 5 → (r : Result) → slices (laidBook r) (settledNumbers (suc i) r) (twoLines [] []) ≡ laidOut (next (tableAt i) r)
+settled : (i : ℕ) → i < allClosed → (r : Result) → slices (laidBook r) (settledNumbers (suc i) r) (twoLines [] []) ≡ laidOut (next (tableAt i) r)
 unfolding laidOut
 settled zero h r = refl
 settled (suc zero) h r = refl
@@ -39,23 +39,23 @@ settled (suc (suc (suc zero))) h r = refl
 settled (suc (suc (suc (suc zero)))) h r = refl
 settled (suc (suc (suc (suc (suc i))))) h r = absurd (omega arith)
 
-module _ (turn : ℕ) (heard : 6 ≤ turn) (last : turn ≤ 10) where
-  settled-turn : (r : Result) → slices (laidBook r) (settledNumbers (turn - 5) r) (twoLines [] []) ≡ laidOut (next (tableAt (turn - 6)) r)
+module _ (turn : ℕ) (heard : firstHeard ≤ turn) (last : turn ≤ lastHeard) where
+  settled-turn : (r : Result) → slices (laidBook r) (settledNumbers (turn - allClosed) r) (twoLines [] []) ≡ laidOut (next (tableAt (turn - firstHeard)) r)
   settled-turn r =
-      let e : turn - 5 ≡ suc (turn - 6) = omega arith in
-      ap (λ (n : ℕ). slices (laidBook r) (settledNumbers n r) (twoLines [] [])) e ∙ settled (turn - 6) (omega arith) r
+      let e : turn - allClosed ≡ suc (turn - firstHeard) = omega arith in
+      ap (λ (n : ℕ). slices (laidBook r) (settledNumbers n r) (twoLines [] [])) e ∙ settled (turn - firstHeard) (omega arith) r
 
-  pub settled-fault : (v : Verdict) (book : List Row) (p : Place) → v ≡ Refused p → (s : Slices) → s ≡ stoppedSlices (turn - 5) 0 0 p
-      → s ≡ laidOut (next (tableAt (turn - 6)) (resultOf v book))
-  settled-fault v book p e s f = f ∙ settled-turn (refused p) ∙ ap (λ (w : Verdict). laidOut (next (tableAt (turn - 6)) (resultOf w book))) (sym e)
+  pub settled-fault : (v : Verdict) (book : List Row) (p : Place) → v ≡ Refused p → (s : Slices) → s ≡ stoppedSlices (turn - allClosed) 0 0 p
+      → s ≡ laidOut (next (tableAt (turn - firstHeard)) (resultOf v book))
+  settled-fault v book p e s f = f ∙ settled-turn (refused p) ∙ ap (λ (w : Verdict). laidOut (next (tableAt (turn - firstHeard)) (resultOf w book))) (sym e)
 
 module _ (v : Verdict) (b : List Row) (k : List ℕ) (l : Bytes) (s : Settling v b k l) where
-  pub settled-book : v ≡ Accepted → (m : List ℕ) (n : Bytes) → m ≡ settledNumbers (getD k 0 0 - 5) (leaves (bookOf b)) → n ≡ twoLines [] []
-      → slices b m n ≡ laidOut (next (tableAt (getD k 0 0 - 6)) (resultOf v b))
+  pub settled-book : v ≡ Accepted → (m : List ℕ) (n : Bytes) → m ≡ settledNumbers (turnOf k - allClosed) (leaves (bookOf b)) → n ≡ twoLines [] []
+      → slices b m n ≡ laidOut (next (tableOf k) (resultOf v b))
   settled-book e m n p q =
-      slices-are b (laid (bookOf b)) m (settledNumbers (getD k 0 0 - 5) (leaves (bookOf b))) n (twoLines [] []) (sym (laid-book b (s .sound e))) p q
-      ∙ settled-turn (getD k 0 0) (s .heard) (s .last) (leaves (bookOf b))
-      ∙ ap (λ (w : Verdict). laidOut (next (tableAt (getD k 0 0 - 6)) (resultOf w b))) (sym e)
+      slices-are b (laid (bookOf b)) m (settledNumbers (turnOf k - allClosed) (leaves (bookOf b))) n (twoLines [] []) (sym (laid-book b (s .sound e))) p q
+      ∙ settled-turn (turnOf k) (s .heard) (s .last) (leaves (bookOf b))
+      ∙ ap (λ (w : Verdict). laidOut (next (tableOf k) (resultOf w b))) (sym e)
 
 -- the lengths -----------------------------------------------------------------------------------------------------------------------
 
@@ -72,8 +72,8 @@ module _ (a n : ℕ) where
 -- the fault of an earlier table -------------------------------------------------------------------------------------------------------
 
 module _ (table : ℕ) (k : List ℕ) where
-  pub no-fault : getD k 6 0 ≡ 0 → false ≡ earlierFault table k
-  no-fault e = rw (eq-eqb (getD k 6 0) 0 e)
+  pub no-fault : flagOf k ≡ 0 → false ≡ earlierFault table k
+  no-fault e = rw (eq-eqb (flagOf k) 0 e)
 
-  pub whose-fault : (getD k 6 0 ≡ 0 → ⊥) → not (eqb (getD k 8 0) table) ≡ earlierFault table k
-  whose-fault d = rw (ne-eqb (getD k 6 0) 0 d)
+  pub whose-fault : (flagOf k ≡ 0 → ⊥) → not (eqb (placeOf k .table) table) ≡ earlierFault table k
+  whose-fault d = rw (ne-eqb (flagOf k) 0 d)

@@ -5,21 +5,22 @@ use mathlib.Core.List.{List}
 use mathlib.Core.Bool.{Bool, false, not, _&&_}
 use Prim.Native.Nat.{ℕ, _≤_}
 use lib.Dec.{eqb}
-use lib.ListN.{length, getD}
+use lib.ListN.{length}
 use Rattle.words.specs.Words.{Bytes, Row, if_then_else_}
 use Rattle.refusals.specs.declared.Verdict.{Verdict}
 use Rattle.refusals.specs.declared.Verdict.the-variants.{Accepted}
 use Rattle.tables.specs.Parts.{bookRows}
 use Rattle.book.specs.Holding.{Sound, resultOf}
 use Rattle.book.specs.Result.{Result}
+use Rattle.radio.specs.Room.{radioNumbers, radioBytes, firstHeard, lastHeard, turnOf, lineOf, restOf, flagOf, placeOf}
 
 -- a fault is kept, and it is not this table's
 abbrev pub earlierFault : ℕ → List ℕ → Bool
-earlierFault table kept = if eqb (getD kept 6 0) 0 then false else not (eqb (getD kept 8 0) table)
+earlierFault table kept = if eqb (flagOf kept) 0 then false else not (eqb (placeOf kept .table) table)
 
 -- whether no line is left: "after a final line feed no further line begins", and the header line always is one
 abbrev pub noneLeft : List ℕ → Bool
-noneLeft kept = not (eqb (getD kept 3 0) 1) && eqb (getD kept 5 0) 0
+noneLeft kept = not (eqb (lineOf kept) 1) && eqb (restOf kept) 0
 
 -- a table came to this: where it is accepted, the slice holds a book
 pub record Comes (r : Result) (v : Verdict) (book : List Row) : Type 0 where
@@ -29,8 +30,8 @@ pub record Comes (r : Result) (v : Verdict) (book : List Row) : Type 0 where
 -- a table that is heard is closed with this verdict: where it is accepted, the slice holds a book
 pub record Settling (v : Verdict) (book : List Row) (kept : List ℕ) (lines : Bytes) : Type 0 where
   pub rows : length book ≡ bookRows
-  pub numbers : length kept ≡ 11
-  pub bytes : length lines ≡ 4097
-  pub heard : 6 ≤ getD kept 0 0
-  pub last : getD kept 0 0 ≤ 10
+  pub numbers : length kept ≡ radioNumbers
+  pub bytes : length lines ≡ radioBytes
+  pub heard : firstHeard ≤ turnOf kept
+  pub last : turnOf kept ≤ lastHeard
   pub sound : v ≡ Accepted → Sound book

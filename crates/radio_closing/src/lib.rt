@@ -1,12 +1,12 @@
 // A table that is closed: 1, 18, its last line; and the next turn.
 ghost use mathlib.Core.Path.{_≡_};
 ghost use Prim.Native.Nat.{_+_, _-_, _<_, _^_};
-ghost use lib.ListN.{length, getD, take, drop};
-ghost use Rattle.refusals.specs.Verdicts.{place};
+ghost use lib.ListN.{length, take, drop};
+ghost use Rattle.lines.specs.Lines.{mostLine};
 ghost use Rattle.book.specs.Holding.{resultOf};
 ghost use Rattle.book.specs.Room.{bookOf};
 ghost use Rattle.radio.specs.Radio as radio;
-ghost use Rattle.radio.specs.Room.{tableAt, laidOut, courseIn};
+ghost use Rattle.radio.specs.Room.{laidOut, courseIn, radioNumbers, announcedOf, comeOf, placeOf};
 ghost use Rattle.radio_rule.specs.Lent.{slices};
 ghost use Rattle.radio_hearing.specs.Hearing.{Holding};
 ghost use Rattle.radio_slices.specs.Hearing.{tableOf, Hears};
@@ -34,8 +34,8 @@ use tables::Table;
 
 // The fault that is kept.
 fn kept_fault(kept: &[u64]) -> Place
-    requires { ⌜ length (now kept) ≡ 11 ⌝ }
-    ensures { λ r. ⌜ r ≡ place (getD (now (kept .entry)) 7 0) (getD (now (kept .entry)) 8 0) (getD (now (kept .entry)) 9 0) (getD (now (kept .entry)) 10 0) ⌝ }
+    requires { ⌜ length (now kept) ≡ radioNumbers ⌝ }
+    ensures { λ r. ⌜ r ≡ placeOf (now (kept .entry)) ⌝ }
 {
     Place::new(
         kept[FAULT_NUMBER],
@@ -60,7 +60,7 @@ fn judge_length(announced: u64, come: u64) -> Check
 
 // Whether the fault that is kept is an earlier table's.
 fn faulty_before(table: u64, kept: &[u64]) -> bool
-    requires { ⌜ length (now kept) ≡ 11 ⌝ }
+    requires { ⌜ length (now kept) ≡ radioNumbers ⌝ }
     ensures { λ r. ⌜ r ≡ earlierFault table (now (kept .entry)) ⌝ }
 {
     if kept[FAULT] == 0 {
@@ -70,7 +70,7 @@ fn faulty_before(table: u64, kept: &[u64]) -> bool
 }
 
 fn none_left(kept: &[u64]) -> bool
-    requires { ⌜ length (now kept) ≡ 11 ⌝ }
+    requires { ⌜ length (now kept) ≡ radioNumbers ⌝ }
     ensures { λ r. ⌜ r ≡ noneLeft (now (kept .entry)) ⌝ }
 {
     if kept[LINE] == Place::HEADER_LINE {
@@ -82,7 +82,7 @@ fn none_left(kept: &[u64]) -> bool
 // "A last line may lack its line feed": the unfinished line is the last. It is copied, for its room is lent on.
 fn last_line(t: Table, book: &mut [Row], lines: &mut [u8], from: Heard) -> Verdict
     requires { ⌜ Holding t from (now book) (now lines) × (from .line + 1 < 2 ^ 64) ⌝ }
-    ensures { λ r. ⌜ Comes (radio.cameTo (radio.lineHeard t (take (from .rest) (drop 2048 (now (lines .entry)))) (bookOf (now (book .entry))) (from .line) (take (from .head) (now (lines .entry))))) r (now (book .exit)) ⌝ }
+    ensures { λ r. ⌜ Comes (radio.cameTo (radio.lineHeard t (take (from .rest) (drop mostLine (now (lines .entry)))) (bookOf (now (book .entry))) (from .line) (take (from .head) (now (lines .entry))))) r (now (book .exit)) ⌝ }
 {
     let rest = from.rest;
     let mut room = [0u8; REST];
@@ -109,7 +109,7 @@ fn finish(t: Table, book: &mut [Row], kept: &[u64], lines: &mut [u8]) -> Verdict
 // A table is closed: "The first fault ends the reading", and 1 or 18 stands "in place of that table's other faults".
 pub fn close_table(t: Table, book: &mut [Row], kept: &[u64], lines: &mut [u8]) -> Verdict
     requires { ⌜ Hears (now book) (now kept) (now lines) × (t ≡ tableOf (now kept)) ⌝ }
-    ensures { λ r. ⌜ Comes (radio.closing t (getD (now (kept .entry)) 1 0) (getD (now (kept .entry)) 2 0) (courseIn (slices (now (book .entry)) (now (kept .entry)) (now (lines .entry))))) r (now (book .exit)) ⌝ }
+    ensures { λ r. ⌜ Comes (radio.closing t (announcedOf (now (kept .entry))) (comeOf (now (kept .entry))) (courseIn (slices (now (book .entry)) (now (kept .entry)) (now (lines .entry))))) r (now (book .exit)) ⌝ }
 {
     if faulty_before(t.number(), kept) {
         return Verdict::Refused(kept_fault(kept));
@@ -125,7 +125,7 @@ pub fn close_table(t: Table, book: &mut [Row], kept: &[u64], lines: &mut [u8]) -
 // The next table is to be announced, or all are closed.
 pub fn settle(verdict: Verdict, book: &mut [Row], kept: &mut [u64], lines: &mut [u8])
     requires { ⌜ Settling verdict (now book) (now kept) (now lines) ⌝ }
-    ensures { λ _. ⌜ slices (now (book .exit)) (now (kept .exit)) (now (lines .exit)) ≡ laidOut (radio.next (tableAt (getD (now (kept .entry)) 0 0 - 6)) (resultOf verdict (now (book .entry)))) ⌝ }
+    ensures { λ _. ⌜ slices (now (book .exit)) (now (kept .exit)) (now (lines .exit)) ≡ laidOut (radio.next (tableOf (now (kept .entry))) (resultOf verdict (now (book .entry)))) ⌝ }
 {
     let turn = kept[TURN] - OVER;
     match verdict {

@@ -18,8 +18,7 @@ use Rattle.refusals.specs.declared.Place.{Place}
 use Rattle.refusals.specs.declared.Verdict.{Verdict}
 use Rattle.refusals.specs.declared.Verdict.the-variants.{Accepted, Refused}
 use Rattle.refusals.proofs.Placing.{placed-passes}
-use Rattle.lines.specs.Lines.{mostLine}
-use Rattle.lines.specs.Lines.{lines as linesOf}
+use Rattle.lines.specs.Lines.{mostLine, lines as linesOf}
 use Rattle.lines.specs.Ends.{lineAt, slipLineAt, lineLength, slipLength}
 use Rattle.lines.specs.declared.Line.{Line}
 use Rattle.numbers.specs.Putting.{put}
@@ -46,7 +45,8 @@ use Rattle.table_lines.specs.Reading.{judged, lineAfter, rowsRead}
 use Rattle.table_lines.specs.Taking.{linesAfter}
 use Rattle.table_lines.proofs.Taking.{line-next}
 use Rattle.radio.specs.Radio.{Course, stopped, going, onward, headerIn, lineHeard, keptLine, ended}
-use Rattle.radio.proofs.Hearing.{over, over-stopped, long-judged, long-headed}
+use Rattle.radio.specs.Hearing.{bytesHeard}
+use Rattle.radio.proofs.Hearing.{over-stopped, long-judged, long-headed}
 use Rattle.radio_hearing.specs.Hearing.{courseHeld, kept, Holding, CameTo, Stopping, Finished, Feedless}
 use Rattle.radio_hearing.specs.declared.Heard.{Heard}
 use Rattle.radio_hearing.proofs.Bytes.{length-put, from-begin, to-end, behind-kept}
@@ -170,20 +170,20 @@ module _ (t : Table) (from : Heard) (book book′ : List Row) (lines : Bytes) (h
 
   pub body-came : (body front : Bytes) → front ≡ head → 2 ≤ from .line → from .rest ≡ 0 → Finished [] body → (next : ℕ) → (v ≡ Accepted → next ≡ linesAfter (from .line) (linesOf body))
       → resultOf v book′ ≡ rowsRead t (headerIn t front) (from .line) (linesOf body) (bookOf book)
-      → CameTo t (over t body (kept from book lines)) book′ lines (record { verdict = v; line = next; head = from .head; rest = 0 })
+      → CameTo t (bytesHeard t body (kept from book lines)) book′ lines (record { verdict = v; line = next; head = from .head; rest = 0 })
   body-came body front f two none fed next after e =
       record {
         is = held-coursed v book′ lines next (from .head)
             ∙ coursed-line v book′ next _ head after
             ∙ ap (λ (r : Result). coursed r (linesAfter (from .line) (linesOf body)) head) (e ∙ ap (λ (h : Bytes). rowsRead t (headerIn t h) (from .line) (linesOf body) (bookOf book)) f)
-            ∙ sym (ap (λ (k : ℕ). over t body (going (bookOf book) (from .line) head (take k (drop mostLine lines)))) none ∙ rows-came t head body (bookOf book) (from .line) two fed);
+            ∙ sym (ap (λ (k : ℕ). bytesHeard t body (going (bookOf book) (from .line) head (take k (drop mostLine lines)))) none ∙ rows-came t head body (bookOf book) (from .line) two fed);
         holds = rows-hold t from book book′ lines hold v sound named next (λ a. omega (arith, after a, two, lines-low (from .line) (linesOf body))) (λ z. omega arith);
       }
 
 -- no bytes
 pub none-came : (t : Table) (from : Heard) (book : List Row) (lines : Bytes) → Holding t from book lines → (body : Bytes) → length body ≡ 0 → from .rest ≡ 0
-    → CameTo t (over t body (kept from book lines)) book lines (record { verdict = Accepted; line = from .line; head = from .head; rest = 0 })
-unfolding over
+    → CameTo t (bytesHeard t body (kept from book lines)) book lines (record { verdict = Accepted; line = from .line; head = from .head; rest = 0 })
+unfolding bytesHeard
 none-came t from book lines hold [] e none =
     record {
       is = ap (λ (k : ℕ). going (bookOf book) (from .line) (take (from .head) lines) (take k (drop mostLine lines))) (sym none);
@@ -224,17 +224,17 @@ module _ (t : Table) (from : Heard) (book : List Row) (lines : Bytes) (hold : Ho
   came = take (from .rest) (drop mostLine lines)
 
   pub long-came : (s : Bytes) (v : Verdict) → keptLine - from .rest < length (front s) → ((l head : Bytes) → mostLine < length l → Stopping v (lineHeard t l (bookOf book) (from .line) head))
-      → (lines′ : Bytes) → CameTo t (over t s (kept from book lines)) book lines′ (record { verdict = v; line = from .line; head = from .head; rest = from .rest })
+      → (lines′ : Bytes) → CameTo t (bytesHeard t s (kept from book lines)) book lines′ (record { verdict = v; line = from .line; head = from .head; rest = from .rest })
   long-came s v few stop lines′ =
       let n : length came ≡ from .rest = rest-length t from book lines hold in
       let long : keptLine < length (came ++ front s) = omega (arith, length-append came (front s), n, few, hold .rests) in
       let head : Bytes = take (from .head) lines in
       let k : Stopping v (lineHeard t (came ++ front s) (bookOf book) (from .line) head) = stop (came ++ front s) head (omega arith) in
-      let is : over t s (kept from book lines) ≡ lineHeard t (came ++ front s) (bookOf book) (from .line) head = part-long t s (bookOf book) (from .line) head came (omega (arith, n, hold .rests)) long in
-      stopped-came t v (over t s (kept from book lines)) (record { at = k .at; refused = k .refused; is = is ∙ k .is }) book lines′ (from .line) (from .head) (from .rest)
+      let is : bytesHeard t s (kept from book lines) ≡ lineHeard t (came ++ front s) (bookOf book) (from .line) head = part-long t s (bookOf book) (from .line) head came (omega (arith, n, hold .rests)) long in
+      stopped-came t v (bytesHeard t s (kept from book lines)) (record { at = k .at; refused = k .refused; is = is ∙ k .is }) book lines′ (from .line) (from .head) (from .rest)
 
   pub tail-came : (tail ys : Bytes) → Feedless tail → from .rest + length tail ≤ keptLine → ys ≡ put tail (rest lines (mostLine + from .rest)) → (n : ℕ) → n ≡ length tail
-      → CameTo t (over t tail (kept from book lines)) book (back lines (mostLine + from .rest) ys) (record { verdict = Accepted; line = from .line; head = from .head; rest = from .rest + n })
+      → CameTo t (bytesHeard t tail (kept from book lines)) book (back lines (mostLine + from .rest) ys) (record { verdict = Accepted; line = from .line; head = from .head; rest = from .rest + n })
   tail-came tail ys unfed few ey n en =
       record {
         is = ap (λ (h : Bytes). going (bookOf book) (from .line) h (take (from .rest + n) (drop mostLine lines′))) heads
@@ -265,22 +265,22 @@ module _ (t : Table) (from : Heard) (book : List Row) (lines : Bytes) (hold : Ho
       heads = both .0 (from .head) (hold .heads)
 
 -- the bytes of a part in turn: a refusal stays, and what goes on goes on
-module _ (t : Table) (b : Bytes) (c all : Course) (whole : all ≡ over t b c) (h : Heard) (book : List Row) (lines : Bytes) (k : CameTo t c book lines h) where
+module _ (t : Table) (b : Bytes) (c all : Course) (whole : all ≡ bytesHeard t b c) (h : Heard) (book : List Row) (lines : Bytes) (k : CameTo t c book lines h) where
   pub stays-stopped : (p : Place) → h .verdict ≡ Refused p → (book′ : List Row) (lines′ : Bytes) → CameTo t all book′ lines′ h
   stays-stopped p r book′ lines′ =
       let at : c ≡ stopped p = sym (k .is) ∙ ap (λ (v : Verdict). courseHeld v (h .line) (h .head) (h .rest) book lines) r in
       record {
-        is = ap (λ (v : Verdict). courseHeld v (h .line) (h .head) (h .rest) book′ lines′) r ∙ sym (whole ∙ ap (over t b) at ∙ over-stopped t b p);
+        is = ap (λ (v : Verdict). courseHeld v (h .line) (h .head) (h .rest) book′ lines′) r ∙ sym (whole ∙ ap (bytesHeard t b) at ∙ over-stopped t b p);
         holds = λ q. not-accepted p (sym r ∙ q);
       }
 
-  pub goes-on : h .verdict ≡ Accepted → (book′ : List Row) (lines′ : Bytes) (r : Heard) → CameTo t (over t b (kept h book lines)) book′ lines′ r → CameTo t all book′ lines′ r
+  pub goes-on : h .verdict ≡ Accepted → (book′ : List Row) (lines′ : Bytes) (r : Heard) → CameTo t (bytesHeard t b (kept h book lines)) book′ lines′ r → CameTo t all book′ lines′ r
   goes-on q book′ lines′ r n =
       let at : kept h book lines ≡ c = ap (λ (v : Verdict). courseHeld v (h .line) (h .head) (h .rest) book lines) (sym q) ∙ k .is in
-      subst (λ (x : Course). CameTo t x book′ lines′ r) (ap (over t b) at ∙ sym whole) n
+      subst (λ (x : Course). CameTo t x book′ lines′ r) (ap (bytesHeard t b) at ∙ sym whole) n
 
-pub over-parted : (t : Table) (s a b : Bytes) (c : Course) → s ≡ a ++ b → over t s c ≡ over t b (over t a c)
-over-parted t s a b c e = ap (λ (z : Bytes). over t z c) e ∙ over-join t a b c
+pub over-parted : (t : Table) (s a b : Bytes) (c : Course) → s ≡ a ++ b → bytesHeard t s c ≡ bytesHeard t b (bytesHeard t a c)
+over-parted t s a b c e = ap (λ (z : Bytes). bytesHeard t z c) e ∙ over-join t a b c
 
 -- the line that ends in a part ------------------------------------------------------------------------------------------------------------
 
@@ -305,15 +305,15 @@ front-length s feed f h = length-take-le (slipLength s) s (omega arith) ∙ sym 
 
 -- the bytes behind the line, and the rows of a part and what is left
 pub behind-line : (t : Table) (s : Bytes) (from : Heard) (book : List Row) (lines : Bytes) → Holding t from book lines → (feed : ℕ) → feed ≡ slipLength s → feed < length s → feed ≤ keptLine - from .rest
-    → over t s (kept from book lines) ≡ over t (drop (feed + 1) s) (lineHeard t (ended (take (from .rest) (drop mostLine lines) ++ take feed s)) (bookOf book) (from .line) (take (from .head) lines))
+    → bytesHeard t s (kept from book lines) ≡ bytesHeard t (drop (feed + 1) s) (lineHeard t (ended (take (from .rest) (drop mostLine lines) ++ take feed s)) (bookOf book) (from .line) (take (from .head) lines))
 behind-line t s from book lines hold feed f h few =
     let came : Bytes = take (from .rest) (drop mostLine lines) in
     let head : Bytes = take (from .head) lines in
     let n : length came ≡ from .rest = rest-length t from book lines hold in
     let m : length (front s) ≡ feed = front-length s feed f h in
     part-line t s (bookOf book) (from .line) head came (omega arith) (omega (arith, length-append came (front s), n, m, hold .rests))
-    ∙ ap (λ (k : ℕ). over t (drop k s) (lineHeard t (ended (came ++ front s)) (bookOf book) (from .line) head)) (ap suc (sym f) ∙ sym (add-one feed))
-    ∙ ap (λ (k : ℕ). over t (drop (feed + 1) s) (lineHeard t (ended (came ++ take k s)) (bookOf book) (from .line) head)) (sym f)
+    ∙ ap (λ (k : ℕ). bytesHeard t (drop k s) (lineHeard t (ended (came ++ front s)) (bookOf book) (from .line) head)) (ap suc (sym f) ∙ sym (add-one feed))
+    ∙ ap (λ (k : ℕ). bytesHeard t (drop (feed + 1) s) (lineHeard t (ended (came ++ take k s)) (bookOf book) (from .line) head)) (sym f)
 
 parted : (s : Bytes) (a e : ℕ) → a ≤ e → drop a s ≡ take (e - a) (drop a s) ++ drop e s
 parted s a e h =

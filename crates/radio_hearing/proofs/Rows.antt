@@ -22,7 +22,8 @@ use Rattle.table_lines.specs.Reading.{judged, lineAfter, rowsRead}
 use Rattle.table_lines.specs.Taking.{linesAfter}
 use Rattle.radio.specs.Radio.{Course, stopped, going, onward, headerIn, lineHeard, rowHeard, byteHeard, ended, endsLine, keptLine}
 use Rattle.radio.proofs.Parting.{linesFrom, lines-all, FirstLong, first-long}
-use Rattle.radio.proofs.Hearing.{over, over-stopped, long-judged, line-after}
+use Rattle.radio.specs.Hearing.{bytesHeard}
+use Rattle.radio.proofs.Hearing.{over-stopped, long-judged, line-after}
 use Rattle.radio_hearing.specs.Hearing.{Finished}
 
 -- what a result of rows comes to behind them, on line i
@@ -51,19 +52,19 @@ row-heard t line b i head n = rw (ne-eqb i 1 n)
 module _ (t : Table) (head : Bytes) where
   -- a long line stops the table
   long-row : (s l : Bytes) (ls : List Bytes) (b : Book) (i : ℕ) → 2 ≤ i → mostLine < length l → (m : Bytes) → mostLine < length m →
-      over t s (lineHeard t l b i head) ≡ coursed (rowsRead t (headerIn t head) i (m ∷ ls) b) (linesAfter i (m ∷ ls)) head
+      bytesHeard t s (lineHeard t l b i head) ≡ coursed (rowsRead t (headerIn t head) i (m ∷ ls) b) (linesAfter i (m ∷ ls)) head
   unfolding rowsRead
   long-row s l ls b i two n m k =
       rw (row-heard t l b i head (λ e. omega arith), long-judged t (headerIn t head) l b n, long-judged t (headerIn t head) m b k) (go (full t b))
     where
-      go : (q : Bool) → over t s (onward (placed (number t) i (tooManyRows when q ⊳ lineTooLong)) (going (entered t (rowRead t (headerIn t head) l) b) (lineAfter i l) head []))
+      go : (q : Bool) → bytesHeard t s (onward (placed (number t) i (tooManyRows when q ⊳ lineTooLong)) (going (entered t (rowRead t (headerIn t head) l) b) (lineAfter i l) head []))
           ≡ coursed (unless (placed (number t) i (tooManyRows when q ⊳ lineTooLong)) (rowsRead t (headerIn t head) (lineAfter i m) ls (entered t (rowRead t (headerIn t head) m) b))) (linesAfter i (m ∷ ls)) head
       go true = over-stopped t s _
       go false = over-stopped t s _
 
   rows-coursed : (s : Bytes) (b : Book) (i : ℕ) (rest : Bytes) → 2 ≤ i → length rest ≤ keptLine → Finished rest s →
-      over t s (going b i head rest) ≡ coursed (rowsRead t (headerIn t head) i (linesFrom rest s) b) (linesAfter i (linesFrom rest s)) head
-  unfolding over linesFrom rowsRead byteHeard Finished linesAfter
+      bytesHeard t s (going b i head rest) ≡ coursed (rowsRead t (headerIn t head) i (linesFrom rest s) b) (linesAfter i (linesFrom rest s)) head
+  unfolding bytesHeard linesFrom rowsRead byteHeard Finished linesAfter
   rows-coursed [] b i [] two few fed = refl
   rows-coursed [] b i (x ∷ xs) two few fed = let z : _≡_ {A = ℕ} (length (x ∷ xs)) 0 = ap length fed in absurd (omega arith)
   rows-coursed (x ∷ s) b i rest two few fed =
@@ -73,17 +74,17 @@ module _ (t : Table) (head : Bytes) where
       came ls j c = coursed (rowsRead t (headerIn t head) j ls c) (linesAfter j ls) head
 
       IH : Type 0
-      IH = (c : Book) (j : ℕ) → 2 ≤ j → Finished [] s → over t s (going c j head []) ≡ came (linesFrom [] s) j c
+      IH = (c : Book) (j : ℕ) → 2 ≤ j → Finished [] s → bytesHeard t s (going c j head []) ≡ came (linesFrom [] s) j c
 
       row : (line : Bytes) (v : Verdict) → IH → Finished [] s →
-          over t s (onward v (going (entered t (rowRead t (headerIn t head) line) b) (lineAfter i line) head []))
+          bytesHeard t s (onward v (going (entered t (rowRead t (headerIn t head) line) b) (lineAfter i line) head []))
           ≡ coursed (unless v (rowsRead t (headerIn t head) (lineAfter i line) (linesFrom [] s) (entered t (rowRead t (headerIn t head) line) b))) (linesAfter (lineAfter i line) (linesFrom [] s)) head
       row line Accepted ih f = ih _ (lineAfter i line) (omega (arith, line-after i line)) f
       row line (Refused p) ih f = over-stopped t s p
 
       go : (q : Bool) → endsLine rest x ≡ q → (u : Bool) → ltb (length rest) keptLine ≡ u → Finished (if q then [] else rest ++ (x ∷ [])) s → IH →
-          (length (rest ++ (x ∷ [])) ≤ keptLine → Finished (rest ++ (x ∷ [])) s → over t s (going b i head (rest ++ (x ∷ []))) ≡ came (linesFrom (rest ++ (x ∷ [])) s) i b) →
-          over t s (byteHeard t x (going b i head rest))
+          (length (rest ++ (x ∷ [])) ≤ keptLine → Finished (rest ++ (x ∷ [])) s → bytesHeard t s (going b i head (rest ++ (x ∷ []))) ≡ came (linesFrom (rest ++ (x ∷ [])) s) i b) →
+          bytesHeard t s (byteHeard t x (going b i head rest))
           ≡ came (if q then ended rest ∷ linesFrom [] s else linesFrom (rest ++ (x ∷ [])) s) i b
       go true e u f fin ih more = rw (e, row-heard t (ended rest) b i head (λ z. omega arith)) (row (ended rest) (placed (number t) i (judged t (headerIn t head) (ended rest) b)) ih fin)
       go false e true f fin ih more = rw (e, f) (more (rw length-append (omega (arith, ltb-true (length rest) keptLine f))) fin)
@@ -92,5 +93,5 @@ module _ (t : Table) (head : Bytes) where
           let first : FirstLong (linesFrom (rest ++ (x ∷ [])) s) = first-long (rest ++ (x ∷ [])) s long in
           rw (e, f, first .is) (long-row s (rest ++ (x ∷ [])) (first .behind) b i two (omega arith) (first .line) (first .long))
 
-  pub rows-came : (s : Bytes) (b : Book) (i : ℕ) → 2 ≤ i → Finished [] s → over t s (going b i head []) ≡ coursed (rowsRead t (headerIn t head) i (lines s) b) (linesAfter i (lines s)) head
+  pub rows-came : (s : Bytes) (b : Book) (i : ℕ) → 2 ≤ i → Finished [] s → bytesHeard t s (going b i head []) ≡ coursed (rowsRead t (headerIn t head) i (lines s) b) (linesAfter i (lines s)) head
   rows-came s b i two fed = rows-coursed s b i [] two (omega arith) fed ∙ ap (λ (ls : List Bytes). coursed (rowsRead t (headerIn t head) i ls b) (linesAfter i ls) head) (lines-all s)

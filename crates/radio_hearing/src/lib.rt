@@ -20,7 +20,7 @@ ghost use Rattle.row_line.specs.RowLine.{rowRead};
 ghost use Rattle.table_lines.specs.Reading.{judged};
 ghost use Rattle.radio.specs.Radio.{keptLine, lineHeard, headerIn, ended};
 ghost use Rattle.radio.specs.Room.{radioBytes};
-ghost use Rattle.radio.proofs.Hearing.{over};
+ghost use Rattle.radio.specs.Hearing.{bytesHeard};
 ghost use Rattle.radio_hearing.specs.Hearing.{kept, Holding, CameTo, Stopping, Feedless, Finished, BehindFeeds};
 use lines::MOST_LINE;
 use number_lines::LINE_FEED;
@@ -160,7 +160,7 @@ fn end_line(
 // Bytes without a line feed: they are kept behind those that came, or the line is too long.
 fn keep_tail(tail: &[u8], t: Table, book: &[Row], lines: &mut [u8], from: Heard) -> Heard
     requires { ⌜ Holding t from (now book) (now lines) × Feedless (now tail) ⌝ }
-    ensures { λ r. ⌜ CameTo t (over t (now (tail .entry)) (kept from (now (book .entry)) (now (lines .entry)))) (now (book .entry)) (now (lines .exit)) r ⌝ }
+    ensures { λ r. ⌜ CameTo t (bytesHeard t (now (tail .entry)) (kept from (now (book .entry)) (now (lines .entry)))) (now (book .entry)) (now (lines .exit)) r ⌝ }
 {
     let line = from.line;
     let head = from.head;
@@ -201,7 +201,7 @@ fn behind_last_feed(part: &[u8], from: usize) -> usize
 // Rows that are finished, read where they lie.
 fn hear_rows(body: &[u8], t: Table, book: &mut [Row], lines: &[u8], from: Heard) -> Heard
     requires { ⌜ Holding t from (now book) (now lines) × (2 ≤ from .line) × (from .line + length (now body) < 2 ^ 64) × (from .rest ≡ 0) × Finished [] (now body) ⌝ }
-    ensures { λ r. ⌜ CameTo t (over t (now (body .entry)) (kept from (now (book .entry)) (now (lines .entry)))) (now (book .exit)) (now (lines .entry)) r ⌝ }
+    ensures { λ r. ⌜ CameTo t (bytesHeard t (now (body .entry)) (kept from (now (book .entry)) (now (lines .entry)))) (now (book .exit)) (now (lines .entry)) r ⌝ }
 {
     let line = from.line;
     let head = from.head;
@@ -237,7 +237,7 @@ fn hear_behind(
     from: Heard,
 ) -> Heard
     requires { ⌜ Holding t from (now book) (now lines) × (start ≤ length (now part)) × (2 ≤ from .line) × (from .line + length (now part) < 2 ^ 64) × (from .rest ≡ 0) ⌝ }
-    ensures { λ r. ⌜ CameTo t (over t (drop start (now (part .entry))) (kept from (now (book .entry)) (now (lines .entry)))) (now (book .exit)) (now (lines .exit)) r ⌝ }
+    ensures { λ r. ⌜ CameTo t (bytesHeard t (drop start (now (part .entry))) (kept from (now (book .entry)) (now (lines .entry)))) (now (book .exit)) (now (lines .exit)) r ⌝ }
 {
     let end = behind_last_feed(part, start);
     let heard = hear_rows(&part[start..end], t, book, &lines[..], from);
@@ -251,7 +251,7 @@ fn hear_behind(
 // A part of a table: the line that ends in it first, then the others, then what is left of the last.
 pub fn hear(part: &[u8], t: Table, book: &mut [Row], lines: &mut [u8], from: Heard) -> Heard
     requires { ⌜ Holding t from (now book) (now lines) × (from .line + length (now part) + 1 < 2 ^ 64) ⌝ }
-    ensures { λ r. ⌜ CameTo t (over t (now (part .entry)) (kept from (now (book .entry)) (now (lines .entry)))) (now (book .exit)) (now (lines .exit)) r ⌝ }
+    ensures { λ r. ⌜ CameTo t (bytesHeard t (now (part .entry)) (kept from (now (book .entry)) (now (lines .entry)))) (now (book .exit)) (now (lines .exit)) r ⌝ }
 {
     let line = from.line;
     let head = from.head;

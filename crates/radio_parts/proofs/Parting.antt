@@ -3,13 +3,14 @@ use mathlib.Core.Path.{_≡_, refl, ap, sym, subst, _∙_}
 use mathlib.Core.List.{List}
 use Prim.Native.Nat.{ℕ, _+_, _-_, _<_, _≤_, _^_}
 use native.Mathlib.Omega.{arith}
-use lib.ListN.{length, getD, take, set, length-take}
+use lib.ListN.{length, take, set, length-take}
 use Rattle.words.specs.Words.{Bytes, Row}
 use Rattle.refusals.specs.declared.Place.{Place}
 use Rattle.tables.specs.declared.Table.{Table}
-use Rattle.radio.specs.Radio.{Course, stopped, hears, counted}
-use Rattle.radio.specs.Room.{Slices, laidOut, faultIn, courseIn}
-use Rattle.radio.proofs.Hearing as radio
+use Rattle.radio.specs.Radio.{Course, stopped, hears, counted, mostCounted}
+use Rattle.radio.specs.Room.{Slices, laidOut, faultIn, courseIn, announcedOf, comeOf, lineOf, flagOf}
+use Rattle.radio.specs.Hearing.{bytesHeard}
+use Rattle.radio.proofs.Hearing.{over-stopped}
 use Rattle.radio.proofs.Laying.{handed}
 use Rattle.radio_rule.specs.Lent.{slices}
 use Rattle.radio_hearing.specs.Hearing as hearing
@@ -25,39 +26,39 @@ count-laid t a n m p = refl
 
 module _ (x : Bytes) (b : List Row) (k : List ℕ) (l : Bytes) (h : Hears b k l) where
   abbrev behind : Slices
-  behind = laidOut (hears (tableOf k) (getD k 1 0) (counted (getD k 2 0 + length x)) (radio.over (tableOf k) (take (getD k 1 0 - getD k 2 0) x) (courseIn (slices b k l))))
+  behind = laidOut (hears (tableOf k) (announcedOf k) (counted (comeOf k + length x)) (bytesHeard (tableOf k) (take (announcedOf k - comeOf k) x) (courseIn (slices b k l))))
 
-  pub only-counted : (getD k 6 0 ≡ 0 → ⊥) → (m : ℕ) → m ≡ counted (getD k 2 0 + length x) → slices b (set k 2 m) l ≡ behind
+  pub only-counted : (flagOf k ≡ 0 → ⊥) → (m : ℕ) → m ≡ counted (comeOf k + length x) → slices b (set k 2 m) l ≡ behind
   only-counted d m e =
       let p = faultIn (slices b k l) in
       let c = course-stopped b k l h d in
-      let s : slices b k l ≡ laidOut (hears (tableOf k) (getD k 1 0) (getD k 2 0) (stopped p)) =
-      handed (slices b k l) (h .keeps) .is ∙ ap laidOut (is-heard (slices b k l) (h .heard) ∙ ap (hears (tableOf k) (getD k 1 0) (getD k 2 0)) c) in
+      let s : slices b k l ≡ laidOut (hears (tableOf k) (announcedOf k) (comeOf k) (stopped p)) =
+      handed (slices b k l) (h .keeps) .is ∙ ap laidOut (is-heard (slices b k l) (h .heard) ∙ ap (hears (tableOf k) (announcedOf k) (comeOf k)) c) in
       ap (λ (u : Slices). slices (u .book) (set (u .numbers) 2 m) (u .lines)) s
-      ∙ count-laid (tableOf k) (getD k 1 0) (getD k 2 0) m p
-      ∙ ap (λ (n : ℕ). laidOut (hears (tableOf k) (getD k 1 0) n (stopped p))) e
-      ∙ ap (λ (y : Course). laidOut (hears (tableOf k) (getD k 1 0) (counted (getD k 2 0 + length x)) y))
-      (sym (ap (radio.over (tableOf k) (take (getD k 1 0 - getD k 2 0) x)) c ∙ radio.over-stopped (tableOf k) (take (getD k 1 0 - getD k 2 0) x) p))
+      ∙ count-laid (tableOf k) (announcedOf k) (comeOf k) m p
+      ∙ ap (λ (n : ℕ). laidOut (hears (tableOf k) (announcedOf k) n (stopped p))) e
+      ∙ ap (λ (y : Course). laidOut (hears (tableOf k) (announcedOf k) (counted (comeOf k + length x)) y))
+      (sym (ap (bytesHeard (tableOf k) (take (announcedOf k - comeOf k) x)) c ∙ over-stopped (tableOf k) (take (announcedOf k - comeOf k) x) p))
 
-  module _ (e : getD k 6 0 ≡ 0) (t : Table) (g : t ≡ tableOf k) (y : Heard) (f : y ≡ taken k) (p : Bytes) (q : p ≡ take (getD k 1 0 - getD k 2 0) x) where
-    short : length p ≤ 65537
-    short = omega (arith, ap length q ∙ length-take (getD k 1 0 - getD k 2 0) x, h .announced)
+  module _ (e : flagOf k ≡ 0) (t : Table) (g : t ≡ tableOf k) (y : Heard) (f : y ≡ taken k) (p : Bytes) (q : p ≡ take (announcedOf k - comeOf k) x) where
+    short : length p ≤ mostCounted
+    short = omega (arith, ap length q ∙ length-take (announcedOf k - comeOf k) x, h .announced)
 
     pub hear-asks : Holding t y b l × (y .line + length p + 1 < 2 ^ 64)
     hear-asks =
-        let i : y .line ≡ getD k 3 0 = ap (λ (z : Heard). z .line) f in
+        let i : y .line ≡ lineOf k = ap (λ (z : Heard). z .line) f in
         let c = lengths b k l h e .came in
         let n = h .come in
         let o = short in
         (subst (λ (z : Heard). Holding t z b l) (sym f) (subst (λ (u : Table). Holding u (taken k) b l) (sym g) (can-go-on b k l h e)), omega arith)
 
-    pub part-kept : (m : ℕ) (c : Course) (u : Slices) → u ≡ laidOut (hears (tableOf k) (getD k 1 0) m c) → m ≡ counted (getD k 2 0 + length x) → c ≡ radio.over t p (hearing.kept y b l) → u ≡ behind
+    pub part-kept : (m : ℕ) (c : Course) (u : Slices) → u ≡ laidOut (hears (tableOf k) (announcedOf k) m c) → m ≡ counted (comeOf k + length x) → c ≡ bytesHeard t p (hearing.kept y b l) → u ≡ behind
     part-kept m c u v w z =
-        let o : c ≡ radio.over (tableOf k) (take (getD k 1 0 - getD k 2 0) x) (courseIn (slices b k l)) =
-        z ∙ ap (λ (a : Table). radio.over a p (hearing.kept y b l)) g ∙ ap (λ (a : Bytes). radio.over (tableOf k) a (hearing.kept y b l)) q
-        ∙ ap (λ (a : Heard). radio.over (tableOf k) (take (getD k 1 0 - getD k 2 0) x) (hearing.kept a b l)) f
-        ∙ ap (radio.over (tableOf k) (take (getD k 1 0 - getD k 2 0) x)) (sym (course-going b k l h e)) in
-        v ∙ ap (λ (n : ℕ). laidOut (hears (tableOf k) (getD k 1 0) n c)) w ∙ ap (λ (a : Course). laidOut (hears (tableOf k) (getD k 1 0) (counted (getD k 2 0 + length x)) a)) o
+        let o : c ≡ bytesHeard (tableOf k) (take (announcedOf k - comeOf k) x) (courseIn (slices b k l)) =
+        z ∙ ap (λ (a : Table). bytesHeard a p (hearing.kept y b l)) g ∙ ap (λ (a : Bytes). bytesHeard (tableOf k) a (hearing.kept y b l)) q
+        ∙ ap (λ (a : Heard). bytesHeard (tableOf k) (take (announcedOf k - comeOf k) x) (hearing.kept a b l)) f
+        ∙ ap (bytesHeard (tableOf k) (take (announcedOf k - comeOf k) x)) (sym (course-going b k l h e)) in
+        v ∙ ap (λ (n : ℕ). laidOut (hears (tableOf k) (announcedOf k) n c)) w ∙ ap (λ (a : Course). laidOut (hears (tableOf k) (announcedOf k) (counted (comeOf k + length x)) a)) o
 
 pub holds-by : (t u : Table) → t ≡ u → (y : Heard) (b : List Row) (l : Bytes) → Holding t y b l → Holding u y b l
 holds-by t u e y b l h = subst (λ (v : Table). Holding v y b l) e h

@@ -1,10 +1,12 @@
 // A part of a table: its bytes are counted, those that were announced are heard, and what they came to is kept.
 ghost use mathlib.Core.Path.{_≡_};
 ghost use Prim.Native.Nat.{_+_, _-_, _≤_};
-ghost use lib.ListN.{length, getD, take, drop};
+ghost use lib.ListN.{length, take, drop};
+ghost use Rattle.lines.specs.Lines.{mostLine};
 ghost use Rattle.radio.specs.Radio as radio;
-ghost use Rattle.radio.specs.Room.{twoLines, laidOut, courseIn};
-ghost use Rattle.radio.proofs.Hearing.{over};
+ghost use Rattle.radio.specs.Radio.{keptLine};
+ghost use Rattle.radio.specs.Room.{twoLines, laidOut, courseIn, radioBytes, announcedOf, comeOf};
+ghost use Rattle.radio.specs.Hearing.{bytesHeard};
 ghost use Rattle.radio_rule.specs.Lent.{slices};
 ghost use Rattle.radio_hearing.specs.Hearing.{courseHeld};
 ghost use Rattle.radio_slices.specs.Hearing.{tableOf, Hears};
@@ -37,8 +39,8 @@ fn to_be_read(announced: u64, come: u64, bytes: &[u8]) -> &[u8]
 
 // Zeros behind both lines.
 fn clear_behind(head: usize, rest: usize, lines: &mut [u8])
-    requires { ⌜ (length (now lines) ≡ 4097) × (head ≤ 2048) × (rest ≤ 2049) ⌝ }
-    ensures { λ _. ⌜ now (lines .exit) ≡ twoLines (take head (now (lines .entry))) (take rest (drop 2048 (now (lines .entry)))) ⌝ }
+    requires { ⌜ (length (now lines) ≡ radioBytes) × (head ≤ mostLine) × (rest ≤ keptLine) ⌝ }
+    ensures { λ _. ⌜ now (lines .exit) ≡ twoLines (take head (now (lines .entry))) (take rest (drop mostLine (now (lines .entry)))) ⌝ }
 {
     radio_slices::clear_bytes(&mut lines[head..HEAD]);
     radio_slices::clear_bytes(&mut lines[HEAD + rest..LINES]);
@@ -47,7 +49,7 @@ fn clear_behind(head: usize, rest: usize, lines: &mut [u8])
 // What a part came to is kept.
 fn keep(heard: Heard, come: u64, book: &mut [Row], kept: &mut [u64], lines: &mut [u8])
     requires { ⌜ Keeping heard (now book) (now kept) (now lines) ⌝ }
-    ensures { λ _. ⌜ slices (now (book .exit)) (now (kept .exit)) (now (lines .exit)) ≡ laidOut (radio.hears (tableOf (now (kept .entry))) (getD (now (kept .entry)) 1 0) come (courseHeld (heard .verdict) (heard .line) (heard .head) (heard .rest) (now (book .entry)) (now (lines .entry)))) ⌝ }
+    ensures { λ _. ⌜ slices (now (book .exit)) (now (kept .exit)) (now (lines .exit)) ≡ laidOut (radio.hears (tableOf (now (kept .entry))) (announcedOf (now (kept .entry))) come (courseHeld (heard .verdict) (heard .line) (heard .head) (heard .rest) (now (book .entry)) (now (lines .entry)))) ⌝ }
 {
     let turn = kept[TURN];
     let announced = kept[ANNOUNCED];
@@ -79,7 +81,7 @@ fn keep(heard: Heard, come: u64, book: &mut [Row], kept: &mut [u64], lines: &mut
 // The bytes of a part are counted, and those that were announced are heard.
 pub fn take_part(bytes: &[u8], book: &mut [Row], kept: &mut [u64], lines: &mut [u8])
     requires { ⌜ Hears (now book) (now kept) (now lines) ⌝ }
-    ensures { λ _. ⌜ slices (now (book .exit)) (now (kept .exit)) (now (lines .exit)) ≡ laidOut (radio.hears (tableOf (now (kept .entry))) (getD (now (kept .entry)) 1 0) (radio.counted (getD (now (kept .entry)) 2 0 + length (now (bytes .entry)))) (over (tableOf (now (kept .entry))) (take (getD (now (kept .entry)) 1 0 - getD (now (kept .entry)) 2 0) (now (bytes .entry))) (courseIn (slices (now (book .entry)) (now (kept .entry)) (now (lines .entry)))))) ⌝ }
+    ensures { λ _. ⌜ slices (now (book .exit)) (now (kept .exit)) (now (lines .exit)) ≡ laidOut (radio.hears (tableOf (now (kept .entry))) (announcedOf (now (kept .entry))) (radio.counted (comeOf (now (kept .entry)) + length (now (bytes .entry)))) (bytesHeard (tableOf (now (kept .entry))) (take (announcedOf (now (kept .entry)) - comeOf (now (kept .entry))) (now (bytes .entry))) (courseIn (slices (now (book .entry)) (now (kept .entry)) (now (lines .entry)))))) ⌝ }
 {
     let come = radio_slices::counted(kept[COME], bytes.len() as u64);
     if kept[FAULT] != 0 {

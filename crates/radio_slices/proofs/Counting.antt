@@ -7,14 +7,14 @@ use borrow.Author.Tests.{ltb-true}
 use lib.Dec.{ltb}
 use Rattle.words.specs.Words.{if_then_else_}
 use Rattle.lines.specs.Lines.{mostBytes}
-use Rattle.radio.specs.Radio.{counted}
+use Rattle.radio.specs.Radio.{counted, mostCounted}
 use Rattle.radio.proofs.Counting.{counted-long}
 
 module _ (n m : ℕ) where
-  pub past-the-count : 65537 - n < m → counted (n + m) ≡ 65537
+  pub past-the-count : mostCounted - n < m → counted (n + m) ≡ mostCounted
   past-the-count h = counted-long (n + m) (omega arith)
 
-  pub within-the-count : n + m ≤ 65537 → counted (n + m) ≡ n + m
+  pub within-the-count : n + m ≤ mostCounted → counted (n + m) ≡ n + m
   within-the-count h = go (ltb mostBytes (n + m)) refl
     where
       go : (q : Bool) → ltb mostBytes (n + m) ≡ q → (if q then suc mostBytes else n + m) ≡ n + m

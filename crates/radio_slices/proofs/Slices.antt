@@ -7,7 +7,7 @@ use lib.ListN.{replicate}
 use Rattle.words.specs.Words.{Bytes, Row}
 use Rattle.lines.specs.Lines.{mostLine}
 use Rattle.radio.specs.Radio.{keptLine}
-use Rattle.radio.specs.Room.{twoLines}
+use Rattle.radio.specs.Room.{twoLines, radioBytes}
 use Rattle.radio_rule.specs.Lent.{slices}
 
 -- what is laid out from its three slices
@@ -19,5 +19,5 @@ zeros-together : (n m : ℕ) → replicate {A = ℕ} (n + m) 0 ≡ replicate n 0
 zeros-together zero m = let e : 0 + m ≡ m = omega arith in rw e
 zeros-together (suc n) m = let e : suc n + m ≡ suc (n + m) = omega arith in rw e (ap (λ (l : Bytes). 0 ∷ l) (zeros-together n m))
 
-pub no-lines : (n : ℕ) → n ≡ 4097 → replicate n 0 ≡ twoLines [] []
+pub no-lines : (n : ℕ) → n ≡ radioBytes → replicate n 0 ≡ twoLines [] []
 no-lines n e = ap (λ (k : ℕ). replicate k 0) e ∙ zeros-together mostLine keptLine

@@ -6,25 +6,25 @@ use native.Mathlib.Omega.{arith}
 use borrow.Author.Tests.{lt-ltb, le-ltb, eq-eqb, ne-eqb}
 use Rattle.radio.specs.Radio.{awaits, hears, over}
 use Rattle.radio.specs.Rule.{lawfulRadio}
-use Rattle.radio.specs.Room.{Slices, tableAt, numberAt, resultIn, courseIn, radioIn, keepsRadio}
+use Rattle.radio.specs.Room.{Slices, tableAt, resultIn, courseIn, radioIn, keepsRadio, firstHeard, allClosed, turnOf, announcedOf, comeOf}
 use Rattle.radio.proofs.Laying.{handed}
 use Rattle.radio.proofs.Lawful.{Heard, heard-of}
 use Rattle.radio_slices.specs.Hearing.{tableOf}
 
 module _ (s : Slices) where
-  pub is-awaited : numberAt 0 s < 5 → radioIn s ≡ awaits (tableAt (numberAt 0 s)) (resultIn s)
+  pub is-awaited : turnOf (s .numbers) < allClosed → radioIn s ≡ awaits (tableAt (turnOf (s .numbers))) (resultIn s)
   unfolding radioIn
-  is-awaited h = rw (lt-ltb (numberAt 0 s) 5 h)
+  is-awaited h = rw (lt-ltb (turnOf (s .numbers)) allClosed h)
 
-  pub is-over : numberAt 0 s ≡ 5 → radioIn s ≡ over (resultIn s)
+  pub is-over : turnOf (s .numbers) ≡ allClosed → radioIn s ≡ over (resultIn s)
   unfolding radioIn
-  is-over e = rw (le-ltb (numberAt 0 s) 5 (omega arith), eq-eqb (numberAt 0 s) 5 e)
+  is-over e = rw (le-ltb (turnOf (s .numbers)) allClosed (omega arith), eq-eqb (turnOf (s .numbers)) allClosed e)
 
-  pub is-heard : 6 ≤ numberAt 0 s → radioIn s ≡ hears (tableAt (numberAt 0 s - 6)) (numberAt 1 s) (numberAt 2 s) (courseIn s)
+  pub is-heard : firstHeard ≤ turnOf (s .numbers) → radioIn s ≡ hears (tableAt (turnOf (s .numbers) - firstHeard)) (announcedOf (s .numbers)) (comeOf (s .numbers)) (courseIn s)
   unfolding radioIn
-  is-heard h = let n : numberAt 0 s ≡ 5 → ⊥ = λ e. omega arith in rw (le-ltb (numberAt 0 s) 5 (omega arith), ne-eqb (numberAt 0 s) 5 n)
+  is-heard h = let n : turnOf (s .numbers) ≡ allClosed → ⊥ = λ e. omega arith in rw (le-ltb (turnOf (s .numbers)) allClosed (omega arith), ne-eqb (turnOf (s .numbers)) allClosed n)
 
-module _ (s : Slices) (keeps : keepsRadio s ≡ true) (h : 6 ≤ numberAt 0 s) where
+module _ (s : Slices) (keeps : keepsRadio s ≡ true) (h : firstHeard ≤ turnOf (s .numbers)) where
   -- the counts and what is kept of the table keep the rule
-  pub heard-keeps : Heard (tableOf (s .numbers)) (numberAt 1 s) (numberAt 2 s) (courseIn s)
-  heard-keeps = heard-of (tableOf (s .numbers)) (numberAt 1 s) (numberAt 2 s) (courseIn s) (ap lawfulRadio (sym (is-heard s h)) ∙ handed s keeps .lawful)
+  pub heard-keeps : Heard (tableOf (s .numbers)) (announcedOf (s .numbers)) (comeOf (s .numbers)) (courseIn s)
+  heard-keeps = heard-of (tableOf (s .numbers)) (announcedOf (s .numbers)) (comeOf (s .numbers)) (courseIn s) (ap lawfulRadio (sym (is-heard s h)) ∙ handed s keeps .lawful)

@@ -2,12 +2,11 @@
 -- Inner: no promise and no contract of a public function speaks of it.
 use mathlib.Core.List.{List, [], _∷_}
 use Prim.Native.Nat.{ℕ, _+_, _-_}
-use lib.ListN.{getD}
 use Rattle.refusals.specs.declared.Place.{Place}
 use Rattle.book.specs.Book.{empty}
 use Rattle.book.specs.Room.{laid}
 use Rattle.book.specs.Result.{refused}
-use Rattle.radio.specs.Room.{Slices, laidFault, twoLines}
+use Rattle.radio.specs.Room.{Slices, laidFault, twoLines, firstHeard, turnOf, flagOf, placeOf, laidPlace}
 use Rattle.radio_rule.specs.Lent.{slices}
 
 -- no row, no line, and these numbers
@@ -21,5 +20,5 @@ stoppedSlices turn a n p = emptySlices (turn ∷ a ∷ n ∷ 0 ∷ 0 ∷ 0 ∷ l
 -- a table is announced: its turn, its length, no byte; its first line, where there is no fault; and the fault as it stands
 abbrev pub numbersAnnounced : ℕ → List ℕ → List ℕ
 numbersAnnounced a ns =
-    (getD ns 0 0 + 6) ∷ a ∷ 0 ∷ (1 - getD ns 6 0) ∷ 0 ∷ 0
-    ∷ getD ns 6 0 ∷ getD ns 7 0 ∷ getD ns 8 0 ∷ getD ns 9 0 ∷ getD ns 10 0 ∷ []
+    (turnOf ns + firstHeard) ∷ a ∷ 0 ∷ (1 - flagOf ns) ∷ 0 ∷ 0
+    ∷ flagOf ns ∷ laidPlace (placeOf ns)

@@ -2,9 +2,11 @@
 ghost use mathlib.Core.Path.{_≡_};
 ghost use Prim.Native.Nat.{_+_, _<_, _≤_};
 ghost use lib.ListN as list;
-ghost use lib.ListN.{length, getD, replicate};
+ghost use lib.ListN.{length, replicate};
 ghost use Rattle.tables.specs.Parts.{bookRows};
 ghost use Rattle.radio.specs.Radio as radio;
+ghost use Rattle.radio.specs.Radio.{mostCounted};
+ghost use Rattle.radio.specs.Room.{radioNumbers, radioBytes, allClosed, turnOf, flagOf};
 ghost use Rattle.radio_rule.specs.Lent.{slices};
 ghost use Rattle.radio_slices.specs.Numbers.{emptySlices, stoppedSlices, numbersAnnounced};
 ghost use Rattle.radio_slices.specs.Hearing.{taken};
@@ -48,7 +50,7 @@ pub fn clear_bytes(list: &mut [u8])
 
 // A count and so much more: it stops at 65,537, however much comes.
 pub fn counted(come: u64, more: u64) -> u64
-    requires { ⌜ come ≤ 65537 ⌝ }
+    requires { ⌜ come ≤ mostCounted ⌝ }
     ensures { λ r. ⌜ r ≡ radio.counted (come + more) ⌝ }
 {
     if MOST_COUNTED - come < more {
@@ -59,7 +61,7 @@ pub fn counted(come: u64, more: u64) -> u64
 
 // No row, no line, and these numbers.
 pub fn empty(numbers: &[u64], book: &mut [Row], kept: &mut [u64], lines: &mut [u8])
-    requires { ⌜ (length (now numbers) ≡ 11) × (length (now book) ≡ bookRows) × (length (now kept) ≡ 11) × (length (now lines) ≡ 4097) ⌝ }
+    requires { ⌜ (length (now numbers) ≡ radioNumbers) × (length (now book) ≡ bookRows) × (length (now kept) ≡ radioNumbers) × (length (now lines) ≡ radioBytes) ⌝ }
     ensures { λ _. ⌜ slices (now (book .exit)) (now (kept .exit)) (now (lines .exit)) ≡ emptySlices (now (numbers .entry)) ⌝ }
 {
     book::clear(book);
@@ -77,7 +79,7 @@ pub fn stop(
     kept: &mut [u64],
     lines: &mut [u8],
 )
-    requires { ⌜ (length (now book) ≡ bookRows) × (length (now kept) ≡ 11) × (length (now lines) ≡ 4097) ⌝ }
+    requires { ⌜ (length (now book) ≡ bookRows) × (length (now kept) ≡ radioNumbers) × (length (now lines) ≡ radioBytes) ⌝ }
     ensures { λ _. ⌜ slices (now (book .exit)) (now (kept .exit)) (now (lines .exit)) ≡ stoppedSlices turn announced come p ⌝ }
 {
     let numbers = [
@@ -98,7 +100,7 @@ pub fn stop(
 
 // A table begins: its first line, unless there is a fault.
 pub fn begin_table(length: u64, kept: &mut [u64])
-    requires { ⌜ (list.length (now kept) ≡ 11) × (getD (now kept) 0 0 < 5) × (getD (now kept) 6 0 ≤ 1) ⌝ }
+    requires { ⌜ (list.length (now kept) ≡ radioNumbers) × (turnOf (now kept) < allClosed) × (flagOf (now kept) ≤ 1) ⌝ }
     ensures { λ _. ⌜ now (kept .exit) ≡ numbersAnnounced (radio.counted length) (now (kept .entry)) ⌝ }
 {
     let fault = kept[FAULT];
@@ -120,7 +122,7 @@ pub fn begin_table(length: u64, kept: &mut [u64])
 
 // What the code takes up of a table that is heard, where there is no fault.
 pub fn take_up(kept: &[u64]) -> Heard
-    requires { ⌜ length (now kept) ≡ 11 ⌝ }
+    requires { ⌜ length (now kept) ≡ radioNumbers ⌝ }
     ensures { λ r. ⌜ r ≡ taken (now (kept .entry)) ⌝ }
 {
     Heard {

@@ -1,5 +1,7 @@
 -- `radio_parts::clear_behind` meets its contract. Assumes nothing.
 use mathlib.Core.Path.{refl}
+use Rattle.lines.specs.Lines.{mostLine}
+use Rattle.radio.specs.Radio.{keptLine}
 use Rattle.radio_parts.proofs.Lines.{zeros-behind}
 use borrow.Author.Needs.{needs}
 use Rattle.radio_parts.proofs.clear_behind.Statement.{statement}
@@ -38,7 +40,7 @@ same-length c = search needs
 returns : tie.Need-returns
 returns c =
     let at = c .before .before .before .before .before .before .before .before .before in
-    zeros-behind 2048 2049 (at .args .head) (at .args .rest) (at .args .lines .now) (at .pre .0) (at .pre .1) (at .pre .2) _ _ _ (c .before .before .before .before .before .before .clear-bytes .ensures) refl (c .before .before .clear-bytes2 .ensures)
+    zeros-behind mostLine keptLine (at .args .head) (at .args .rest) (at .args .lines .now) (at .pre .0) (at .pre .1) (at .pre .2) _ _ _ (c .before .before .before .before .before .before .clear-bytes .ensures) refl (c .before .before .clear-bytes2 .ensures)
 
 pub clear-behind-spec : {M : Type 1} → statement M
 clear-behind-spec =
