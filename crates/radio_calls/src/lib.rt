@@ -5,8 +5,10 @@ ghost use Rattle.radio.specs.Radio as radio;
 ghost use Rattle.radio.specs.Room.{outcome};
 ghost use Rattle.radio_rule.specs.Lent.{slices};
 ghost use Rattle.radio_calls.specs.Calls.{OpenPermits, RadioPermits};
+ghost use Rattle.radio_calls.specs.Turns.{admitted};
 use radio_rule::HEARD;
 use radio_rule::KEPT;
+use radio_rule::LAST_TURN;
 use radio_rule::OVER;
 use radio_rule::TURN;
 use refusals::Check;
@@ -27,6 +29,23 @@ fn out_of_turn() -> Verdict
     Check::not_there().on(Place::NO_TABLE, Place::NO_LINE)
 }
 
+// 16, then 15: slices against the rule, or a turn that is not from this one to that.
+fn admit(first: u64, last: u64, book: &[Row], kept: &[u64], lines: &[u8]) -> Verdict
+    ensures { λ r. ⌜ r ≡ admitted first last (slices (now (book .entry)) (now (kept .entry)) (now (lines .entry))) ⌝ }
+{
+    if !radio_rule::keeps_radio(book, kept, lines) {
+        return bad_loan();
+    }
+    let turn = kept[TURN];
+    if turn < first {
+        return out_of_turn();
+    }
+    if last < turn {
+        return out_of_turn();
+    }
+    Verdict::Accepted
+}
+
 // A delivery begins, whatever the slices held.
 pub fn open(book: &mut [Row], kept: &mut [u64], lines: &mut [u8]) -> Verdict
     ensures { λ r. ⌜ OpenPermits (slices (now (book .entry)) (now (kept .entry)) (now (lines .entry))) (outcome r (slices (now (book .exit)) (now (kept .exit)) (now (lines .exit)))) ⌝ }
@@ -42,43 +61,42 @@ pub fn open(book: &mut [Row], kept: &mut [u64], lines: &mut [u8]) -> Verdict
 pub fn announce(length: u64, book: &[Row], kept: &mut [u64], lines: &[u8]) -> Verdict
     ensures { λ r. ⌜ RadioPermits (radio.announce length) (slices (now (book .entry)) (now (kept .entry)) (now (lines .entry))) (outcome r (slices (now (book .entry)) (now (kept .exit)) (now (lines .entry)))) ⌝ }
 {
-    if !radio_rule::keeps_radio(book, kept, lines) {
-        return bad_loan();
+    let verdict = admit(0, OVER - 1, book, kept, lines);
+    match verdict {
+        Verdict::Refused(p) => Verdict::Refused(p),
+        Verdict::Accepted => {
+            radio_slices::begin_table(length, kept);
+            Verdict::Accepted
+        }
     }
-    if OVER <= kept[TURN] {
-        return out_of_turn();
-    }
-    radio_slices::begin_table(length, kept);
-    Verdict::Accepted
 }
 
 // "Please take each table in parts, cut anywhere"
 pub fn part(bytes: &[u8], book: &mut [Row], kept: &mut [u64], lines: &mut [u8]) -> Verdict
     ensures { λ r. ⌜ RadioPermits (radio.part (now (bytes .entry))) (slices (now (book .entry)) (now (kept .entry)) (now (lines .entry))) (outcome r (slices (now (book .exit)) (now (kept .exit)) (now (lines .exit)))) ⌝ }
 {
-    if !radio_rule::keeps_radio(book, kept, lines) {
-        return bad_loan();
+    let admitted = admit(HEARD, LAST_TURN, book, kept, lines);
+    match admitted {
+        Verdict::Refused(p) => Verdict::Refused(p),
+        Verdict::Accepted => {
+            radio_parts::take_part(bytes, book, kept, lines);
+            Verdict::Accepted
+        }
     }
-    let turn = kept[TURN];
-    if turn < HEARD {
-        return out_of_turn();
-    }
-    radio_parts::take_part(bytes, book, kept, lines);
-    Verdict::Accepted
 }
 
 // A table is closed: the verdict of the tables that are closed.
 pub fn close(book: &mut [Row], kept: &mut [u64], lines: &mut [u8]) -> Verdict
     ensures { λ r. ⌜ RadioPermits radio.close (slices (now (book .entry)) (now (kept .entry)) (now (lines .entry))) (outcome r (slices (now (book .exit)) (now (kept .exit)) (now (lines .exit)))) ⌝ }
 {
-    if !radio_rule::keeps_radio(book, kept, lines) {
-        return bad_loan();
+    let verdict = admit(HEARD, LAST_TURN, book, kept, lines);
+    match verdict {
+        Verdict::Refused(p) => Verdict::Refused(p),
+        Verdict::Accepted => {
+            let t = Table::in_order((kept[TURN] - HEARD) as usize);
+            let closed = radio_closing::close_table(t, book, kept, lines);
+            radio_closing::settle(closed, book, kept, lines);
+            closed
+        }
     }
-    if kept[TURN] < HEARD {
-        return out_of_turn();
-    }
-    let t = Table::in_order((kept[TURN] - HEARD) as usize);
-    let verdict = radio_closing::close_table(t, book, kept, lines);
-    radio_closing::settle(verdict, book, kept, lines);
-    verdict
 }
