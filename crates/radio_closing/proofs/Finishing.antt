@@ -23,9 +23,9 @@ use Rattle.book.specs.Result.{refused, leaves}
 use Rattle.radio.specs.Radio.{Course, stopped, cameTo, none, finished, faultBefore, closing, lengthCheck, lineHeard, keptLine}
 use Rattle.radio.specs.Room.{faultIn, courseIn, radioBytes, announcedOf, comeOf, lineOf, headOf, restOf, flagOf, placeOf}
 use Rattle.radio_rule.specs.Lent.{slices}
-use Rattle.radio_hearing.specs.Hearing as hearing
-use Rattle.radio_hearing.specs.Hearing.{courseHeld, Holding, CameTo}
-use Rattle.radio_hearing.specs.declared.Heard.{Heard}
+use Rattle.radio_lines.specs.Lines as hearing
+use Rattle.radio_lines.specs.Lines.{courseHeld, Holding, CameTo}
+use Rattle.radio_lines.specs.declared.Heard.{Heard}
 use Rattle.radio_slices.specs.Hearing.{tableOf, taken, Hears}
 use Rattle.radio_slices.proofs.Hearing.{course-stopped, course-going, lengths, can-go-on, rest-long}
 use Rattle.radio_closing.specs.Closing.{earlierFault, noneLeft, Comes}

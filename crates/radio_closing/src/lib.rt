@@ -8,11 +8,11 @@ ghost use Rattle.book.specs.Room.{bookOf};
 ghost use Rattle.radio.specs.Radio as radio;
 ghost use Rattle.radio.specs.Room.{laidOut, courseIn, radioNumbers, announcedOf, comeOf, placeOf};
 ghost use Rattle.radio_rule.specs.Lent.{slices};
-ghost use Rattle.radio_hearing.specs.Hearing.{Holding};
+ghost use Rattle.radio_lines.specs.Lines.{Holding};
 ghost use Rattle.radio_slices.specs.Hearing.{tableOf, Hears};
 ghost use Rattle.radio_closing.specs.Closing.{earlierFault, noneLeft, Comes, Settling};
 use lines::MOST_BYTES;
-use radio_hearing::Heard;
+use radio_lines::Heard;
 use radio_rule::ANNOUNCED;
 use radio_rule::COME;
 use radio_rule::FAULT;
@@ -87,7 +87,7 @@ fn last_line(t: Table, book: &mut [Row], lines: &mut [u8], from: Heard) -> Verdi
     let rest = from.rest;
     let mut room = [0u8; REST];
     number_lines::write_bytes(&mut room, &lines[HEAD..HEAD + rest]);
-    let heard = radio_hearing::hear_line(&room[0..rest], t, book, lines, from);
+    let heard = radio_lines::hear_line(&room[0..rest], t, book, lines, from);
     heard.verdict
 }
 

@@ -4,7 +4,7 @@ use mathlib.Core.List.{[], _∷_, _++_, append-assoc}
 use Prim.Native.Nat.{ℕ, zero, suc, _+_, _-_, _≤_, _<_}
 use native.Mathlib.Omega.{arith}
 use lib.ListN.{length, getD, take, drop, length-append, length-drop, take-append-drop}
-use lib.Seq.{take-append-le, take-take, take-add, take-at, drop-at, length-take-le, take-all, take-suc, getD-drop}
+use lib.Seq.{take-append-le, take-take, take-add, take-at, drop-at, length-take-le, take-suc, getD-drop}
 use borrow.Author.Tests.{eq-eqb, ne-eqb}
 use Rattle.words.specs.Words.{Bytes, if_then_else_}
 use Rattle.numbers.specs.Putting.{put}
@@ -12,7 +12,8 @@ use Rattle.numbers.proofs.Putting.{rest, back, lent}
 use Rattle.lines.specs.Ends.{slipLength}
 use Rattle.lines.proofs.Lining.{feed-on}
 use Rattle.radio.specs.Radio.{ended, endsLine}
-use Rattle.radio_hearing.specs.Hearing.{Finished, Feedless}
+use Rattle.radio_lines.specs.Lines.{Finished}
+use Rattle.radio_hearing.specs.Hearing.{Feedless}
 
 -- bytes put behind r bytes that stand at place m --------------------------------------------------------------------------------------
 
@@ -98,14 +99,6 @@ module _ (s room r : Bytes) (n : ℕ) (e : room ≡ s ++ r) (l : n ≡ length s)
       (omega (arith, room-long), ap (take n) e ∙ take-at s r n (sym l) ∙ sym (ended-other s (n - 1) (omega arith) (λ q. b (same ∙ q))))
 
 -- a part from its begin, or to its end
-pub from-begin : (s : Bytes) (n : ℕ) → take (n - 0) (drop 0 s) ≡ take n s
-from-begin s n = let z : n - 0 ≡ n = omega arith in ap (λ (k : ℕ). take k s) z
-
-pub to-end : (s : Bytes) (n : ℕ) → take (length s - n) (drop n s) ≡ drop n s
-to-end s n = take-all (length s - n) (drop n s) (rw length-drop (omega arith))
-
-pub length-put : (s o : Bytes) → length s ≤ length o → length (put s o) ≡ length o
-length-put s o h = length-append s (drop (length s) o) ∙ (let z : length s + length (drop (length s) o) ≡ length o = omega (arith, length-drop (length s) o) in z)
 
 -- line feeds ------------------------------------------------------------------------------------------------------------------------
 

@@ -1,2 +1,2 @@
--- What the code keeps of a table while its parts come.
+-- Where the lines of a part end.
 pub mod Hearing

@@ -1,117 +1,26 @@
 // The bytes of a part of a table, heard line by line.
 ghost use mathlib.Core.Path.{_≡_};
-ghost use mathlib.Core.List.{[], _++_};
-ghost use mathlib.Core.Bool.{true};
+ghost use mathlib.Core.List.{_++_};
 ghost use Prim.Native.Nat.{_+_, _<_, _≤_, _^_};
 ghost use lib.ListN.{length, take, drop};
-ghost use Rattle.words.specs.Words.{Bytes};
-ghost use Rattle.refusals.specs.Verdicts.{inHeader, placed};
 ghost use Rattle.lines.specs.Lines.{mostLine};
 ghost use Rattle.lines.specs.Ends.{slipLength};
-ghost use Rattle.numbers.specs.Putting.{put};
-ghost use Rattle.tables.specs.Columns.{number};
-ghost use Rattle.book.specs.Book.{entered};
-ghost use Rattle.book.specs.Holding.{Sound, resultOf};
-ghost use Rattle.book.specs.Result.{leaves, unless};
 ghost use Rattle.book.specs.Room.{bookOf};
-ghost use Rattle.rules.specs.Points.{pointsNamed, NamedIn};
-ghost use Rattle.header.specs.Header.{headerCheck};
-ghost use Rattle.row_line.specs.RowLine.{rowRead};
-ghost use Rattle.table_lines.specs.Reading.{judged};
-ghost use Rattle.radio.specs.Radio.{keptLine, lineHeard, headerIn, ended};
-ghost use Rattle.radio.specs.Room.{radioBytes};
+ghost use Rattle.radio.specs.Radio.{keptLine, lineHeard, ended};
 ghost use Rattle.radio.specs.Hearing.{bytesHeard};
-ghost use Rattle.radio_hearing.specs.Hearing.{kept, Holding, CameTo, Stopping, Feedless, Finished, BehindFeeds};
+ghost use Rattle.radio_lines.specs.Lines.{kept, Holding, CameTo};
+ghost use Rattle.radio_hearing.specs.Hearing.{Feedless, BehindFeeds};
 use lines::MOST_LINE;
 use number_lines::LINE_FEED;
-use refusals::Check;
-use refusals::Place;
+use radio_lines::Heard;
 use refusals::Verdict;
-use rows::ROWS;
 use rows::Row;
 use tables::Table;
-
-// What is kept of a table while its parts come: the fault, or none; the number of the unfinished line; and how many bytes are kept of the
-// header line and of the unfinished one.
-pub struct Heard {
-    pub verdict: Verdict,
-    pub line: u64,
-    pub head: usize,
-    pub rest: usize,
-}
 
 // Of an unfinished line so many bytes are kept: the last may be a carriage return that is dropped.
 pub const KEPT_LINE: usize = MOST_LINE + 1;
 
 const CARRIAGE_RETURN: u8 = 13;
-
-// 17, in a row after 5: of a line that is too long already, whatever follows.
-fn too_long(t: Table, line: u64, book: &[Row]) -> Verdict
-    requires { ⌜ Sound (now book) ⌝ }
-    ensures { λ r. ⌜ ((l head : Bytes) → mostLine < length l → Stopping r (lineHeard t l (bookOf (now (book .entry))) line head)) ⌝ }
-{
-    if line == Place::HEADER_LINE {
-        return Check::line_too_long().on(t.number(), line);
-    }
-    if ROWS <= book::count_rows(book, t) {
-        return Check::too_many_rows().on(t.number(), line);
-    }
-    Check::line_too_long().on(t.number(), line)
-}
-
-// The header line; where it passes it is kept at the begin of the lines.
-fn hear_head(line: &[u8], t: Table, lines: &mut [u8]) -> Verdict
-    requires { ⌜ length (now lines) ≡ radioBytes ⌝ }
-    ensures { λ r. ⌜ (r ≡ inHeader (number t) (headerCheck t (now (line .entry)))) × (r ≡ Verdict.Accepted → now (lines .exit) ≡ put (now (line .entry)) (now (lines .entry))) ⌝ }
-{
-    let columns = t.column_rules();
-    let heading = header::read_header(line, t, &columns);
-    let check = heading.check;
-    let verdict = check.on(t.number(), Place::HEADER_LINE);
-    match verdict {
-        Verdict::Accepted => {
-            number_lines::write_bytes(lines, line);
-            Verdict::Accepted
-        }
-        Verdict::Refused(p) => Verdict::Refused(p),
-    }
-}
-
-// A row, under the header line that is kept.
-fn hear_row(line: &[u8], i: u64, t: Table, head: &[u8], book: &mut [Row]) -> Verdict
-    requires { ⌜ Sound (now book) × (pointsNamed (bookOf (now book)) ≡ true) × (headerCheck t (now head) ≡ Check.Passes) ⌝ }
-    ensures { λ r. ⌜ Sound (now (book .exit)) × NamedIn (resultOf r (now (book .exit))) × (resultOf r (now (book .exit)) ≡ unless (placed (number t) i (judged t (headerIn t (now (head .entry))) (now (line .entry)) (bookOf (now (book .entry))))) (leaves (entered t (rowRead t (headerIn t (now (head .entry))) (now (line .entry))) (bookOf (now (book .entry)))))) ⌝ }
-{
-    let columns = t.column_rules();
-    let heading = header::read_header(head, t, &columns);
-    let at = heading.at;
-    table_reading::take_line(line, i, t, &columns, &at, book)
-}
-
-// A line that is whole: the header or a row. It does not lie in the lines that are kept.
-pub fn hear_line(line: &[u8], t: Table, book: &mut [Row], lines: &mut [u8], from: Heard) -> Heard
-    requires { ⌜ Holding t from (now book) (now lines) × (from .line + 1 < 2 ^ 64) ⌝ }
-    ensures { λ r. ⌜ CameTo t (lineHeard t (now (line .entry)) (bookOf (now (book .entry))) (from .line) (take (from .head) (now (lines .entry)))) (now (book .exit)) (now (lines .exit)) r × (r .line ≡ from .line + 1) × (r .rest ≡ 0) ⌝ }
-{
-    let i = from.line;
-    let head = from.head;
-    if i == Place::HEADER_LINE {
-        let verdict = hear_head(line, t, lines);
-        return Heard {
-            verdict,
-            line: i + 1,
-            head: line.len(),
-            rest: 0,
-        };
-    }
-    let verdict = hear_row(line, i, t, &lines[0..head], book);
-    Heard {
-        verdict,
-        line: i + 1,
-        head,
-        rest: 0,
-    }
-}
 
 // What came of a line before and the bytes up to its line feed, put together; one carriage return at the end is dropped.
 fn put_together(rest: &[u8], more: &[u8], room: &mut [u8]) -> usize
@@ -146,7 +55,7 @@ fn end_line(
     if rest == 0 {
         let l = lines::next_line(part, 0);
         let end = l.end;
-        return hear_line(&part[0..end], t, book, lines, from);
+        return radio_lines::hear_line(&part[0..end], t, book, lines, from);
     }
     let mut room = [0u8; KEPT_LINE];
     let end = put_together(
@@ -154,7 +63,7 @@ fn end_line(
         &part[0..feed],
         &mut room,
     );
-    hear_line(&room[0..end], t, book, lines, from)
+    radio_lines::hear_line(&room[0..end], t, book, lines, from)
 }
 
 // Bytes without a line feed: they are kept behind those that came, or the line is too long.
@@ -166,7 +75,7 @@ fn keep_tail(tail: &[u8], t: Table, book: &[Row], lines: &mut [u8], from: Heard)
     let head = from.head;
     let rest = from.rest;
     if KEPT_LINE - rest < tail.len() {
-        let verdict = too_long(t, line, book);
+        let verdict = radio_lines::too_long(t, line, book);
         return Heard {
             verdict,
             line,
@@ -198,35 +107,6 @@ fn behind_last_feed(part: &[u8], from: usize) -> usize
     i
 }
 
-// Rows that are finished, read where they lie.
-fn hear_rows(body: &[u8], t: Table, book: &mut [Row], lines: &[u8], from: Heard) -> Heard
-    requires { ⌜ Holding t from (now book) (now lines) × (2 ≤ from .line) × (from .line + length (now body) < 2 ^ 64) × (from .rest ≡ 0) × Finished [] (now body) ⌝ }
-    ensures { λ r. ⌜ CameTo t (bytesHeard t (now (body .entry)) (kept from (now (book .entry)) (now (lines .entry)))) (now (book .exit)) (now (lines .entry)) r ⌝ }
-{
-    let line = from.line;
-    let head = from.head;
-    if body.len() == 0 {
-        return Heard {
-            verdict: Verdict::Accepted,
-            line,
-            head,
-            rest: 0,
-        };
-    }
-    let columns = t.column_rules();
-    let heading = header::read_header(&lines[0..head], t, &columns);
-    let at = heading.at;
-    let taken = table_reading::take_rows(body, line, t, &columns, &at, book);
-    let verdict = taken.verdict;
-    let next = taken.line;
-    Heard {
-        verdict,
-        line: next,
-        head,
-        rest: 0,
-    }
-}
-
 // The part from behind a line feed on: the rows that are finished, then what is left.
 fn hear_behind(
     part: &[u8],
@@ -240,7 +120,7 @@ fn hear_behind(
     ensures { λ r. ⌜ CameTo t (bytesHeard t (drop start (now (part .entry))) (kept from (now (book .entry)) (now (lines .entry)))) (now (book .exit)) (now (lines .exit)) r ⌝ }
 {
     let end = behind_last_feed(part, start);
-    let heard = hear_rows(&part[start..end], t, book, &lines[..], from);
+    let heard = radio_lines::hear_rows(&part[start..end], t, book, &lines[..], from);
     let verdict = heard.verdict;
     match verdict {
         Verdict::Refused(_) => heard,
@@ -262,7 +142,7 @@ pub fn hear(part: &[u8], t: Table, book: &mut [Row], lines: &mut [u8], from: Hea
         return keep_tail(part, t, &book[..], lines, from);
     }
     if KEPT_LINE - rest < feed {
-        let verdict = too_long(t, line, &book[..]);
+        let verdict = radio_lines::too_long(t, line, &book[..]);
         return Heard {
             verdict,
             line,

@@ -17,8 +17,8 @@ use Rattle.radio.specs.Radio.{Course, stopped, going, hears, keptLine}
 use Rattle.radio.specs.Room.{Slices, twoLines, laidOut, tableAt, firstHeard, lastHeard, turnOf, announcedOf}
 use Rattle.radio_rule.specs.Lent.{slices}
 use Rattle.radio_rule.proofs.Rule.{at-place}
-use Rattle.radio_hearing.specs.Hearing.{courseHeld, Holding}
-use Rattle.radio_hearing.specs.declared.Heard.{Heard}
+use Rattle.radio_lines.specs.Lines.{courseHeld, Holding}
+use Rattle.radio_lines.specs.declared.Heard.{Heard}
 use Rattle.radio_slices.specs.Numbers.{stoppedSlices}
 use Rattle.radio_slices.specs.Hearing.{tableOf}
 use Rattle.radio_slices.proofs.Slices.{slices-are}

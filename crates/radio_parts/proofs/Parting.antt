@@ -13,9 +13,9 @@ use Rattle.radio.specs.Hearing.{bytesHeard}
 use Rattle.radio.proofs.Hearing.{over-stopped}
 use Rattle.radio.proofs.Laying.{handed}
 use Rattle.radio_rule.specs.Lent.{slices}
-use Rattle.radio_hearing.specs.Hearing as hearing
-use Rattle.radio_hearing.specs.Hearing.{Holding}
-use Rattle.radio_hearing.specs.declared.Heard.{Heard}
+use Rattle.radio_lines.specs.Lines as hearing
+use Rattle.radio_lines.specs.Lines.{Holding}
+use Rattle.radio_lines.specs.declared.Heard.{Heard}
 use Rattle.radio_slices.specs.Hearing.{tableOf, taken, Hears}
 use Rattle.radio_slices.proofs.Turns.{is-heard}
 use Rattle.radio_slices.proofs.Hearing.{course-stopped, course-going, can-go-on, lengths}

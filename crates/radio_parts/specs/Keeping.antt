@@ -8,8 +8,8 @@ use Rattle.words.specs.Words.{Bytes, Row}
 use Rattle.refusals.specs.declared.Verdict.the-variants.{Accepted}
 use Rattle.tables.specs.Parts.{bookRows}
 use Rattle.radio.specs.Room.{radioNumbers, radioBytes, firstHeard, lastHeard, turnOf}
-use Rattle.radio_hearing.specs.declared.Heard.{Heard}
-use Rattle.radio_hearing.specs.Hearing.{Holding}
+use Rattle.radio_lines.specs.declared.Heard.{Heard}
+use Rattle.radio_lines.specs.Lines.{Holding}
 use Rattle.radio_slices.specs.Hearing.{tableOf}
 
 -- what is to be kept of a table that is heard: where there is no fault, it can go on

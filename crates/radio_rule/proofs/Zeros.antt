@@ -28,15 +28,29 @@ module _ (xs : List ℕ) (i : ℕ) where
   unfolding zeros same
   zeros-step h = rw (drop-step 0 xs i h)
 
-  pub zeros-next : i < length xs → getD xs i 0 ≡ 0 → zeros (drop i xs) ≡ zeros (drop (i + 1) xs)
+  zeros-next : i < length xs → getD xs i 0 ≡ 0 → zeros (drop i xs) ≡ zeros (drop (i + 1) xs)
   zeros-next h e = zeros-step h ∙ rw (eq-eqb (getD xs i 0) 0 e)
 
-  pub zeros-not : i < length xs → (getD xs i 0 ≡ 0 → ⊥) → zeros (drop i xs) ≡ false
+  zeros-not : i < length xs → (getD xs i 0 ≡ 0 → ⊥) → zeros (drop i xs) ≡ false
   zeros-not h n = zeros-step h ∙ rw (ne-eqb (getD xs i 0) 0 n)
 
-  pub zeros-end : length xs ≤ i → zeros (drop i xs) ≡ true
+  zeros-end : length xs ≤ i → zeros (drop i xs) ≡ true
   unfolding zeros same
   zeros-end h = rw (drop-of-length-le xs h)
+
+-- in a loop that ends at the first other: all before a place are zeros, as the flag says
+abbrev pub ZerosBefore : List ℕ → Bool → ℕ → Type 0
+ZerosBefore xs zero i = (i ≤ length xs) × (zero ≡ true) × (zeros xs ≡ zeros (drop i xs))
+
+module _ (xs : List ℕ) (zero : Bool) (i : ℕ) (before : ZerosBefore xs zero i) where
+  pub one-more : i < length xs → getD xs i 0 ≡ 0 → ZerosBefore xs zero (i + 1)
+  one-more h e = (omega arith, before .1, before .2 ∙ zeros-next xs i h e)
+
+  pub all-zeros : length xs ≤ i → zero ≡ zeros xs
+  all-zeros h = before .1 ∙ sym (before .2 ∙ zeros-end xs i h)
+
+  pub another : i < length xs → (getD xs i 0 ≡ 0 → ⊥) → false ≡ zeros xs
+  another h n = sym (before .2 ∙ zeros-not xs i h n)
 
 pub zeros-true : (xs : List ℕ) (n : ℕ) → length xs ≡ n → zeros xs ≡ true → xs ≡ replicate n 0
 unfolding zeros

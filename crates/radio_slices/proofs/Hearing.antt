@@ -25,8 +25,8 @@ use Rattle.radio_rule.specs.Testing.{numbersKeep, linesKeep, bookKeeps}
 use Rattle.radio_rule.proofs.Numbers as numbers
 use Rattle.radio_rule.proofs.Numbers.{and-three}
 use Rattle.radio_rule.proofs.Rule.{book-lawful, rule-tested}
-use Rattle.radio_hearing.specs.Hearing as hearing
-use Rattle.radio_hearing.specs.Hearing.{Holding}
+use Rattle.radio_lines.specs.Lines as hearing
+use Rattle.radio_lines.specs.Lines.{Holding}
 use Rattle.radio_slices.specs.Hearing.{tableOf, taken, Hears}
 use Rattle.radio_slices.proofs.Keeping.{fit, numbers-kept, book-long, numbers-long, lines-long}
 use Rattle.radio_slices.proofs.Turns.{heard-keeps}

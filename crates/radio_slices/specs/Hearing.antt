@@ -12,7 +12,7 @@ use Rattle.tables.specs.declared.Table.{Table}
 use Rattle.radio.specs.Radio.{mostCounted}
 use Rattle.radio.specs.Room.{tableAt, keepsRadio, radioNumbers, radioBytes, firstHeard, lastHeard, turnOf, announcedOf, comeOf, lineOf, headOf, restOf}
 use Rattle.radio_rule.specs.Lent.{slices}
-use Rattle.radio_hearing.specs.declared.Heard.{Heard}
+use Rattle.radio_lines.specs.declared.Heard.{Heard}
 
 -- which table the numbers name
 abbrev pub tableOf : List ℕ → Table

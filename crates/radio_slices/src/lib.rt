@@ -10,7 +10,7 @@ ghost use Rattle.radio.specs.Room.{radioNumbers, radioBytes, allClosed, turnOf,
 ghost use Rattle.radio_rule.specs.Lent.{slices};
 ghost use Rattle.radio_slices.specs.Numbers.{emptySlices, stoppedSlices, numbersAnnounced};
 ghost use Rattle.radio_slices.specs.Hearing.{taken};
-use radio_hearing::Heard;
+use radio_lines::Heard;
 use radio_rule::FAULT;
 use radio_rule::FAULT_COLUMN;
 use radio_rule::FAULT_LINE;

@@ -1,8 +1,8 @@
 -- `radio_closing::finish` meets its contract. Assumes nothing.
 use mathlib.Core.Path.{sym, subst, _∙_}
 use Prim.Native.Nat.{_+_, _<_, _^_}
-use Rattle.radio_hearing.specs.Hearing.{Holding}
-use Rattle.radio_hearing.specs.declared.Heard.{Heard}
+use Rattle.radio_lines.specs.Lines.{Holding}
+use Rattle.radio_lines.specs.declared.Heard.{Heard}
 use Rattle.radio_closing.proofs.Finishing.{finish-fault, finish-none, finish-last, last-asks}
 use borrow.Author.Needs.{needs}
 use Rattle.radio_closing.proofs.finish.Statement.{statement}

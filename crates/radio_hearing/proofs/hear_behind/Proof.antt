@@ -1,7 +1,8 @@
 -- `radio_hearing::hear_behind` meets its contract: the rows that are finished, then what is left. Assumes nothing.
 use mathlib.Core.Path.{sym, subst}
-use Rattle.radio_hearing.specs.Hearing.{Feedless, kept}
-use Rattle.radio_hearing.proofs.Bytes.{to-end}
+use Rattle.radio_lines.specs.Lines.{kept}
+use Rattle.radio_lines.proofs.Bytes.{to-end}
+use Rattle.radio_hearing.specs.Hearing.{Feedless}
 use Rattle.radio_hearing.proofs.Lines.{stays-stopped, goes-on, over-parted, parted-end}
 use borrow.Author.Needs.{needs}
 use Rattle.radio_hearing.proofs.hear_behind.Statement.{statement}

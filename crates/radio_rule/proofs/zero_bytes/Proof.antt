@@ -1,16 +1,14 @@
 -- `radio_rule::zero_bytes` meets its contract: before place i all are zero. Assumes nothing.
-use mathlib.Core.Path.{_≡_, refl, sym, _∙_}
-use mathlib.Core.Bool.{true}
-use Prim.Native.Nat.{_-_, _≤_}
-use lib.ListN.{length, drop}
+use mathlib.Core.Path.{refl}
+use Prim.Native.Nat.{_-_}
+use lib.ListN.{length}
 use borrow.Author.Needs.{needs}
-use Rattle.radio_rule.specs.Testing.{zeros}
-use Rattle.radio_rule.proofs.Zeros.{zeros-next, zeros-not, zeros-end}
+use Rattle.radio_rule.proofs.Zeros.{ZerosBefore, one-more, all-zeros, another}
 use Rattle.radio_rule.proofs.zero_bytes.Statement.{statement}
 use Rattle.radio_rule.proofs.zero_bytes.Tie as tie
 
 abbrev Inv-bytes : tie.InvT-bytes
-Inv-bytes list zero₀ i₀ zero i = (i ≤ length list) × (zero ≡ true) × (zeros list ≡ zeros (drop i list))
+Inv-bytes list zero₀ i₀ zero i = ZerosBefore list zero i
 
 abbrev μ-bytes : tie.MeasureT-bytes
 μ-bytes list zero₀ i₀ zero i = length list - i
@@ -30,17 +28,17 @@ bytes-less c = search needs
 bytes-again : tie.Need-bytes-again Inv-bytes μ-bytes
 bytes-again c =
     let at = c .before .before .before in
-    (search needs, at .bytes .inv .1, at .bytes .inv .2 ∙ zeros-next (at .before .args .list .now) (at .bytes .i) (search needs) (c .if1 .left))
+    one-more (at .before .args .list .now) (at .bytes .zero) (at .bytes .i) (at .bytes .inv) (search needs) (c .if1 .left)
 
 returns : tie.Need-returns Inv-bytes μ-bytes
 returns c =
     let at = c .before in
-    at .bytes .inv .1 ∙ sym (at .bytes .inv .2 ∙ zeros-end (at .before .args .list .now) (at .bytes .i) (search needs))
+    all-zeros (at .before .args .list .now) (at .bytes .zero) (at .bytes .i) (at .bytes .inv) (search needs)
 
 returns-2 : tie.Need-returns-2 Inv-bytes μ-bytes
 returns-2 c =
     let at = c .before .before .before in
-    sym (at .bytes .inv .2 ∙ zeros-not (at .before .args .list .now) (at .bytes .i) (search needs) (c .if1 .taken))
+    another (at .before .args .list .now) (at .bytes .zero) (at .bytes .i) (at .bytes .inv) (search needs) (c .if1 .taken)
 
 pub zero-bytes-spec : {M : Type 1} → statement M
 zero-bytes-spec =

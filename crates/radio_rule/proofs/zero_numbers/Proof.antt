@@ -1,16 +1,14 @@
 -- `radio_rule::zero_numbers` meets its contract: before place i all are zero. Assumes nothing.
-use mathlib.Core.Path.{_≡_, refl, sym, _∙_}
-use mathlib.Core.Bool.{true}
-use Prim.Native.Nat.{_-_, _≤_}
-use lib.ListN.{length, drop}
+use mathlib.Core.Path.{refl}
+use Prim.Native.Nat.{_-_}
+use lib.ListN.{length}
 use borrow.Author.Needs.{needs}
-use Rattle.radio_rule.specs.Testing.{zeros}
-use Rattle.radio_rule.proofs.Zeros.{zeros-next, zeros-not, zeros-end}
+use Rattle.radio_rule.proofs.Zeros.{ZerosBefore, one-more, all-zeros, another}
 use Rattle.radio_rule.proofs.zero_numbers.Statement.{statement}
 use Rattle.radio_rule.proofs.zero_numbers.Tie as tie
 
 abbrev Inv-numbers : tie.InvT-numbers
-Inv-numbers list zero₀ i₀ zero i = (i ≤ length list) × (zero ≡ true) × (zeros list ≡ zeros (drop i list))
+Inv-numbers list zero₀ i₀ zero i = ZerosBefore list zero i
 
 abbrev μ-numbers : tie.MeasureT-numbers
 μ-numbers list zero₀ i₀ zero i = length list - i
@@ -33,17 +31,17 @@ numbers-less c = search needs
 numbers-again : tie.Need-numbers-again Inv-numbers μ-numbers
 numbers-again c =
     let at = c .before .before .before in
-    (search needs, at .numbers .inv .1, at .numbers .inv .2 ∙ zeros-next (at .before .args .list .now) (at .numbers .i) (search needs) (c .if1 .left))
+    one-more (at .before .args .list .now) (at .numbers .zero) (at .numbers .i) (at .numbers .inv) (search needs) (c .if1 .left)
 
 returns : tie.Need-returns Inv-numbers μ-numbers
 returns c =
     let at = c .before in
-    at .numbers .inv .1 ∙ sym (at .numbers .inv .2 ∙ zeros-end (at .before .args .list .now) (at .numbers .i) (search needs))
+    all-zeros (at .before .args .list .now) (at .numbers .zero) (at .numbers .i) (at .numbers .inv) (search needs)
 
 returns-2 : tie.Need-returns-2 Inv-numbers μ-numbers
 returns-2 c =
     let at = c .before .before .before in
-    sym (at .numbers .inv .2 ∙ zeros-not (at .before .args .list .now) (at .numbers .i) (search needs) (c .if1 .taken))
+    another (at .before .args .list .now) (at .numbers .zero) (at .numbers .i) (at .numbers .inv) (search needs) (c .if1 .taken)
 
 pub zero-numbers-spec : {M : Type 1} → statement M
 zero-numbers-spec =

@@ -1,11 +1,11 @@
--- `radio_hearing::hear_line` meets its contract: the header, or a row. Assumes nothing.
+-- `radio_lines::hear_line` meets its contract: the header, or a row. Assumes nothing.
 use mathlib.Core.Path.{refl, ap, _∙_}
 use Rattle.header.specs.Header.{headerCheck}
-use Rattle.radio_hearing.proofs.Bytes.{from-begin}
-use Rattle.radio_hearing.proofs.Lines.{head-came, row-came}
+use Rattle.radio_lines.proofs.Bytes.{from-begin}
+use Rattle.radio_lines.proofs.Lines.{head-came, row-came}
 use borrow.Author.Needs.{needs}
-use Rattle.radio_hearing.proofs.hear_line.Statement.{statement}
-use Rattle.radio_hearing.proofs.hear_line.Tie as tie
+use Rattle.radio_lines.proofs.hear_line.Statement.{statement}
+use Rattle.radio_lines.proofs.hear_line.Tie as tie
 
 hear-head-requires : tie.Need-hear-head-requires
 hear-head-requires c κs = search needs

@@ -1,12 +1,12 @@
--- `radio_hearing::hear_rows` meets its contract: the rows are taken under the header that is kept. Assumes nothing.
+-- `radio_lines::hear_rows` meets its contract: the rows are taken under the header that is kept. Assumes nothing.
 use mathlib.Core.Path.{ap, _∙_}
 use native.Mathlib.Omega.{arith}
 use Rattle.header.specs.Header.{headerCheck}
-use Rattle.radio_hearing.proofs.Bytes.{from-begin}
-use Rattle.radio_hearing.proofs.Lines.{head-guides, head-places, body-came, none-came}
+use Rattle.radio_lines.proofs.Bytes.{from-begin}
+use Rattle.radio_lines.proofs.Lines.{head-guides, head-places, body-came, none-came}
 use borrow.Author.Needs.{needs}
-use Rattle.radio_hearing.proofs.hear_rows.Statement.{statement}
-use Rattle.radio_hearing.proofs.hear_rows.Tie as tie
+use Rattle.radio_lines.proofs.hear_rows.Statement.{statement}
+use Rattle.radio_lines.proofs.hear_rows.Tie as tie
 
 returns : tie.Need-returns
 returns c =

@@ -1,9 +1,9 @@
--- `radio_hearing::hear_row` meets its contract: the line is taken under the header that is kept. Assumes nothing.
+-- `radio_lines::hear_row` meets its contract: the line is taken under the header that is kept. Assumes nothing.
 use Rattle.radio.specs.Radio.{headerIn}
-use Rattle.radio_hearing.proofs.Lines.{head-guides, head-places}
+use Rattle.radio_lines.proofs.Lines.{head-guides, head-places}
 use borrow.Author.Needs.{needs}
-use Rattle.radio_hearing.proofs.hear_row.Statement.{statement}
-use Rattle.radio_hearing.proofs.hear_row.Tie as tie
+use Rattle.radio_lines.proofs.hear_row.Statement.{statement}
+use Rattle.radio_lines.proofs.hear_row.Tie as tie
 
 column-rules-requires : tie.Need-column-rules-requires
 column-rules-requires c κs = search needs

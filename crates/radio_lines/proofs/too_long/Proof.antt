@@ -1,4 +1,4 @@
--- `radio_hearing::too_long` meets its contract: of each line that is too long, the same fault. Assumes nothing.
+-- `radio_lines::too_long` meets its contract: of each line that is too long, the same fault. Assumes nothing.
 use mathlib.Core.Path.{ap, _∙_}
 use Prim.Native.Nat.{ℕ}
 use native.Mathlib.Omega.{arith}
@@ -6,10 +6,10 @@ use Rattle.refusals.specs.Verdicts.{placed}
 use Rattle.tables.specs.Columns.{number}
 use Rattle.tables.proofs.Parts.{room-alike}
 use Rattle.book.specs.Room.{bookOf}
-use Rattle.radio_hearing.proofs.Lines.{long-head, long-full, long-row}
+use Rattle.radio_lines.proofs.Lines.{long-head, long-full, long-row}
 use borrow.Author.Needs.{needs}
-use Rattle.radio_hearing.proofs.too_long.Statement.{statement}
-use Rattle.radio_hearing.proofs.too_long.Tie as tie
+use Rattle.radio_lines.proofs.too_long.Statement.{statement}
+use Rattle.radio_lines.proofs.too_long.Tie as tie
 
 line-too-long-requires : tie.Need-line-too-long-requires
 line-too-long-requires c κs = search needs

@@ -1,14 +1,14 @@
--- `radio_hearing::hear_head` meets its contract: a header that passes is kept. Assumes nothing.
+-- `radio_lines::hear_head` meets its contract: a header that passes is kept. Assumes nothing.
 use mathlib.Core.Path.{sym, _∙_}
 use native.Mathlib.Omega.{arith}
 use Rattle.refusals.proofs.Placing.{placed-passes}
 use Rattle.tables.specs.Columns.{number}
 use Rattle.header.specs.Header.{headerCheck}
 use Rattle.table_reading.proofs.Taking.{not-accepted}
-use Rattle.radio_hearing.proofs.Lines.{head-verdict, head-short}
+use Rattle.radio_lines.proofs.Lines.{head-verdict, head-short}
 use borrow.Author.Needs.{needs}
-use Rattle.radio_hearing.proofs.hear_head.Statement.{statement}
-use Rattle.radio_hearing.proofs.hear_head.Tie as tie
+use Rattle.radio_lines.proofs.hear_head.Statement.{statement}
+use Rattle.radio_lines.proofs.hear_head.Tie as tie
 
 column-rules-requires : tie.Need-column-rules-requires
 column-rules-requires c κs = search needs

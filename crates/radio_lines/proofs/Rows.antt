@@ -24,7 +24,7 @@ use Rattle.radio.specs.Radio.{Course, stopped, going, onward, headerIn, lineHea
 use Rattle.radio.proofs.Parting.{linesFrom, lines-all, FirstLong, first-long}
 use Rattle.radio.specs.Hearing.{bytesHeard}
 use Rattle.radio.proofs.Hearing.{over-stopped, long-judged, line-after}
-use Rattle.radio_hearing.specs.Hearing.{Finished}
+use Rattle.radio_lines.specs.Lines.{Finished}
 
 -- what a result of rows comes to behind them, on line i
 abbrev pub coursed : Result → ℕ → Bytes → Course

@@ -1,0 +1,2 @@
+-- What the code keeps of a table between its lines.
+pub mod Lines
