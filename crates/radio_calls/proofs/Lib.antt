@@ -1,3 +1,2 @@
 pub mod Turns
 pub mod Opening
-pub mod Closing

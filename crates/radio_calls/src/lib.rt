@@ -15,7 +15,6 @@ use refusals::Check;
 use refusals::Place;
 use refusals::Verdict;
 use rows::Row;
-use tables::Table;
 
 fn bad_loan() -> Verdict
     ensures { λ r. ⌜ r ≡ nowhere badLoan ⌝ }
@@ -92,11 +91,6 @@ pub fn close(book: &mut [Row], kept: &mut [u64], lines: &mut [u8]) -> Verdict
     let verdict = admit(HEARD, LAST_TURN, book, kept, lines);
     match verdict {
         Verdict::Refused(p) => Verdict::Refused(p),
-        Verdict::Accepted => {
-            let t = Table::in_order((kept[TURN] - HEARD) as usize);
-            let closed = radio_closing::close_table(t, book, kept, lines);
-            radio_closing::settle(closed, book, kept, lines);
-            closed
-        }
+        Verdict::Accepted => radio_closing::close_heard(book, kept, lines),
     }
 }

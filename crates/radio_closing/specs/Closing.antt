@@ -3,16 +3,17 @@
 use mathlib.Core.Path.{_≡_}
 use mathlib.Core.List.{List}
 use mathlib.Core.Bool.{Bool, false, not, _&&_}
-use Prim.Native.Nat.{ℕ, _≤_}
+use Prim.Native.Nat.{ℕ}
 use lib.Dec.{eqb}
-use lib.ListN.{length}
 use Rattle.words.specs.Words.{Bytes, Row, if_then_else_}
 use Rattle.refusals.specs.declared.Verdict.{Verdict}
 use Rattle.refusals.specs.declared.Verdict.the-variants.{Accepted}
-use Rattle.tables.specs.Parts.{bookRows}
 use Rattle.book.specs.Holding.{Sound, resultOf}
 use Rattle.book.specs.Result.{Result}
-use Rattle.radio.specs.Room.{radioNumbers, radioBytes, firstHeard, lastHeard, turnOf, lineOf, restOf, flagOf, placeOf}
+use Rattle.radio.specs.Radio.{next, closing, verdictOf}
+use Rattle.radio.specs.Room.{Outcome, outcome, announcedOf, comeOf, courseIn, laidOut, lineOf, restOf, flagOf, placeOf}
+use Rattle.radio_rule.specs.Lent.{slices}
+use Rattle.radio_slices.specs.Hearing.{tableOf}
 
 -- a fault is kept, and it is not this table's
 abbrev pub earlierFault : ℕ → List ℕ → Bool
@@ -27,11 +28,8 @@ pub record Comes (r : Result) (v : Verdict) (book : List Row) : Type 0 where
   pub is : resultOf v book ≡ r
   pub sound : v ≡ Accepted → Sound book
 
--- a table that is heard is closed with this verdict: where it is accepted, the slice holds a book
-pub record Settling (v : Verdict) (book : List Row) (kept : List ℕ) (lines : Bytes) : Type 0 where
-  pub rows : length book ≡ bookRows
-  pub numbers : length kept ≡ radioNumbers
-  pub bytes : length lines ≡ radioBytes
-  pub heard : firstHeard ≤ turnOf kept
-  pub last : turnOf kept ≤ lastHeard
-  pub sound : v ≡ Accepted → Sound book
+-- a table that is heard is closed: what its close answers, and what the slices hold behind it
+abbrev pub closedHeard : List Row → List ℕ → Bytes → Outcome
+closedHeard book kept lines =
+    let r = closing (tableOf kept) (announcedOf kept) (comeOf kept) (courseIn (slices book kept lines)) in
+    outcome (verdictOf r) (laidOut (next (tableOf kept) r))

@@ -1,49 +1,30 @@
-// A table that is closed: 1, 18, its last line; and the next turn.
+// A table that is closed: 1, 18, its last line.
 ghost use mathlib.Core.Path.{_≡_};
 ghost use Prim.Native.Nat.{_+_, _-_, _<_, _^_};
 ghost use lib.ListN.{length, take, drop};
 ghost use Rattle.lines.specs.Lines.{mostLine};
-ghost use Rattle.book.specs.Holding.{resultOf};
 ghost use Rattle.book.specs.Room.{bookOf};
 ghost use Rattle.radio.specs.Radio as radio;
-ghost use Rattle.radio.specs.Room.{laidOut, courseIn, radioNumbers, announcedOf, comeOf, placeOf};
+ghost use Rattle.radio.specs.Room.{courseIn, radioNumbers, announcedOf, comeOf, outcome};
 ghost use Rattle.radio_rule.specs.Lent.{slices};
 ghost use Rattle.radio_lines.specs.Lines.{Holding};
 ghost use Rattle.radio_slices.specs.Hearing.{tableOf, Hears};
-ghost use Rattle.radio_closing.specs.Closing.{earlierFault, noneLeft, Comes, Settling};
+ghost use Rattle.radio_closing.specs.Closing.{earlierFault, noneLeft, Comes, closedHeard};
 use lines::MOST_BYTES;
 use radio_lines::Heard;
 use radio_rule::ANNOUNCED;
 use radio_rule::COME;
 use radio_rule::FAULT;
-use radio_rule::FAULT_COLUMN;
-use radio_rule::FAULT_LINE;
-use radio_rule::FAULT_NUMBER;
 use radio_rule::FAULT_TABLE;
 use radio_rule::HEAD;
 use radio_rule::LINE;
-use radio_rule::OVER;
 use radio_rule::REST;
 use radio_rule::REST_LENGTH;
-use radio_rule::TURN;
 use refusals::Check;
 use refusals::Place;
 use refusals::Verdict;
 use rows::Row;
 use tables::Table;
-
-// The fault that is kept.
-fn kept_fault(kept: &[u64]) -> Place
-    requires { ⌜ length (now kept) ≡ radioNumbers ⌝ }
-    ensures { λ r. ⌜ r ≡ placeOf (now (kept .entry)) ⌝ }
-{
-    Place::new(
-        kept[FAULT_NUMBER],
-        kept[FAULT_TABLE],
-        kept[FAULT_LINE],
-        kept[FAULT_COLUMN],
-    )
-}
 
 // "an announced length over 65,536 is 1, before 18"
 fn judge_length(announced: u64, come: u64) -> Check
@@ -97,7 +78,7 @@ fn finish(t: Table, book: &mut [Row], kept: &[u64], lines: &mut [u8]) -> Verdict
     ensures { λ r. ⌜ Comes (radio.finished t (courseIn (slices (now (book .entry)) (now (kept .entry)) (now (lines .entry))))) r (now (book .exit)) ⌝ }
 {
     if kept[FAULT] != 0 {
-        return Verdict::Refused(kept_fault(kept));
+        return Verdict::Refused(radio_slices::kept_fault(kept));
     }
     if none_left(kept) {
         return Verdict::Accepted;
@@ -107,12 +88,12 @@ fn finish(t: Table, book: &mut [Row], kept: &[u64], lines: &mut [u8]) -> Verdict
 }
 
 // A table is closed: "The first fault ends the reading", and 1 or 18 stands "in place of that table's other faults".
-pub fn close_table(t: Table, book: &mut [Row], kept: &[u64], lines: &mut [u8]) -> Verdict
+fn close_table(t: Table, book: &mut [Row], kept: &[u64], lines: &mut [u8]) -> Verdict
     requires { ⌜ Hears (now book) (now kept) (now lines) × (t ≡ tableOf (now kept)) ⌝ }
     ensures { λ r. ⌜ Comes (radio.closing t (announcedOf (now (kept .entry))) (comeOf (now (kept .entry))) (courseIn (slices (now (book .entry)) (now (kept .entry)) (now (lines .entry))))) r (now (book .exit)) ⌝ }
 {
     if faulty_before(t.number(), kept) {
-        return Verdict::Refused(kept_fault(kept));
+        return Verdict::Refused(radio_slices::kept_fault(kept));
     }
     let check = judge_length(kept[ANNOUNCED], kept[COME]);
     let verdict = check.on(t.number(), Place::NO_LINE);
@@ -122,18 +103,13 @@ pub fn close_table(t: Table, book: &mut [Row], kept: &[u64], lines: &mut [u8]) -
     }
 }
 
-// The next table is to be announced, or all are closed.
-pub fn settle(verdict: Verdict, book: &mut [Row], kept: &mut [u64], lines: &mut [u8])
-    requires { ⌜ Settling verdict (now book) (now kept) (now lines) ⌝ }
-    ensures { λ _. ⌜ slices (now (book .exit)) (now (kept .exit)) (now (lines .exit)) ≡ laidOut (radio.next (tableOf (now (kept .entry))) (resultOf verdict (now (book .entry)))) ⌝ }
+// A table that is heard is closed: the verdict of the tables that are closed, and the next turn.
+pub fn close_heard(book: &mut [Row], kept: &mut [u64], lines: &mut [u8]) -> Verdict
+    requires { ⌜ Hears (now book) (now kept) (now lines) ⌝ }
+    ensures { λ r. ⌜ outcome r (slices (now (book .exit)) (now (kept .exit)) (now (lines .exit))) ≡ closedHeard (now (book .entry)) (now (kept .entry)) (now (lines .entry)) ⌝ }
 {
-    let turn = kept[TURN] - OVER;
-    match verdict {
-        Verdict::Refused(p) => radio_slices::stop(turn, 0, 0, p, book, kept, lines),
-        Verdict::Accepted => {
-            let numbers = [turn, 0, 0, 0, 0, 0, 0, 0, 0, 0, 0];
-            radio_slices::copy_numbers(&numbers, kept);
-            radio_slices::clear_bytes(lines);
-        }
-    }
+    let t = radio_slices::table_heard(kept);
+    let verdict = close_table(t, book, kept, lines);
+    radio_slices::settle(verdict, book, kept, lines);
+    verdict
 }

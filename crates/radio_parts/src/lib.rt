@@ -16,12 +16,10 @@ use radio_rule::ANNOUNCED;
 use radio_rule::COME;
 use radio_rule::FAULT;
 use radio_rule::HEAD;
-use radio_rule::HEARD;
 use radio_rule::LINES;
 use radio_rule::TURN;
 use refusals::Verdict;
 use rows::Row;
-use tables::Table;
 
 // Of the bytes that come those that were announced: a surplus is counted and not read.
 fn to_be_read(announced: u64, come: u64, bytes: &[u8]) -> &[u8]
@@ -88,7 +86,7 @@ pub fn take_part(bytes: &[u8], book: &mut [Row], kept: &mut [u64], lines: &mut [
         kept[COME] = come;
         return;
     }
-    let t = Table::in_order((kept[TURN] - HEARD) as usize);
+    let t = radio_slices::table_heard(kept);
     let from = radio_slices::take_up(kept);
     let heard = radio_hearing::hear(
         to_be_read(kept[ANNOUNCED], kept[COME], bytes),

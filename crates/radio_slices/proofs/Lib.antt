@@ -3,3 +3,4 @@ pub mod Slices
 pub mod Keeping
 pub mod Turns
 pub mod Hearing
+pub mod Settling

@@ -4,12 +4,14 @@ ghost use Prim.Native.Nat.{_+_, _<_, _≤_};
 ghost use lib.ListN as list;
 ghost use lib.ListN.{length, replicate};
 ghost use Rattle.tables.specs.Parts.{bookRows};
+ghost use Rattle.book.specs.Holding.{resultOf};
 ghost use Rattle.radio.specs.Radio as radio;
 ghost use Rattle.radio.specs.Radio.{mostCounted};
-ghost use Rattle.radio.specs.Room.{radioNumbers, radioBytes, allClosed, turnOf, flagOf};
+ghost use Rattle.radio.specs.Room.{radioNumbers, radioBytes, allClosed, turnOf, flagOf, firstHeard, placeOf, laidOut};
 ghost use Rattle.radio_rule.specs.Lent.{slices};
 ghost use Rattle.radio_slices.specs.Numbers.{emptySlices, stoppedSlices, numbersAnnounced};
-ghost use Rattle.radio_slices.specs.Hearing.{taken};
+ghost use Rattle.radio_slices.specs.Hearing.{tableOf, taken};
+ghost use Rattle.radio_slices.specs.Settling.{Settling};
 use radio_lines::Heard;
 use radio_rule::FAULT;
 use radio_rule::FAULT_COLUMN;
@@ -20,11 +22,13 @@ use radio_rule::HEAD_LENGTH;
 use radio_rule::HEARD;
 use radio_rule::LINE;
 use radio_rule::MOST_COUNTED;
+use radio_rule::OVER;
 use radio_rule::REST_LENGTH;
 use radio_rule::TURN;
 use refusals::Place;
 use refusals::Verdict;
 use rows::Row;
+use tables::Table;
 
 // The numbers of one slice into another of the same length.
 pub fn copy_numbers(from: &[u64], to: &mut [u64])
@@ -130,5 +134,42 @@ pub fn take_up(kept: &[u64]) -> Heard
         line: kept[LINE],
         head: kept[HEAD_LENGTH] as usize,
         rest: kept[REST_LENGTH] as usize,
+    }
+}
+
+// The fault that is kept.
+pub fn kept_fault(kept: &[u64]) -> Place
+    requires { ⌜ length (now kept) ≡ radioNumbers ⌝ }
+    ensures { λ r. ⌜ r ≡ placeOf (now (kept .entry)) ⌝ }
+{
+    Place::new(
+        kept[FAULT_NUMBER],
+        kept[FAULT_TABLE],
+        kept[FAULT_LINE],
+        kept[FAULT_COLUMN],
+    )
+}
+
+// Which table is heard.
+pub fn table_heard(kept: &[u64]) -> Table
+    requires { ⌜ (length (now kept) ≡ radioNumbers) × (firstHeard ≤ turnOf (now kept)) ⌝ }
+    ensures { λ r. ⌜ r ≡ tableOf (now (kept .entry)) ⌝ }
+{
+    Table::in_order((kept[TURN] - HEARD) as usize)
+}
+
+// The next table is to be announced, or all are closed.
+pub fn settle(verdict: Verdict, book: &mut [Row], kept: &mut [u64], lines: &mut [u8])
+    requires { ⌜ Settling verdict (now book) (now kept) (now lines) ⌝ }
+    ensures { λ _. ⌜ slices (now (book .exit)) (now (kept .exit)) (now (lines .exit)) ≡ laidOut (radio.next (tableOf (now (kept .entry))) (resultOf verdict (now (book .entry)))) ⌝ }
+{
+    let turn = kept[TURN] - OVER;
+    match verdict {
+        Verdict::Refused(p) => stop(turn, 0, 0, p, book, kept, lines),
+        Verdict::Accepted => {
+            let numbers = [turn, 0, 0, 0, 0, 0, 0, 0, 0, 0, 0];
+            copy_numbers(&numbers, kept);
+            clear_bytes(lines);
+        }
     }
 }

@@ -1,10 +1,9 @@
 -- `radio_calls::close` meets its contract: it is not let in, or the table is closed. Assumes nothing.
+use mathlib.Core.Path.{sym, _∙_}
 use Rattle.radio.specs.Room.{firstHeard, lastHeard}
 use Rattle.radio_rule.specs.Lent.{slices}
-use Rattle.radio_slices.proofs.Keeping.{numbers-long}
 use Rattle.radio_slices.proofs.Hearing.{hears-so}
-use Rattle.radio_calls.proofs.Turns.{let-in, no-close}
-use Rattle.radio_calls.proofs.Closing.{closed}
+use Rattle.radio_calls.proofs.Turns.{let-in, no-close, close-in-turn}
 use borrow.Author.Needs.{needs}
 use Rattle.radio_calls.proofs.close.Statement.{statement}
 use Rattle.radio_calls.proofs.close.Tie as tie
@@ -18,35 +17,11 @@ enum-known-verdict c = search needs
 enum-told : tie.Need-enum-told
 enum-told c = search needs
 
-slice-read-in-order : tie.Need-slice-read-in-order
-slice-read-in-order c =
-    let a = c .before .before .before .before .before .before .before .before .before .args in
-    let l = let-in firstHeard lastHeard (slices (a .book .now) (a .kept .now) (a .lines .now)) _ (c .before .before .before .admit .ensures) (c .before .enum-told .given .1) in
-    let long = numbers-long (a .book .now) (a .kept .now) (a .lines .now) (l .keeps) in
-    search needs
-
-sub-in-order : tie.Need-sub-in-order
-sub-in-order c =
-    let a = c .before .before .before .before .before .before .before .before .before .args in
-    let l = let-in firstHeard lastHeard (slices (a .book .now) (a .kept .now) (a .lines .now)) _ (c .before .before .before .admit .ensures) (c .before .enum-told .given .1) in
-    let low = l .low in
-    search needs
-
-in-order-requires : tie.Need-in-order-requires
-in-order-requires c κs = search needs
-
-close-table-requires : tie.Need-close-table-requires
-close-table-requires c κs =
-    let a = c .before .before .before .before .before .before .before .before .before .before .before .before .before .args in
-    let l = let-in firstHeard lastHeard (slices (a .book .now) (a .kept .now) (a .lines .now)) _ (c .before .before .before .before .before .before .before .admit .ensures) (c .before .before .before .before .before .enum-told .given .1) in
-    (hears-so (a .book .now) (a .kept .now) (a .lines .now) (l .keeps) (l .low), c .before .before .before .in-order .ensures)
-
-settle-requires : tie.Need-settle-requires
-settle-requires c κs =
-    let a = c .before .before .before .before .before .before .before .before .before .before .before .before .before .before .before .before .before .before .before .before .args in
-    let l = let-in firstHeard lastHeard (slices (a .book .now) (a .kept .now) (a .lines .now)) _ (c .before .before .before .before .before .before .before .before .before .before .before .before .before .before .admit .ensures) (c .before .before .before .before .before .before .before .before .before .before .before .before .enum-told .given .1) in
-    let h = hears-so (a .book .now) (a .kept .now) (a .lines .now) (l .keeps) (l .low) in
-    record { rows = search needs; numbers = h .numbers; bytes = search needs; heard = h .heard; last = h .last; sound = λ e. c .before .before .before .before .before .before .close-table .ensures .sound e }
+close-heard-requires : tie.Need-close-heard-requires
+close-heard-requires c κs =
+    let a = c .before .before .before .before .before .before .before .before .before .before .before .args in
+    let l = let-in firstHeard lastHeard (slices (a .book .now) (a .kept .now) (a .lines .now)) _ (c .before .before .before .before .before .admit .ensures) (c .before .before .before .enum-told .given .1) in
+    hears-so (a .book .now) (a .kept .now) (a .lines .now) (l .keeps) (l .low)
 
 same-length : tie.Need-same-length
 same-length c = search needs
@@ -73,9 +48,9 @@ same-length-6 c = search needs
 
 returns-2 : tie.Need-returns-2
 returns-2 c =
-    let a = c .before .before .before .before .before .before .before .before .before .before .before .before .before .before .before .before .before .before .before .before .before .before .before .before .before .before .args in
-    let l = let-in firstHeard lastHeard (slices (a .book .now) (a .kept .now) (a .lines .now)) _ (c .before .before .before .before .before .before .before .before .before .before .before .before .before .before .before .before .before .before .before .before .admit .ensures) (c .before .before .before .before .before .before .before .before .before .before .before .before .before .before .before .before .before .before .enum-told .given .1) in
-    closed (a .book .now) (a .kept .now) (a .lines .now) (hears-so (a .book .now) (a .kept .now) (a .lines .now) (l .keeps) (l .low)) _ (c .before .before .before .before .before .before .before .before .before .before .before .before .before .before .before .before .in-order .ensures) _ _ (c .before .before .before .before .before .before .before .before .before .before .before .before .close-table .ensures) _ (c .before .before .before .before .before .settle .ensures)
+    let a = c .before .before .before .before .before .before .before .before .before .before .before .before .before .before .before .before .before .args in
+    let l = let-in firstHeard lastHeard (slices (a .book .now) (a .kept .now) (a .lines .now)) _ (c .before .before .before .before .before .before .before .before .before .before .before .admit .ensures) (c .before .before .before .before .before .before .before .before .before .enum-told .given .1) in
+    c .before .before .before .before .before .close-heard .ensures ∙ sym (close-in-turn (slices (a .book .now) (a .kept .now) (a .lines .now)) (l .keeps) (l .low))
 
 pub close-spec : {M : Type 1} → statement M
 close-spec =
@@ -84,11 +59,7 @@ close-spec =
     admit-requires
     enum-known-verdict
     enum-told
-    slice-read-in-order
-    sub-in-order
-    in-order-requires
-    close-table-requires
-    settle-requires
+    close-heard-requires
     same-length
     same-length-2
     same-length-3

@@ -25,14 +25,8 @@ returns c =
     let a = at .args in
     only-counted (a .bytes .now) (a .book .now) (a .kept .now) (a .lines .now) (at .pre) (c .if1 .taken) _ (c .before .before .counted .ensures)
 
-slice-read-in-order : tie.Need-slice-read-in-order
-slice-read-in-order c = search needs
-
-sub-in-order : tie.Need-sub-in-order
-sub-in-order c = search needs
-
-in-order-requires : tie.Need-in-order-requires
-in-order-requires c κs = search needs
+table-heard-requires : tie.Need-table-heard-requires
+table-heard-requires c κs = search needs
 
 take-up-requires : tie.Need-take-up-requires
 take-up-requires c κs = search needs
@@ -50,14 +44,14 @@ hear-requires : tie.Need-hear-requires
 hear-requires c κs =
     let at = c .before .before .before .before .before .before .before .before .before .before .before .before .before .before .before .before in
     let a = at .args in
-    hear-asks (a .bytes .now) (a .book .now) (a .kept .now) (a .lines .now) (at .pre) (c .before .before .before .before .before .before .before .before .before .if1 .left) _ (c .before .before .before .before .before .before .before .in-order .ensures) _ (c .before .before .before .before .before .take-up .ensures) _ (c .before .before .to-be-read .ensures)
+    hear-asks (a .bytes .now) (a .book .now) (a .kept .now) (a .lines .now) (at .pre) (c .before .before .before .before .before .before .before .before .before .if1 .left) _ (c .before .before .before .before .before .before .before .table-heard .ensures) _ (c .before .before .before .before .before .take-up .ensures) _ (c .before .before .to-be-read .ensures)
 
 keep-requires : tie.Need-keep-requires
 keep-requires c κs =
     let at = c .before .before .before .before .before .before .before .before .before .before .before .before .before .before .before .before .before .before .before .before .before .before .before in
     let a = at .args in
     let h = at .pre in
-    record { rows = search needs; numbers = h .numbers; bytes = search needs; least = h .heard; last = h .last; holds = λ e. holds-by _ _ (c .before .before .before .before .before .before .before .before .before .before .before .before .before .before .in-order .ensures) _ _ _ (c .before .before .before .before .before .before .hear .ensures .holds e) }
+    record { rows = search needs; numbers = h .numbers; bytes = search needs; least = h .heard; last = h .last; holds = λ e. holds-by _ _ (c .before .before .before .before .before .before .before .before .before .before .before .before .before .before .table-heard .ensures) _ _ _ (c .before .before .before .before .before .before .hear .ensures .holds e) }
 
 same-length-2 : tie.Need-same-length-2
 same-length-2 c = search needs
@@ -72,7 +66,7 @@ returns-2 : tie.Need-returns-2
 returns-2 c =
     let at = c .before .before .before .before .before .before .before .before .before .before .before .before .before .before .before .before .before .before .before .before .before .before .before .before .before .before .before .before .before in
     let a = at .args in
-    part-kept (a .bytes .now) (a .book .now) (a .kept .now) (a .lines .now) (at .pre) (c .before .before .before .before .before .before .before .before .before .before .before .before .before .before .before .before .before .before .before .before .before .before .if1 .left) _ (c .before .before .before .before .before .before .before .before .before .before .before .before .before .before .before .before .before .before .before .before .in-order .ensures) _ (c .before .before .before .before .before .before .before .before .before .before .before .before .before .before .before .before .before .before .take-up .ensures) _ (c .before .before .before .before .before .before .before .before .before .before .before .before .before .before .before .to-be-read .ensures) _ _ _ (c .before .before .before .before .before .keep .ensures) (c .before .before .before .before .before .before .before .before .before .before .before .before .before .before .before .before .before .before .before .before .before .before .before .before .counted .ensures) (c .before .before .before .before .before .before .before .before .before .before .before .before .hear .ensures .is)
+    part-kept (a .bytes .now) (a .book .now) (a .kept .now) (a .lines .now) (at .pre) (c .before .before .before .before .before .before .before .before .before .before .before .before .before .before .before .before .before .before .before .before .before .before .if1 .left) _ (c .before .before .before .before .before .before .before .before .before .before .before .before .before .before .before .before .before .before .before .before .table-heard .ensures) _ (c .before .before .before .before .before .before .before .before .before .before .before .before .before .before .before .before .before .before .take-up .ensures) _ (c .before .before .before .before .before .before .before .before .before .before .before .before .before .before .before .to-be-read .ensures) _ _ _ (c .before .before .before .before .before .keep .ensures) (c .before .before .before .before .before .before .before .before .before .before .before .before .before .before .before .before .before .before .before .before .before .before .before .before .counted .ensures) (c .before .before .before .before .before .before .before .before .before .before .before .before .hear .ensures .is)
 
 pub take-part-spec : {M : Type 1} → statement M
 take-part-spec =
@@ -84,9 +78,7 @@ take-part-spec =
     slice-write-kept
     same-length
     returns
-    slice-read-in-order
-    sub-in-order
-    in-order-requires
+    table-heard-requires
     take-up-requires
     slice-read-to-be-read
     slice-read-to-be-read-2

@@ -1,10 +1,10 @@
--- `radio_closing::settle` meets its contract: by the verdict. Assumes nothing.
+-- `radio_slices::settle` meets its contract: by the verdict. Assumes nothing.
 use mathlib.Core.Path.{_∙_}
 use Rattle.radio_slices.proofs.Slices.{no-lines}
-use Rattle.radio_closing.proofs.Closing.{settled-fault, settled-book}
+use Rattle.radio_slices.proofs.Settling.{settled-fault, settled-book}
 use borrow.Author.Needs.{needs}
-use Rattle.radio_closing.proofs.settle.Statement.{statement}
-use Rattle.radio_closing.proofs.settle.Tie as tie
+use Rattle.radio_slices.proofs.settle.Statement.{statement}
+use Rattle.radio_slices.proofs.settle.Tie as tie
 
 slice-read-turn : tie.Need-slice-read-turn
 slice-read-turn c = search needs
