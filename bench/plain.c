@@ -195,33 +195,33 @@ static inline int too_long(const uint8_t *start, const struct reader *r, int beh
     return (behind == BROKEN || r->at - start > LINE_BYTES) && line_length(start, r->end) > LINE_BYTES;
 }
 
-/* Digits to a number in the column's range; the bytes are no more than nine. */
-static inline int take_number(const uint8_t *p, size_t length, const struct col *col, uint64_t *value)
+/* Digits to a number: 0, 8, or 21 outside the column's range. At most nine of them stand before a byte that is none. */
+static inline unsigned take_number(const uint8_t *p, size_t length, const struct col *col, uint64_t *value)
 {
     uint32_t sum = 0;
     size_t i;
 
-    if (length - 1 >= col->width)
-        return 0;
     for (i = 0; i < length; i++) {
         uint32_t digit = (uint32_t)p[i] - '0';
 
         if (digit > 9)
-            return 0;
+            return 8;
         sum = sum * 10 + digit;
     }
     *value = sum;
-    return sum >= col->least && sum <= col->most;
+    return sum >= col->least && sum <= col->most ? 0 : 21;
 }
 
-/* Whether the column takes the cell; the value of a text or an empty cell is 0. */
-static inline int judge(const struct cell *cell, const struct col *col, uint64_t *value)
+/* What the column has against the cell: 19, 20, 8, 21 or 0. The value of a text or an empty cell is 0. */
+static inline unsigned judge(const struct cell *cell, const struct col *col, uint64_t *value)
 {
+    size_t length = cell->length - cell->pairs;
+
     *value = 0;
-    if (cell->length == 0)
-        return !col->required;
+    if (length - 1 >= col->width)
+        return length > 0 ? 20 : col->required ? 19 : 0;
     if (col->least > col->most)
-        return cell->length - cell->pairs <= col->width;
+        return 0;
     return take_number(cell->start, cell->length, col, value);
 }
 
@@ -286,14 +286,15 @@ static uint64_t take_header(unsigned t, struct reader *r, struct header *header,
 
 /* ---- Rows */
 
-/* Takes a line: its numbers by column, or its 17, 6, 7 or 8. A bad cell is only noted, as the line's 17, a later cell's 6 or
- * the line's 7 come first, and the lowest column's 8. */
+/* Takes a line: its numbers by column, or its 17, 6, 7, or 19, 20, 8 or 21 of a cell. A bad cell is only noted, as the line's
+ * 17, a later cell's 6 or the line's 7 come first, and the lowest column's fault. */
 static inline uint64_t take_row(unsigned t, struct reader *r, uint64_t line, const struct header *header, row numbers,
     uint64_t place[4])
 {
     const struct col *cols = tabs[t].cols;
     const uint8_t *start = r->at;
-    uint32_t bad = 0;
+    unsigned bad = 0;
+    unsigned lowest = tabs[t].count + 1;
     unsigned count = 0;
     int behind;
 
@@ -304,9 +305,12 @@ static inline uint64_t take_row(unsigned t, struct reader *r, uint64_t line, con
         count++;
         if (behind != BROKEN && count <= header->cells) {
             unsigned c = header->col_of[count - 1];
+            unsigned fault = c ? judge(&cell, &cols[c - 1], &numbers[c - 1]) : 0;
 
-            if (c && !judge(&cell, &cols[c - 1], &numbers[c - 1]))
-                bad |= (uint32_t)1 << (c - 1);
+            if (fault && c < lowest) {
+                bad = fault;
+                lowest = c;
+            }
         }
     } while (behind == NEXT_CELL);
     if (too_long(start, r, behind))
@@ -315,16 +319,7 @@ static inline uint64_t take_row(unsigned t, struct reader *r, uint64_t line, con
         return refuse(place, 6, t, line, count);
     if (count != header->cells)
         return refuse(place, 7, t, line, 0);
-    if (bad) {
-        unsigned c = 1;
-
-        while (!(bad & 1)) {
-            bad >>= 1;
-            c++;
-        }
-        return refuse(place, 8, t, line, c);
-    }
-    return 0;
+    return bad ? refuse(place, bad, t, line, lowest) : 0;
 }
 
 /* ---- Keys */
@@ -730,8 +725,9 @@ uint64_t plain_cell(const uint8_t *text, size_t length, uint64_t table, uint64_t
         return refuse(place, 7, t, line, 0);
     if (!(header.present >> (column - 1) & 1))
         return refuse(place, 0, 0, 0, 0);
-    if (!judge(&asked, &tabs[t].cols[column - 1], &value))
-        return refuse(place, 8, t, line, column);
+    number = judge(&asked, &tabs[t].cols[column - 1], &value);
+    if (number)
+        return refuse(place, number, t, line, column);
     if (asked.length > 0 && tabs[t].cols[column - 1].least > tabs[t].cols[column - 1].most) {
         answer[0] = 2;
         answer[2] = (uint64_t)(asked.start - text);
@@ -804,33 +800,38 @@ struct stock {
     size_t free_count, next;
 };
 
-/* Takes the tab and the number behind it. 8 is noted in *bad; a wrong field count shows at the end. */
-static inline int take_field(struct reader *r, const struct col *col, uint64_t *value, int *good)
+/* Takes the tab and the number behind it. What the column has against it is noted in *fault; a wrong field count shows at the
+ * end. */
+static inline int take_field(struct reader *r, const struct col *col, uint64_t *value, unsigned *fault)
 {
-    const uint8_t *start;
+    struct cell field = {NULL, 0, 0};
 
     if (r->at == r->end || *r->at != '\t')
         return 0;
-    start = ++r->at;
+    field.start = ++r->at;
     while (r->at < r->end && *r->at != '\t' && *r->at != '\n')
         r->at++;
-    *good = take_number(start, (size_t)(r->at - start), col, value);
+    field.length = (size_t)(r->at - field.start);
+    *fault = judge(&field, col, value);
     return 1;
 }
 
-/* Takes `count` fields and the line's end: 0 if the count is another one. *bad is the first column with an 8, or 0. */
-static inline int take_fields(struct reader *r, unsigned count, row numbers, unsigned *bad)
+/* Takes `count` fields and the line's end: 0 if the count is another one. *bad is the fault of the first column that has one,
+ * and 0 where none has. */
+static inline int take_fields(struct reader *r, unsigned count, row numbers, unsigned *bad, unsigned *column)
 {
     unsigned c;
 
     *bad = 0;
     for (c = 0; c < count; c++) {
-        int good;
+        unsigned fault;
 
-        if (!take_field(r, &blocks_cols[c], &numbers[c], &good))
+        if (!take_field(r, &blocks_cols[c], &numbers[c], &fault))
             return 0;
-        if (!good && !*bad)
-            *bad = c + 1;
+        if (fault && !*bad) {
+            *bad = fault;
+            *column = c + 1;
+        }
     }
     if (r->at == r->end)
         return 1;
@@ -863,12 +864,12 @@ static uint64_t slip_line(struct reader *r, uint64_t line, const struct book_key
     size_t at;
     int known;
 
-    if ((kind != 'A' && kind != 'R' && kind != 'D') || !take_fields(r, kind == 'D' ? 4 : 11, numbers, &bad))
+    if ((kind != 'A' && kind != 'R' && kind != 'D') || !take_fields(r, kind == 'D' ? 4 : 11, numbers, &bad, &column))
         return refuse(place, 12, SLIP, line, 0);
     if (kind == 'A' && stock->order.count == ROWS)
         return refuse(place, 5, SLIP, line, 0);
     if (bad)
-        return refuse(place, 8, SLIP, line, bad);
+        return refuse(place, bad, SLIP, line, column);
     if (kind != 'D' && early(numbers))
         return refuse(place, 11, SLIP, line, 11);
     at = place_of_block(&stock->order, (const row *)stock->rows, numbers);

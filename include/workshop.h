@@ -44,10 +44,16 @@
  *     5 more than 512 rows                             14 output shorter than the text to write
  *     6 quote or byte fault                            15 asked table, column, line, type or block does not exist, or a
  *     7 cell count differs from the header                call by radio is out of turn
- *     8 cell empty where required, not digits,         16 book breaks the book rule, what is kept by radio breaks its own,
- *       too long or out of range                          or a lent length is wrong
- *     9 key stands in an earlier row                   17 line of more than 2,048 bytes, its line end left out
- *       (slip: in the book)                            18 table closed with more or fewer bytes than announced (by radio)
+ *     8 cell not digits                                16 book breaks the book rule, what is kept by radio breaks its own,
+ *     9 key stands in an earlier row                      or a lent length is wrong
+ *       (slip: in the book)                            17 line of more than 2,048 bytes, its line end left out
+ *                                                      18 table closed with more or fewer bytes than announced (by radio)
+ *                                                      19 cell empty where its column is required
+ *                                                      20 cell longer than its column's width; it comes before 8 and 21
+ *                                                      21 number outside its column's range
+ *
+ * A CELL is judged by its content, a field of a slip by its bytes. A text column has 19 and 20 only. Of a line's cells with one
+ * of 19, 20, 8 and 21 the lowest column is told, whichever it has.
  *
  * Only the first fault is told. Numbers may be added later; a caller treats one that it does not know as a refusal.
  *
@@ -80,7 +86,7 @@ extern "C" {
  * stop and vehicle_block, so a caller that was compiled against an earlier header must be compiled again.
  *
  * Accepted: the book holds the delivery. Refused: the book is the empty one, all zero; only where `rows` is not
- * WORKSHOP_BOOK_ROWS (16) it stays as it was. Can refuse with 16, then 1 to 11 and 17. */
+ * WORKSHOP_BOOK_ROWS (16) it stays as it was. Can refuse with 16, then 1 to 11, 17 and 19 to 21. */
 uint64_t workshop_read(const uint8_t *vehicle_type, size_t vehicle_type_length, const uint8_t *depot, size_t depot_length,
     const uint8_t *stop, size_t stop_length, const uint8_t *stop_point, size_t stop_point_length,
     const uint8_t *vehicle_block, size_t vehicle_block_length, uint64_t (*book)[11], size_t rows, uint64_t place[4]);
@@ -147,8 +153,8 @@ uint64_t workshop_radio_part(const uint8_t *part, size_t part_length, uint64_t (
     size_t kept_length, uint8_t *lines, size_t lines_length, uint64_t place[4]);
 
 /* Closes the announced table: its last line may lack its line feed, and the bytes that came are held to those announced. In
- * turn behind the announcement, also where no part came. Accepted, or the first fault of the tables closed so far: 1 to 11,
- * 17 or 18. The close of the last table, vehicle_block, gives the delivery's verdict, and the book is then the one that
+ * turn behind the announcement, also where no part came. Accepted, or the first fault of the tables closed so far: 1 to 11
+ * or 17 to 21. The close of the last table, vehicle_block, gives the delivery's verdict, and the book is then the one that
  * workshop_read leaves: that of the delivery, or the empty one, all zero. Behind it only workshop_radio_open is in turn. */
 uint64_t workshop_radio_close(uint64_t (*book)[11], size_t rows, uint64_t *kept, size_t kept_length, uint8_t *lines,
     size_t lines_length, uint64_t place[4]);
@@ -157,7 +163,8 @@ uint64_t workshop_radio_close(uint64_t (*book)[11], size_t rows, uint64_t *kept,
  *
  * `work` is room that the function works in: WORKSHOP_WORK_ROWS rows of any content, all zero afterwards, whatever the
  * answer. Accepted: the book is the corrected one. Refused: the book stays as it was. Where a length is wrong (16), what
- * was lent at that length stays as it was. Can refuse with 16, then 1, then 5, 8 to 13 at a line of the slip (table 5). */
+ * was lent at that length stays as it was. Can refuse with 16, then 1, then 5, 8 to 13 or 19 to 21 at a line of the slip
+ * (table 5). */
 uint64_t workshop_slip(const uint8_t *slip, size_t slip_length, uint64_t (*book)[11], size_t book_rows,
     uint64_t (*work)[11], size_t work_rows, uint64_t place[4]);
 
@@ -170,7 +177,8 @@ uint64_t workshop_slip(const uint8_t *slip, size_t slip_length, uint64_t (*book)
  *     answer[3] a text's length in bytes, otherwise 0
  *
  * A text is the bytes of `text` itself between the quotes, or the whole cell where it has none; doubled quotes inside are
- * still doubled. Refused: four zeros. Can refuse with 15, 1, 17, 6, 4, 3, 2, 15, 17, 6, 7, 8, in this order. */
+ * still doubled. Refused: four zeros. Can refuse with 15, 1, 17, 6, 4, 3, 2, 15, 17, 6, 7, and 19, 20, 8 or 21 of the cell, in
+ * this order. */
 uint64_t workshop_cell(const uint8_t *text, size_t length, uint64_t table, uint64_t line, uint64_t column,
     uint64_t answer[4], uint64_t place[4]);
 

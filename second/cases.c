@@ -452,6 +452,79 @@ static void order_rows(unsigned t)
             swap_rows(delivery.rows[t], i, n - 1 - i);
 }
 
+/* ---- Content against a column's rules */
+
+static uint8_t any_letter(void)
+{
+    static const uint8_t letters[] = "abcxyzABC 0159.,-_'/";
+    static const uint8_t rare[] = {';', '"', '"', 0xC3, 0xA4, 0x80, 0xFF, ' ', '~', '!'};
+
+    return chance(75) ? letters[below(sizeof letters - 1)] : rare[below(sizeof rare)];
+}
+
+/* A byte that is no digit, often one that stands beside the digits or before a number. */
+static uint8_t no_digit(void)
+{
+    static const uint8_t bytes[] = {'x', 'A', 'e', '-', '+', ' ', ' ', '.', ',', '/', ':', '"', '"', ';', 0x80, 0xB2, 0xFF};
+
+    return bytes[below(sizeof bytes)];
+}
+
+static void put_digits(struct growing *content, size_t n)
+{
+    for (; n > 0; n--)
+        put_byte(content, (uint8_t)(chance(50) ? '0' : '0' + below(10)));
+}
+
+/* 20: more bytes than the column's width, mostly one. Often zeros before a number that the column would take. */
+static void put_too_long(struct growing *content, size_t width)
+{
+    size_t n = width + (chance(80) ? 1 : between(2, 30));
+
+    switch (below(3)) {
+    case 0: put_number(content, 1, n); break;
+    case 1: put_digits(content, n); break;
+    default:
+        for (; n > 0; n--)
+            put_byte(content, any_letter());
+        break;
+    }
+}
+
+/* 8: digits but for one byte, often as many as the column's width. */
+static void put_not_digits(struct growing *content, size_t width)
+{
+    size_t n = chance(50) ? width : between(1, width);
+    size_t at = content->length + below(n);
+
+    put_digits(content, n);
+    content->bytes[at] = no_digit();
+}
+
+/* 21: a number beside the column's range, mostly the next one. Above the greatest number of its width it is 20. */
+static void put_beside_range(struct growing *content, const struct column *column)
+{
+    uint64_t number = column->most + (chance(60) ? 1 : between(1, 7));
+
+    if (column->least > 0 && chance(85))
+        number = column->least - 1;
+    put_number(content, number, chance(30) ? between(1, column->width) : 1);
+}
+
+/* The four faults of content. */
+enum against { EMPTY, TOO_LONG, NOT_DIGITS, BESIDE_RANGE, AGAINST };
+
+/* Content with that fault. A text has the first two only, and an optional column may be empty. */
+static void put_against(struct growing *content, const struct column *column, enum against way)
+{
+    switch (way) {
+    case EMPTY: break;
+    case TOO_LONG: put_too_long(content, column->width); break;
+    case NOT_DIGITS: put_not_digits(content, column->width); break;
+    default: put_beside_range(content, column); break;
+    }
+}
+
 /* ---- A table as cells */
 
 /* One cell as it stands in the text, quotes and all. */
@@ -547,14 +620,6 @@ static struct raw raw_number(uint64_t number, unsigned width)
 
     put_number(&digits, number, chance(20) ? between(1, width) : 1);
     return raw_content(bytes, digits.length, 12);
-}
-
-static uint8_t any_letter(void)
-{
-    static const uint8_t letters[] = "abcxyzABC 0159.,-_'/";
-    static const uint8_t rare[] = {';', '"', '"', 0xC3, 0xA4, 0x80, 0xFF, ' ', '~', '!'};
-
-    return chance(75) ? letters[below(sizeof letters - 1)] : rare[below(sizeof rare)];
 }
 
 static struct raw raw_text(size_t length)
@@ -885,60 +950,45 @@ static void fault_count(size_t line)
         sheet.cells[line] = 0;
 }
 
-/* Digits, more of them than the column's width: often zeros before a number that the column would take. */
-static struct raw raw_too_long(unsigned width)
+/* A cell with one of the four faults. */
+static struct raw raw_against(const struct column *column, enum against way)
 {
-    struct raw raw = open_raw();
-    size_t n = width + between(1, chance(80) ? 1 : 30);
-    size_t i;
+    uint8_t bytes[128];
+    struct growing content = {bytes, 0, sizeof bytes};
 
-    if (chance(50)) {
-        put_number(&sheet.pool, 1, n);
-        return close_raw(raw);
-    }
-    for (i = 0; i < n; i++)
-        put_byte(&sheet.pool, (uint8_t)(chance(50) ? '0' : '0' + below(10)));
-    return close_raw(raw);
+    if (way == EMPTY)
+        return raw_empty();
+    put_against(&content, column, way);
+    return raw_content(bytes, content.length, 25);
 }
 
-static struct raw raw_bad_number(const struct column *column)
+/* The column for a fault of a cell. Few have a named range; VERSION has one in every table. */
+static unsigned column_against(enum against way)
 {
-    static const char *const bad[] = {"x", "-1", "+1", " 1", "1 ", "1.", "\"1\"\"2\"", "0x1", "\"\"\"\"", "\xC2\xB9", "1e1", "/", ":", "\" 1\""};
-
-    switch (below(4)) {
-    case 0: return raw_empty();
-    case 1: return raw_too_long(column->width);
-    case 2:
-        if (column->least > 0)
-            return raw_number(column->least - 1, column->width);
-        if (column->most == 2)
-            return raw_number(chance(60) ? 3 : between(4, 9), 1);
-        return raw_too_long(column->width);
-    default: return raw_words(bad[below(sizeof bad / sizeof bad[0])]);
-    }
+    return way == BESIDE_RANGE && meant_column == 0 && chance(40) ? 1 : any_column();
 }
 
-/* 8: what the column does not take. Where an empty cell comes of it in an optional column, that is no fault. */
-static struct raw raw_bad_value(const struct column *column)
-{
-    if (column->kind == 'd')
-        return raw_bad_number(column);
-    return chance(70) ? raw_text(column->width + between(1, 3)) : raw_empty();
-}
-
-static void fault_value(size_t line)
+static void fault_cell(size_t line, enum against way)
 {
     size_t tries;
 
     for (tries = 0; tries < 8; tries++) {
-        unsigned c = any_column();
+        unsigned c = column_against(way);
         size_t at = cell_of(c);
 
         if (at < sheet.cells[line]) {
-            sheet.cell[line][at] = raw_bad_value(&tables[sheet.table].columns[c - 1]);
+            sheet.cell[line][at] = raw_against(&tables[sheet.table].columns[c - 1], way);
             return;
         }
     }
+}
+
+/* 19, 20, 8 or 21. At times a second cell has one too, and the lower column is to be named. */
+static void fault_value(size_t line, enum against way)
+{
+    fault_cell(line, way);
+    if (meant_column == 0 && chance(30))
+        fault_cell(line, (enum against)below(AGAINST));
 }
 
 static void set_number(size_t line, unsigned c, uint64_t number)
@@ -1032,7 +1082,7 @@ static void fault_long_line(size_t line)
 /* Those of a header first. */
 enum fault {
     F_LONG_HEADER, F_HEADER_QUOTES, F_MANY_CELLS, F_TWICE, F_MISSING,
-    F_LONG_LINE, F_QUOTES, F_COUNT, F_VALUE, F_KEY, F_REFERENCE, F_TIMES
+    F_LONG_LINE, F_QUOTES, F_COUNT, F_EMPTY, F_TOO_LONG, F_NOT_DIGITS, F_BESIDE_RANGE, F_KEY, F_REFERENCE, F_TIMES
 };
 
 static void make_fault(enum fault fault, size_t line)
@@ -1043,7 +1093,7 @@ static void make_fault(enum fault fault, size_t line)
     if (line == 0 && fault > F_MISSING)
         fault = (enum fault)below(F_MISSING + 1);
     if ((!refers && fault == F_REFERENCE) || (!blocks && fault == F_TIMES))
-        fault = chance(50) ? F_KEY : F_VALUE;
+        fault = chance(50) ? F_KEY : F_NOT_DIGITS;
     switch (fault) {
     case F_LONG_HEADER: fault_long_line(0); break;
     case F_LONG_LINE: fault_long_line(line); break;
@@ -1053,7 +1103,10 @@ static void make_fault(enum fault fault, size_t line)
     case F_MISSING: fault_missing(); break;
     case F_QUOTES: fault_quotes(line); break;
     case F_COUNT: fault_count(line); break;
-    case F_VALUE: fault_value(line); break;
+    case F_EMPTY: fault_value(line, EMPTY); break;
+    case F_TOO_LONG: fault_value(line, TOO_LONG); break;
+    case F_NOT_DIGITS: fault_value(line, NOT_DIGITS); break;
+    case F_BESIDE_RANGE: fault_value(line, BESIDE_RANGE); break;
     case F_KEY: fault_key(line); break;
     case F_REFERENCE: fault_reference(line); break;
     default: fault_times(line); break;
@@ -1063,8 +1116,8 @@ static void make_fault(enum fault fault, size_t line)
 /* A fault of a row; those between rows and tables are the more telling ones. */
 static enum fault any_row_fault(void)
 {
-    static const enum fault faults[] = {F_LONG_LINE, F_QUOTES, F_COUNT, F_VALUE, F_VALUE, F_KEY, F_KEY, F_REFERENCE,
-        F_REFERENCE, F_TIMES, F_TIMES};
+    static const enum fault faults[] = {F_LONG_LINE, F_QUOTES, F_COUNT, F_EMPTY, F_TOO_LONG, F_NOT_DIGITS, F_BESIDE_RANGE,
+        F_KEY, F_KEY, F_REFERENCE, F_REFERENCE, F_TIMES, F_TIMES};
 
     return faults[below(sizeof faults / sizeof faults[0])];
 }
@@ -1404,15 +1457,19 @@ static size_t seen_at(const uint64_t *key)
     return find_key((const row *)slip_sees.blocks, slip_sees.count, key, 4);
 }
 
+/* The bytes that stand in a field in place of its number. */
+struct field {
+    int stands;
+    size_t length;
+    uint8_t bytes[64];
+};
+
 /* A line's numbers as fields. Twelve of them and the kind: at most thirteen. */
 struct slip_line {
     const char *kind;
     uint64_t numbers[NUMBERS];
-    size_t fields;        /* numbers that are written */
-    const char *bad;      /* what stands in the field of this column in place of its number */
-    size_t bad_column;    /* 0: in none */
-    int bad_keeps_number; /* the bad bytes stand behind the number */
-    int bad_too_long;     /* the number has one zero too many, and nothing else is bad of it */
+    size_t fields; /* numbers that are written */
+    struct field instead[NUMBERS];
     const char *tail;
 };
 
@@ -1421,21 +1478,14 @@ static void print_slip_line(struct growing *slip, const struct slip_line *line)
     size_t c;
 
     put(slip, line->kind);
-    for (c = 1; c <= line->fields; c++) {
-        unsigned width = tables[VEHICLE_BLOCK].columns[c <= NUMBERS ? c - 1 : 0].width;
-        int bad = line->bad_column == c;
-
+    for (c = 0; c < line->fields; c++) {
         put_byte(slip, '\t');
-        if (bad && line->bad_too_long && c <= NUMBERS) {
-            put_number(slip, line->numbers[c - 1], width + 1);
-            continue;
-        }
-        if (!bad || line->bad_keeps_number)
-            put_number(slip, c <= NUMBERS ? line->numbers[c - 1] : 1, chance(12) ? between(1, width) : 1);
-        if (bad && *line->bad)
-            put(slip, line->bad);
-        else if (bad && chance(30))
-            put_byte(slip, 0); /* a byte 0 cannot stand in a string */
+        if (c >= NUMBERS)
+            put_number(slip, 1, 1);
+        else if (line->instead[c].stands)
+            put_bytes(slip, line->instead[c].bytes, line->instead[c].length);
+        else
+            put_number(slip, line->numbers[c], chance(12) ? between(1, tables[VEHICLE_BLOCK].columns[c].width) : 1);
     }
     put(slip, line->tail);
     put_byte(slip, '\n');
@@ -1473,7 +1523,6 @@ static int good_line(struct slip_line *line, char kind)
 {
     size_t at;
 
-    line->bad_column = 0;
     line->tail = "";
     line->fields = kind == 'D' ? 4 : NUMBERS;
     line->kind = kind == 'A' ? "A" : kind == 'R' ? "R" : "D";
@@ -1508,24 +1557,35 @@ static int any_good_line(struct slip_line *line)
     return 0;
 }
 
+/* A field's number with one byte more, as it is or at its column's full width: 8, or 20. Often a carriage return. */
+static void put_with_byte(struct growing *content, uint64_t number, size_t width)
+{
+    static const uint8_t bytes[] = {'\r', '\r', '\r', ' ', 'x', 0, 127, '"', ';'};
+    uint8_t byte = bytes[below(sizeof bytes)];
+    int before = chance(20);
+
+    if (before)
+        put_byte(content, byte);
+    put_number(content, number, chance(40) ? width : 1);
+    if (!before)
+        put_byte(content, byte);
+}
+
+/* 19, 20, 8 or 21 in one field. VERSION alone has a range of its own. */
 static void bad_field(struct slip_line *line)
 {
-    static const char *const instead[] = {"", "x", "-1", "+1", " 1", "\"1\"", "1.", "00000000001", "12345678901234567890123", "\r",
-        "\xC2\xB9", "1;2", "/", ":"};
-    static const char *const behind[] = {"\r", " ", "x", "\x7F", "0000000000"};
+    enum against way = (enum against)below(AGAINST);
+    size_t fields = line->fields < NUMBERS ? line->fields : NUMBERS;
+    size_t at = way == BESIDE_RANGE && chance(70) ? 0 : below(fields + (fields == 0));
+    const struct column *column = &tables[VEHICLE_BLOCK].columns[at];
+    struct growing content = {line->instead[at].bytes, 0, sizeof line->instead[at].bytes};
 
-    if (line->fields == 0)
-        return;
-    line->bad_column = between(1, line->fields < NUMBERS ? line->fields : NUMBERS);
-    line->bad_too_long = chance(15);
-    line->bad_keeps_number = chance(40);
-    line->bad = line->bad_keeps_number ? behind[below(5)] : instead[below(sizeof instead / sizeof instead[0])];
-    if (chance(25)) { /* out of range: VERSION alone has a range of its own */
-        line->bad_column = 1;
-        line->bad_too_long = 0;
-        line->bad_keeps_number = 0;
-        line->bad = chance(50) ? "0" : "00";
-    }
+    if (way == NOT_DIGITS && chance(50))
+        put_with_byte(&content, line->numbers[at], column->width);
+    else
+        put_against(&content, column, way);
+    line->instead[at].stands = 1;
+    line->instead[at].length = content.length;
 }
 
 static void bad_kind(struct slip_line *line)
@@ -2015,13 +2075,14 @@ static void story_of_a_delivery(const struct cases_host *host)
     }
 }
 
-/* One fault at one place, each in its turn, so that none is left to luck: 3, 2 and 8 at every column of every table, and
- * lines about as long as they may be. */
+/* One fault at one place, each in its turn, so that none is left to luck: 3, 2 and the four faults of a cell at every column of
+ * every table, and lines about as long as they may be. */
 static void story_of_a_place(const struct cases_host *host, uint64_t turn)
 {
-    static const enum fault faults[] = {F_TWICE, F_MISSING, F_VALUE, F_LONG_LINE};
-    enum fault fault = faults[turn % 4];
-    uint64_t place = turn / 4 % (11 + 2 + 3 + 3 + 11);
+    static const enum fault faults[] = {F_TWICE, F_MISSING, F_EMPTY, F_TOO_LONG, F_NOT_DIGITS, F_BESIDE_RANGE, F_LONG_LINE};
+    enum { FAULTS = sizeof faults / sizeof faults[0] };
+    enum fault fault = faults[turn % FAULTS];
+    uint64_t place = turn / FAULTS % (11 + 2 + 3 + 3 + 11);
     unsigned meant;
     size_t i;
 

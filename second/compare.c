@@ -10,7 +10,7 @@
 #include <stdlib.h>
 #include <string.h>
 
-enum { DEFAULT_SEED = 1, DEFAULT_COUNT = 10000, WANTED_EACH = 20, SHOWN_FAILURES = 10, REFUSALS = 19, GUARD = 64 };
+enum { DEFAULT_SEED = 1, DEFAULT_COUNT = 10000, WANTED_EACH = 20, SHOWN_FAILURES = 10, REFUSALS = 22, GUARD = 64 };
 
 /* The two sides of everything that is lent: 0 the library's, 1 the second reader's. */
 enum { SIDES = 2, SECOND = 1 };
@@ -863,6 +863,31 @@ static int came_at(uint64_t number, uint64_t table, uint64_t column)
     return 0;
 }
 
+/* A column without a named range has none but that of its width. */
+static int has_range(const struct column *column)
+{
+    uint64_t most = 1;
+    unsigned i;
+
+    for (i = 0; i < column->width; i++)
+        most *= 10;
+    return column->least > 0 || column->most + 1 < most;
+}
+
+/* Which of 19, 20, 8 and 21 a column can have. */
+static int cell_faults_came_at(uint64_t table, const struct column *column, uint64_t c)
+{
+    int enough = came_at(20, table, c);
+
+    if (column->required)
+        enough &= came_at(19, table, c);
+    if (column->kind == 'd')
+        enough &= came_at(8, table, c);
+    if (column->kind == 'd' && has_range(column))
+        enough &= came_at(21, table, c);
+    return enough;
+}
+
 /* And at every place where it can arise: the tables, and the columns where a column is named. */
 static int places_are_enough(void)
 {
@@ -878,13 +903,13 @@ static int places_are_enough(void)
             enough &= came_at(without_column[i], t, 0);
         enough &= !has_radio() || came_at(18, t, 0);
         for (c = 1; c <= tables[t].column_count; c++) {
-            enough &= came_at(3, t, c) & came_at(6, t, c) & came_at(8, t, c);
+            enough &= came_at(3, t, c) & came_at(6, t, c) & cell_faults_came_at(t, &tables[t].columns[c - 1], c);
             if (tables[t].columns[c - 1].required)
                 enough &= came_at(2, t, c);
         }
     }
     for (c = 1; c <= NUMBERS; c++)
-        enough &= came_at(8, SLIP, c);
+        enough &= cell_faults_came_at(SLIP, &tables[VEHICLE_BLOCK].columns[c - 1], c);
     for (t = VEHICLE_BLOCK; t <= SLIP; t++) {
         enough &= came_at(11, t, 11);
         for (i = 0; i < sizeof referring / sizeof referring[0]; i++)

@@ -47,19 +47,19 @@ static const struct reading_edge reading_edges[] = {
     {"whole case", 1, T(TYPES), 0, 0, 0},
     /* At the edges */
     {"d2 07 passes", 2, T(D "07;3\n1;3\n"), 0, 0, 0},
-    {"d2 100", 2, T(D "100;3\n"), 8, 2, 1},
-    {"d2 100 in a block", 4, T(BLOCK_HEADER "1;5;3;101;100;20;1;18000;31;2;46800\n"), 8, 2, 5},
-    {"d2 empty", 2, T(D ";3\n"), 8, 2, 1},
+    {"d2 100", 2, T(D "100;3\n"), 20, 2, 1},
+    {"d2 100 in a block", 4, T(BLOCK_HEADER "1;5;3;101;100;20;1;18000;31;2;46800\n"), 20, 2, 5},
+    {"d2 empty", 2, T(D ";3\n"), 19, 2, 1},
     {"d2 quoted 12 passes", 2, T(D "\"12\";3\n1;3\n"), 0, 0, 0},
     {"text a\"b", 3, T(S "1;20;a\"b\n"), 6, 2, 3},
     {"text \"a\"\"b\" fits c4", 1, T(V "STR_VEH_TYPE\n1;4;\"a\"\"b\"\n1;7;\n"), 0, 0, 0},
-    {"text of 5 with a doubled quote is over c4", 1, T(V "STR_VEH_TYPE\n1;4;\"a\"\"bcd\"\n1;7;\n"), 8, 2, 7},
+    {"text of 5 with a doubled quote is over c4", 1, T(V "STR_VEH_TYPE\n1;4;\"a\"\"bcd\"\n1;7;\n"), 20, 2, 7},
     {"text \"a", 3, T(S "1;20;\"a\n"), 6, 2, 3},
     {"ACCESS_EQUIP 2", 1, T(V "VEH_TYPE_ACCESS_EQUIP\n1;4;2\n1;7;0\n"), 0, 0, 0},
-    {"ACCESS_EQUIP 3", 1, T(V "VEH_TYPE_ACCESS_EQUIP\n1;4;3\n"), 8, 2, 11},
+    {"ACCESS_EQUIP 3", 1, T(V "VEH_TYPE_ACCESS_EQUIP\n1;4;3\n"), 21, 2, 11},
     {"END equal to BEGIN", 4, T(BLOCK_HEADER "1;5;3;101;4;20;1;500;31;2;500\n"), 0, 0, 0},
     {"END one below", 4, T(BLOCK_HEADER "1;5;3;101;4;20;1;86400;31;2;86399\n"), 11, 2, 11},
-    {"STOP_NR 0", 3, T(S "1;0;Yard\n"), 8, 2, 2},
+    {"STOP_NR 0", 3, T(S "1;0;Yard\n"), 21, 2, 2},
     {"DEP_STOP_NR 100000", 4, T(BLOCK_HEADER "1;5;3;101;4;100000;1;18000;31;2;46800\n"), 10, 2, 6},
     {"keys 1;07 and 1;7", 1, T(V "\n1;07;\n1;7;\n"), 9, 3, 0},
     {"length 0, table 1", 1, T(""), 2, 1, 1},
@@ -101,7 +101,7 @@ static const struct reading_edge reading_edges[] = {
     {"A-11 both spellings", 1, T(V "HANDICAP_PLACES;PLACES_FOR_DISABLED_PERSONS\n"), 3, 1, 5},
     {"A-11 the other one twice", 1, T(V "HANDICAP_PLACES;HANDICAP_PLACES\n"), 3, 1, 5},
     {"A-11 the other one", 1, T(V "HANDICAP_PLACES\n1;4;12\n1;7;\n"), 0, 0, 0},
-    {"A-11 the other one's width", 1, T(V "HANDICAP_PLACES\n1;4;1234\n"), 8, 2, 5},
+    {"A-11 the other one's width", 1, T(V "HANDICAP_PLACES\n1;4;1234\n"), 20, 2, 5},
     {"A-11 both spellings of the block's type", 4, T("VEH_TYPE_NR;" BLOCK_HEADER), 3, 1, 5},
     {"A-11 VEH_TYP_NR is no column of vehicle_type", 1, T(V "VEH_TYP_NR;VEH_TYP_NR\n1;4;a;b\n1;7;;\n"), 0, 0, 0},
     {"A-11 HANDICAP_PLACES is no column of depot", 2, T("VERSION;DEPOT_NR;HANDICAP_PLACES;HANDICAP_PLACES\n1;3;a;b\n"), 0,
@@ -125,7 +125,7 @@ static const struct reading_edge reading_edges[] = {
     {"A-15 unknown columns take anything", 1, T(V "X;\n1;4;x;-1\n1;7;\"\";\"a;\"\"b\"\n"), 0, 0, 0},
     {"11 before 9", 4, T(BLOCK_HEADER BLOCK_101 "1;5;3;101;4;20;1;86400;31;2;499\n"), 11, 3, 11},
     {"A-16 9 before 10", 4, T(BLOCK_HEADER BLOCK_101 "1;5;3;101;4;99;1;500;31;2;500\n"), 9, 3, 0},
-    {"8 in END before 11", 4, T(BLOCK_HEADER "1;5;3;101;4;20;1;86400;31;2;\n"), 8, 2, 11},
+    {"19 in END before 11", 4, T(BLOCK_HEADER "1;5;3;101;4;20;1;86400;31;2;\n"), 19, 2, 11},
     {"11 before 10", 4, T(BLOCK_HEADER "1;5;9;101;4;20;1;86400;31;2;499\n"), 11, 2, 11},
     {"C2-01 9 where 11 was", 4, T(BLOCK_HEADER BLOCK_101 "1;5;3;101;4;20;1;500;31;2;499\n"), 9, 3, 0},
     {"C2-01 10 where 11 was", 4, T(BLOCK_HEADER "1;5;9;101;4;20;1;500;31;2;499\n"), 10, 2, 3},
@@ -141,7 +141,7 @@ static const struct reading_edge reading_edges[] = {
     {"C1-01 10 at column 7 before 9", 4, T(BLOCK_HEADER "1;5;3;101;4;20;9;500;99;9;500\n"), 10, 2, 7},
     {"C1-01 10 at column 9 before 10", 4, T(BLOCK_HEADER "1;5;3;101;4;20;1;500;99;9;500\n"), 10, 2, 9},
     {"C1-01 9 before 10 at column 7", 4, T(BLOCK_HEADER BLOCK_101 "1;5;3;101;4;20;9;500;31;2;500\n"), 9, 3, 0},
-    {"C1-01 point 100 is 8", 4, T(BLOCK_HEADER "1;5;3;101;4;20;100;500;31;2;500\n"), 8, 2, 7},
+    {"C1-01 point 100", 4, T(BLOCK_HEADER "1;5;3;101;4;20;100;500;31;2;500\n"), 20, 2, 7},
     {"points compared by value", 4, T(BLOCK_HEADER "1;5;3;101;4;20;01;500;31;\"02\";500\n"), 0, 0, 0},
     {"same key but for one number", 4,
         T(BLOCK_HEADER "1;5;3;101;4;20;1;1;31;2;1\n1;5;3;100;4;20;1;1;31;2;1\n1;4;3;101;4;20;1;1;31;2;1\n"), 0, 0, 0},
@@ -158,26 +158,26 @@ static const struct reading_edge reading_edges[] = {
     {"A-21 CR behind the closing quote at the end", 3, T(S "1;31;a\n1;20;\"a\"\r"), 6, 3, 3},
     {"A-21 CR LF behind the closing quote", 3, T(S "1;31;a\n1;20;\"a\"\r\n"), 0, 0, 0},
     {"A-22 doubled quote in a number", 2, T(D "1;\"1\"\"2\"\n"), 8, 2, 2},
-    {"A-23 007", 2, T(D "007;3\n"), 8, 2, 1},
+    {"C4-04 007", 2, T(D "007;3\n"), 20, 2, 1},
     {"A-23 00003 in d5", 2, T(D "01;00003\n"), 0, 0, 0},
-    {"A-23 000003 in d5", 2, T(D "1;000003\n"), 8, 2, 2},
+    {"C4-04 000003 in d5", 2, T(D "1;000003\n"), 20, 2, 2},
     {"sign", 2, T(D "1;+3\n"), 8, 2, 2},
     {"blank in a number", 2, T(D "1; 3\n"), 8, 2, 2},
-    {"VERSION 0", 2, T(D "0;3\n"), 8, 2, 1},
-    {"VERSION 00", 3, T(S "00;3;a\n"), 8, 2, 1},
+    {"VERSION 0", 2, T(D "0;3\n"), 21, 2, 1},
+    {"VERSION 00", 3, T(S "00;3;a\n"), 21, 2, 1},
     {"VERSION 99", 2, T(D "99;99999\n1;3\n"), 0, 0, 0},
     {"DEPOT_NR 0", 2, T(D "1;0\n1;3\n"), 0, 0, 0},
     {"STOP_NR 99999", 3, T(S "1;99999;a\n1;20;a\n1;31;a\n"), 0, 0, 0},
     {"A-24 c50 with 50", 3, T(S "1;20;" TEN TEN TEN TEN TEN "\n1;31; \n"), 0, 0, 0},
-    {"A-24 c50 with 51", 3, T(S "1;20;" TEN TEN TEN TEN TEN "x\n"), 8, 2, 3},
+    {"A-24 c50 with 51", 3, T(S "1;20;" TEN TEN TEN TEN TEN "x\n"), 20, 2, 3},
     {"A-24 c50 with 50, two doubled", 3, T(S "1;20;\"" TEN TEN TEN TEN "\"\"345678\"\"01\"\n1;31;a\n"), 0, 0, 0},
     {"A-24 c50 with 26 letters of two bytes", 3,
         T(S "1;20;" "\xC3\xA4\xC3\xA4\xC3\xA4\xC3\xA4\xC3\xA4" "\xC3\xA4\xC3\xA4\xC3\xA4\xC3\xA4\xC3\xA4"
                     "\xC3\xA4\xC3\xA4\xC3\xA4\xC3\xA4\xC3\xA4" "\xC3\xA4\xC3\xA4\xC3\xA4\xC3\xA4\xC3\xA4"
                     "\xC3\xA4\xC3\xA4\xC3\xA4\xC3\xA4\xC3\xA4" "\xC3\xA4\n"),
-        8, 2, 3},
-    {"STOP_NAME empty", 3, T(S "1;20;\n"), 8, 2, 3},
-    {"STOP_NAME empty in quotes", 3, T(S "1;20;\"\"\n"), 8, 2, 3},
+        20, 2, 3},
+    {"STOP_NAME empty", 3, T(S "1;20;\n"), 19, 2, 3},
+    {"STOP_NAME empty in quotes", 3, T(S "1;20;\"\"\n"), 19, 2, 3},
     {"optional empty in quotes", 1, T(V "VEH_TYPE_SEATS\n1;4;\"\"\n1;7;\n"), 0, 0, 0},
     {"A-25 tab inside quotes of an unknown column", 2, T("VERSION;DEPOT_NR;X\n1;3;\"a\tb\"\n"), 6, 2, 3},
     {"A-25 byte 0", 3, T(S "1;20;a\0b\n"), 6, 2, 3},
@@ -205,12 +205,12 @@ static const struct reading_edge reading_edges[] = {
     {"C1-05 the key is all three numbers", 6, T(P "1;20;1\n1;31;2\n1;20;2\n1;31;1\n"), 0, 0, 0},
     {"C1-05 the key in numbers", 6, T(P "1;20;1\n1;31;2\n01;00020;01\n"), 9, 4, 0},
     {"C1-03 point 0 and point 99", 6, T(P "1;20;0\n1;20;1\n1;20;99\n1;31;2\n"), 0, 0, 0},
-    {"C1-03 point 100", 6, T(P "1;20;100\n"), 8, 2, 3},
-    {"C1-03 point empty", 6, T(P "1;20;\n"), 8, 2, 3},
-    {"C1-03 stop 0", 6, T(P "1;0;1\n"), 8, 2, 2},
-    {"C1-03 stop 100000", 6, T(P "1;100000;1\n"), 8, 2, 2},
+    {"C1-03 point 100", 6, T(P "1;20;100\n"), 20, 2, 3},
+    {"C1-03 point empty", 6, T(P "1;20;\n"), 19, 2, 3},
+    {"C1-03 stop 0", 6, T(P "1;0;1\n"), 21, 2, 2},
+    {"C1-03 stop 100000", 6, T(P "1;100000;1\n"), 20, 2, 2},
     {"C1-03 stop 99999 is well formed", 6, T(P "1;99999;1\n"), 10, 2, 2},
-    {"C1-03 version 0", 6, T(P "0;20;1\n"), 8, 2, 1},
+    {"C1-03 version 0", 6, T(P "0;20;1\n"), 21, 2, 1},
     {"C1-05 a stop that is not there", 6, T(P "1;20;1\n1;21;2\n"), 10, 3, 2},
     {"C1-05 a stop of another version", 6, T(P "1;20;1\n2;20;1\n"), 10, 3, 2},
     {"C1-05 8 before 10", 6, T(P "1;21;x\n"), 8, 2, 3},
@@ -218,6 +218,28 @@ static const struct reading_edge reading_edges[] = {
     {"C1-04 a point's 10 before a block's faults", 3, T(S "1;20;Yard\n"), 10, 3, 2},
     {"C1-02 a block's point at another stop", 6, T(P "1;20;2\n1;31;1\n"), 10, 2, 7},
     {"C1-02 a block's last point", 6, T(P "1;20;1\n1;31;1\n"), 10, 2, 10},
+    /* Order around the four faults of a cell */
+    {"6 before an earlier cell's 19", 2, T(D ";\"3\n"), 6, 2, 2},
+    {"6 before an earlier cell's 20", 2, T(D "100;\"3\n"), 6, 2, 2},
+    {"6 before an earlier cell's 21", 2, T(D "0;\"3\n"), 6, 2, 2},
+    {"7 before 19", 2, T(D ";3;\n"), 7, 2, 0},
+    {"7 before 20", 2, T(D "100\n"), 7, 2, 0},
+    {"7 before 21", 2, T(D "0;3;4\n"), 7, 2, 0},
+    {"C4-06 19 before 11", 4, T(BLOCK_HEADER "1;5;3;101;;20;1;86400;31;2;499\n"), 19, 2, 5},
+    {"C4-06 20 before 11", 4, T(BLOCK_HEADER "1;5;3;101;100;20;1;86400;31;2;499\n"), 20, 2, 5},
+    {"C4-06 20 in END before 11", 4, T(BLOCK_HEADER "1;5;3;101;4;20;1;86400;31;2;0000499\n"), 20, 2, 11},
+    {"C4-06 21 before 11", 4, T(BLOCK_HEADER "0;5;3;101;4;20;1;86400;31;2;499\n"), 21, 2, 1},
+    {"C4-06 19 before 9", 3, T(S "1;20;a\n1;20;\"\"\n"), 19, 3, 3},
+    {"C4-06 20 before 9", 3, T(S "1;20;a\n1;20;" TEN TEN TEN TEN TEN "x\n"), 20, 3, 3},
+    {"C4-06 21 before 9", 1, T(V "VEH_TYPE_ACCESS_EQUIP\n1;4;2\n1;4;3\n"), 21, 3, 11},
+    {"C4-06 19 before 10", 6, T(P "1;21;\n"), 19, 2, 3},
+    {"C4-06 20 before 10", 6, T(P "1;21;100\n"), 20, 2, 3},
+    {"an earlier 10 before a later 19", 6, T(P "1;21;1\n1;20;\n"), 10, 2, 2},
+    {"an earlier 9 before a later 20", 2, T(D "1;3\n1;3\n1;000003\n"), 9, 3, 0},
+    {"an earlier 19 before a later 6", 2, T(D ";3\n\"\n"), 19, 2, 1},
+    {"C4-04 digits too many for a number of 64 bits", 2, T(D "1;18446744073709551619\n"), 20, 2, 2},
+    {"C4-04 digits too many for a number of 32 bits", 4, T(BLOCK_HEADER "1;4294967301;3;101;4;20;1;18000;31;2;46800\n"), 20,
+        2, 2},
     /* Tables without rows */
     {"no stop points: the first block's 10", 6, T("VERSION;STOP_NR;STOPPING_POINT_NR"), 10, 2, 7},
     {"no stops: the first point's 10", 3, T("VERSION;STOP_NR;STOP_NAME"), 10, 2, 2},
@@ -268,7 +290,7 @@ static const struct slip_edge slip_edges[] = {
     {"semicolons", T("D;1;5;3;101\n"), 12, 1, 0, BLOCK_ROWS},
     {"A-42 fields count from the one behind the kind", T("A\tx\tx\tx\tx\tx\tx\tx\tx\tx\tx\tx\n"), 8, 1, 1, BLOCK_ROWS},
     {"A-42 column 8", T("A\t1\t5\t3\t103\t7\t20\t0\tx\t20\t99\t1\n"), 8, 1, 8, BLOCK_ROWS},
-    {"A: 8 before 11", T("A\t1\t5\t3\t103\t7\t20\t0\t86400\t20\t999\t0\n"), 8, 1, 10, BLOCK_ROWS},
+    {"A: 20 before 11", T("A\t1\t5\t3\t103\t7\t20\t0\t86400\t20\t999\t0\n"), 20, 1, 10, BLOCK_ROWS},
     {"A: 11 before 9", T("A\t1\t5\t3\t101\t7\t20\t0\t86400\t20\t99\t0\n"), 11, 1, 11, BLOCK_ROWS},
     {"C2-01 A: 9 where 11 was", T("A\t1\t5\t3\t101\t7\t20\t0\t1\t20\t99\t0\n"), 9, 1, 0, BLOCK_ROWS},
     {"A: 9 before 10", T("A\t1\t5\t3\t101\t8\t20\t0\t1\t20\t99\t1\n"), 9, 1, 0, BLOCK_ROWS},
@@ -280,7 +302,7 @@ static const struct slip_edge slip_edges[] = {
     {"C1-06 A: 10 at column 7 before 9", T("A\t1\t5\t3\t103\t7\t20\t0\t1\t99\t99\t1\n"), 10, 1, 7, BLOCK_ROWS},
     {"C1-06 A: 10 at column 10", T("A\t1\t5\t3\t103\t7\t20\t1\t1\t20\t2\t1\n"), 10, 1, 10, BLOCK_ROWS},
     {"C1-06 A: 9 before 10 at column 7", T("A\t1\t5\t3\t101\t7\t20\t0\t1\t20\t1\t1\n"), 9, 1, 0, BLOCK_ROWS},
-    {"A: DEP_STOP_NR of 7 digits", T("A\t1\t5\t3\t103\t7\t0000020\t0\t1\t20\t99\t1\n"), 8, 1, 6, BLOCK_ROWS},
+    {"A: DEP_STOP_NR of 7 digits", T("A\t1\t5\t3\t103\t7\t0000020\t0\t1\t20\t99\t1\n"), 20, 1, 6, BLOCK_ROWS},
     {"R: 11 before 13", T("R\t1\t5\t3\t103\t7\t20\t0\t86400\t20\t99\t0\n"), 11, 1, 11, BLOCK_ROWS},
     {"C2-01 R: 13 where 11 was", T("R\t1\t5\t3\t103\t7\t20\t0\t1\t20\t99\t0\n"), 13, 1, 0, BLOCK_ROWS},
     {"C2-03 A and R into the next day",
@@ -296,7 +318,7 @@ static const struct slip_edge slip_edges[] = {
     {"A-43 R: 13 before 10 at column 7", T("R\t1\t5\t3\t103\t4\t31\t1\t1\t20\t1\t1\n"), 13, 1, 0, BLOCK_ROWS},
     {"D: 8 before 13", T("D\t1\t5\t3\tx\n"), 8, 1, 4, BLOCK_ROWS},
     {"D: 13", T("D\t1\t5\t3\t103\n"), 13, 1, 0, BLOCK_ROWS},
-    {"D: version 0", T("D\t0\t0\t0\t0\n"), 8, 1, 1, BLOCK_ROWS},
+    {"D: version 0", T("D\t0\t0\t0\t0\n"), 21, 1, 1, BLOCK_ROWS},
     {"A-45 delete, then add the same", T(D_101 A_101), 0, 0, 0, ROW_101_NEW BLOCK_102 BLOCK_6_101},
     {"A-45 delete, then replace", T(D_101 R_101), 13, 2, 0, BLOCK_ROWS},
     {"A-45 delete twice", T(D_101 D_101), 13, 2, 0, BLOCK_ROWS},
@@ -309,10 +331,32 @@ static const struct slip_edge slip_edges[] = {
     {"keys as numbers: 9 before 10", T("A\t1\t5\t3\t10" A_REST "A\t1\t5\t3\t9" A_REST), 0, 0, 0,
         "1;5;3;9;7;20;1;0;31;2;999999\n1;5;3;10;7;20;1;0;31;2;999999\n" BLOCK_ROWS},
     {"A-46 leading zeros", T("D\t01\t000000005\t00003\t00000101\n"), 0, 0, 0, BLOCK_102 BLOCK_6_101},
-    {"A-46 one zero too many", T("D\t001\t5\t3\t101\n"), 8, 1, 1, BLOCK_ROWS},
-    {"A-46 empty field", T("D\t1\t\t3\t101\n"), 8, 1, 2, BLOCK_ROWS},
-    {"A-46 VERSION 0", T("A\t0\t5\t3\t103" A_REST), 8, 1, 1, BLOCK_ROWS},
-    {"A-46 quotes", T("D\t\"1\"\t5\t3\t101\n"), 8, 1, 1, BLOCK_ROWS},
+    {"A-46 one zero too many", T("D\t001\t5\t3\t101\n"), 20, 1, 1, BLOCK_ROWS},
+    {"A-46 empty field", T("D\t1\t\t3\t101\n"), 19, 1, 2, BLOCK_ROWS},
+    {"A-46 VERSION 0", T("A\t0\t5\t3\t103" A_REST), 21, 1, 1, BLOCK_ROWS},
+    {"A-46 quotes", T("D\t\"1\"\t5\t3\t101\n"), 20, 1, 1, BLOCK_ROWS},
+    {"A-46 quotes alone are no empty field", T("D\t\"\"\t5\t3\t101\n"), 8, 1, 1, BLOCK_ROWS},
+    {"A-46 quotes within the width", T("D\t1\t\"5\"\t3\t101\n"), 8, 1, 2, BLOCK_ROWS},
+    {"C4-03 46800 and CR in d6", T("R\t1\t5\t3\t101\t4\t20\t1\t18000\t31\t2\t46800\r\n"), 8, 1, 11, BLOCK_ROWS},
+    {"C4-03 999999 and CR in d6", T("R\t1\t5\t3\t101\t4\t20\t1\t18000\t31\t2\t999999\r\n"), 20, 1, 11, BLOCK_ROWS},
+    {"C4-03 999999 and CR at the slip's end", T("R\t1\t5\t3\t101\t4\t20\t1\t18000\t31\t2\t999999\r"), 20, 1, 11, BLOCK_ROWS},
+    {"C4-03 101 and CR, no line feed", T("D\t1\t5\t3\t101\r"), 8, 1, 4, BLOCK_ROWS},
+    {"C4-03 00000101 and CR in d8", T("D\t1\t5\t3\t00000101\r\n"), 20, 1, 4, BLOCK_ROWS},
+    {"C4-03 1 and CR in d2", T("D\t1\r\t5\t3\t101\n"), 8, 1, 1, BLOCK_ROWS},
+    {"C4-03 01 and CR in d2", T("D\t01\r\t5\t3\t101\n"), 20, 1, 1, BLOCK_ROWS},
+    {"C4-03 0 and CR: no digits, no range", T("D\t0\r\t5\t3\t101\n"), 8, 1, 1, BLOCK_ROWS},
+    {"C4-03 CR alone is not empty", T("D\t1\t5\t3\t\r\n"), 8, 1, 4, BLOCK_ROWS},
+    {"C4-03 CR before the digits", T("D\t1\t5\t\r3\t101\n"), 8, 1, 3, BLOCK_ROWS},
+    {"C4-06 A: 12 before 19", T("A\t\t5\t3\t101\n"), 12, 1, 0, BLOCK_ROWS},
+    {"C4-06 A: 19 before 11", T("A\t1\t5\t3\t103\t\t20\t1\t86400\t31\t2\t0\n"), 19, 1, 5, BLOCK_ROWS},
+    {"C4-06 A: 21 before 9", T("A\t0\t5\t3\t101" A_REST), 21, 1, 1, BLOCK_ROWS},
+    {"C4-06 A: 20 before 10", T("A\t1\t5\t4\t103\t007\t20\t1\t0\t31\t2\t1\n"), 20, 1, 5, BLOCK_ROWS},
+    {"C4-06 R: 19 before 13", T("R\t1\t5\t3\t103\t7\t20\t1\t0\t31\t\t1\n"), 19, 1, 10, BLOCK_ROWS},
+    {"C4-06 R: 20 in END before 11", T("R\t1\t5\t3\t101\t7\t20\t1\t86400\t31\t2\t0000000\n"), 20, 1, 11, BLOCK_ROWS},
+    {"C4-06 D: 19 before 13", T("D\t1\t5\t\t999\n"), 19, 1, 3, BLOCK_ROWS},
+    {"C4-06 D: 20 before 13", T("D\t1\t5\t3\t000000999\n"), 20, 1, 4, BLOCK_ROWS},
+    {"C4-06 D: 21 before 13", T("D\t00\t5\t3\t999\n"), 21, 1, 1, BLOCK_ROWS},
+    {"an earlier 13 before a later 20", T("D\t1\t5\t3\t999\nD\t001\t5\t3\t101\n"), 13, 1, 0, BLOCK_ROWS},
     {"A-46 byte 0", T("D\t1\t5\t3\t101\0\n"), 8, 1, 4, BLOCK_ROWS},
     {"A-46 blank", T("D\t1\t5 \t3\t101\n"), 8, 1, 2, BLOCK_ROWS},
 };
@@ -332,26 +376,26 @@ struct cell_edge {
 
 static const struct cell_edge cell_edges[] = {
     {"07", T(D "07;3\n"), 2, 2, 1, 0, 0, 0, 1, 7, 0, 0},
-    {"100", T(D "100;3\n"), 2, 2, 1, 8, 2, 1, NOTHING},
-    {"empty and required", T(D ";3\n"), 2, 2, 1, 8, 2, 1, NOTHING},
+    {"100", T(D "100;3\n"), 2, 2, 1, 20, 2, 1, NOTHING},
+    {"empty and required", T(D ";3\n"), 2, 2, 1, 19, 2, 1, NOTHING},
     {"\"12\"", T(D "\"12\";3\n"), 2, 2, 1, 0, 0, 0, 1, 12, 0, 0},
     {"0", T(D "1;00\n"), 2, 2, 2, 0, 0, 0, 1, 0, 0, 0},
     {"a\"b", T(C4 "1;4;a\"b\n"), 1, 2, 7, 6, 2, 3, NOTHING},
     {"A-36 \"a\"\"b\"", T(C4 "1;4;\"a\"\"b\"\n"), 1, 2, 7, 0, 0, 0, 2, 0, 38, 4},
     {"\"a", T(C4 "1;4;\"a\n"), 1, 2, 7, 6, 2, 3, NOTHING},
     {"ab", T(C4 "1;4;ab\r\n"), 1, 2, 7, 0, 0, 0, 2, 0, 37, 2},
-    {"five bytes in c4", T(C4 "1;4;abcde\n"), 1, 2, 7, 8, 2, 7, NOTHING},
+    {"five bytes in c4", T(C4 "1;4;abcde\n"), 1, 2, 7, 20, 2, 7, NOTHING},
     {"ACCESS_EQUIP 2", T(V "VEH_TYPE_ACCESS_EQUIP\n1;4;2\n"), 1, 2, 11, 0, 0, 0, 1, 2, 0, 0},
-    {"ACCESS_EQUIP 3", T(V "VEH_TYPE_ACCESS_EQUIP\n1;4;3\n"), 1, 2, 11, 8, 2, 11, NOTHING},
-    {"STOP_NR 0", T(S "1;0;a\n"), 3, 2, 2, 8, 2, 2, NOTHING},
+    {"ACCESS_EQUIP 3", T(V "VEH_TYPE_ACCESS_EQUIP\n1;4;3\n"), 1, 2, 11, 21, 2, 11, NOTHING},
+    {"STOP_NR 0", T(S "1;0;a\n"), 3, 2, 2, 21, 2, 2, NOTHING},
     {"DEP_STOP_NR 100000", T(BLOCK_HEADER "1;5;3;101;4;100000;1;18000;31;2;46800\n"), 4, 2, 6, 0, 0, 0, 1, 100000, 0, 0},
     {"semicolon inside quotes", T(TYPES), 1, 2, 6, 0, 0, 0, 2, 0, 39, 15},
     {"C1-06 a point's version", T(POINTS), 6, 2, 1, 0, 0, 0, 1, 1, 0, 0},
     {"C1-06 a point's stop", T(POINTS), 6, 3, 2, 0, 0, 0, 1, 31, 0, 0},
     {"C1-06 a point's number", T(POINTS), 6, 3, 3, 0, 0, 0, 1, 2, 0, 0},
     {"C1-06 a point whose stop is nowhere", T(P "1;77;007\n1;77;\"07\"\n"), 6, 3, 3, 0, 0, 0, 1, 7, 0, 0},
-    {"C1-06 a point's number of three digits", T(P "1;77;007\n"), 6, 2, 3, 8, 2, 3, NOTHING},
-    {"C1-06 a point without stop", T(P "1;;7\n"), 6, 2, 2, 8, 2, 2, NOTHING},
+    {"C1-06 a point's number of three digits", T(P "1;77;007\n"), 6, 2, 3, 20, 2, 3, NOTHING},
+    {"C1-06 a point without stop", T(P "1;;7\n"), 6, 2, 2, 19, 2, 2, NOTHING},
     {"C1-06 stop_point has no column 4", T(POINTS), 6, 2, 4, 15, 0, 0, NOTHING},
     {"C1-06 header of stop_point", T("VERSION;STOP_NR\n"), 6, 2, 1, 2, 1, 3, NOTHING},
     {"doubled quotes of the whole case", T(TYPES), 1, 3, 6, 0, 0, 0, 2, 0, 61, 13},
@@ -799,6 +843,9 @@ static void run_full_book(struct run *run)
     static const struct slip_edge full[] = {
         {"A-41 A on a full book", T("A\t1\t5\t1\t513\t1\t1\t0\t10\t1\t0\t20\n"), 5, 1, 0, NULL},
         {"A-41 5 before 8", T("A\tx\t5\t1\t513\t1\t1\t0\t10\t1\t0\t20\n"), 5, 1, 0, NULL},
+        {"A-41 5 before 19", T("A\t\t5\t1\t513\t1\t1\t0\t10\t1\t0\t20\n"), 5, 1, 0, NULL},
+        {"A-41 5 before 20", T("A\t001\t5\t1\t513\t1\t1\t0\t10\t1\t0\t20\n"), 5, 1, 0, NULL},
+        {"A-41 5 before 21", T("A\t0\t5\t1\t513\t1\t1\t0\t10\t1\t0\t20\n"), 5, 1, 0, NULL},
         {"A-41 5 before 9", T("A\t1\t5\t1\t512\t1\t1\t0\t10\t1\t0\t20\n"), 5, 1, 0, NULL},
         {"A-41 12 before 5", T("A\t1\t5\t1\t513\t1\t1\t0\t10\t1\t0\n"), 12, 1, 0, NULL},
         {"A-45 room is used again", T("D\t1\t5\t1\t7\nA\t1\t5\t1\t513\t1\t1\t0\t10\t1\t0\t20\n"), 0, 0, 0, NULL},
@@ -821,7 +868,7 @@ static void run_full_book(struct run *run)
                 && (full[i].number == 0) == (memcmp(before, book, sizeof before) != 0));
     }
     read_into_book(run->side, texts, place);
-    slip_on_book(run->side, full[4].slip, place);
+    slip_on_book(run->side, full[7].slip, place);
     answer = run->side->block((const row *)book, BOOK_ROWS, 1, 5, 1, 513, seven, place);
     tell(run, "the block that was added", answered(answer, place, 0, 0, 0, 0) && seven[3] == 10 && seven[6] == 20);
     answer = run->side->block((const row *)book, BOOK_ROWS, 1, 5, 1, 7, seven, place);
@@ -1191,6 +1238,253 @@ static void run_times(struct run *run, const struct times *times)
     tell(run, times->words, book_is_kept(run->side, times->kept));
 }
 
+/* ---- 4/13: what is wrong with a cell, at every column */
+
+/* A cell as it stands in a table's text, and its number: 19, 20, 8, 21, or 0 where it passes. */
+struct cell_content {
+    const char *cell;
+    uint64_t number;
+};
+
+enum { MOST_CONTENTS = 26, MOST_ALIKE = 5 };
+
+/* Columns of the same rules, and contents for each of them. */
+struct columns_edge {
+    const char *words;
+    struct {
+        unsigned table;
+        uint64_t column;
+    } of[MOST_ALIKE];
+    struct cell_content contents[MOST_CONTENTS];
+};
+
+#define QUOTES "\"\"\"\"" /* two doubled ones, which are two bytes of content */
+
+static const struct columns_edge columns_edges[] = {
+    {"d1, 0 to 2, optional", {{1, 11}},
+        {{"", 0}, {"\"\"", 0}, {"0", 0}, {"2", 0}, {"\"2\"", 0}, {"3", 21}, {"9", 21}, {"\"3\"", 21}, {"00", 20}, {"02", 20},
+            {"10", 20}, {"x", 8}, {"-", 8}, {" ", 8}, {"xy", 20}, {"-1", 20}, {"1 ", 20}, {"\"\"\"\"", 8},
+            {"\"" QUOTES "\"", 20}}},
+    {"d2, 1 to 99, required", {{1, 1}, {2, 1}, {3, 1}, {4, 1}, {6, 1}},
+        {{"", 19}, {"\"\"", 19}, {"1", 0}, {"01", 0}, {"99", 0}, {"\"99\"", 0}, {"0", 21}, {"00", 21}, {"\"0\"", 21},
+            {"100", 20}, {"000", 20}, {"001", 20}, {"\"100\"", 20}, {"x", 8}, {"xy", 8}, {"1x", 8}, {"x1", 8}, {"-1", 8},
+            {" 1", 8}, {"xyz", 20}, {"-10", 20}, {"99x", 20}, {"\"1\"\"\"", 8}, {"\"1\"\"2\"", 20}, {"\"" QUOTES "\"", 8},
+            {"\"" QUOTES "x\"", 20}}},
+    {"d2, required", {{4, 5}, {4, 7}, {4, 10}, {6, 3}},
+        {{"", 19}, {"\"\"", 19}, {"0", 0}, {"00", 0}, {"99", 0}, {"\"07\"", 0}, {"007", 20}, {"000", 20}, {"100", 20},
+            {"x", 8}, {"9x", 8}, {"/9", 8}, {"9:", 8}, {"99x", 20}, {"xyz", 20}, {"\"9\"\"\"", 8}, {"\"9\"\"9\"", 20}}},
+    {"d3, optional", {{1, 3}, {1, 4}, {1, 5}},
+        {{"", 0}, {"\"\"", 0}, {"0", 0}, {"000", 0}, {"999", 0}, {"0000", 20}, {"1000", 20}, {"x", 8}, {"xyz", 8},
+            {"wxyz", 20}, {"\"1\"\"2\"", 8}, {"\"12\"\"3\"", 20}}},
+    {"d4, optional", {{1, 8}, {1, 9}, {1, 10}},
+        {{"", 0}, {"\"\"", 0}, {"0", 0}, {"0000", 0}, {"9999", 0}, {"00001", 20}, {"10000", 20}, {"x", 8}, {"wxyz", 8},
+            {"vwxyz", 20}, {"\"12\"\"3\"", 8}, {"\"12\"\"34\"", 20}}},
+    {"d5, required", {{2, 2}, {4, 3}},
+        {{"", 19}, {"\"\"", 19}, {"0", 0}, {"00003", 0}, {"99999", 0}, {"000003", 20}, {"100000", 20}, {"1e1", 8},
+            {"vwxyz", 8}, {"uvwxyz", 20}, {"99999x", 20}, {"\"12\"\"34\"", 8}, {"\"123\"\"45\"", 20}}},
+    {"d5, 1 to 99999, required", {{3, 2}, {6, 2}},
+        {{"", 19}, {"\"\"", 19}, {"1", 0}, {"00001", 0}, {"99999", 0}, {"0", 21}, {"00000", 21}, {"\"0\"", 21},
+            {"000000", 20}, {"000001", 20}, {"100000", 20}, {"x", 8}, {"0x", 8}, {"vwxyz", 8}, {"uvwxyz", 20},
+            {"\"12\"\"34\"", 8}, {"\"123\"\"45\"", 20}}},
+    {"d6, required", {{4, 6}, {4, 8}, {4, 9}, {4, 11}},
+        {{"", 19}, {"\"\"", 19}, {"0", 0}, {"000020", 0}, {"999999", 0}, {"0000020", 20}, {"1000000", 20},
+            {"4294967316", 20}, {"99999x", 8}, {"uvwxyz", 8}, {"999999x", 20}, {"tuvwxyz", 20}, {"\"123\"\"45\"", 8},
+            {"\"123\"\"456\"", 20}}},
+    {"d8, required", {{1, 2}, {4, 4}},
+        {{"", 19}, {"\"\"", 19}, {"0", 0}, {"00000007", 0}, {"99999999", 0}, {"000000007", 20}, {"100000000", 20},
+            {"4294967303", 20}, {"1.5", 8}, {"stuvwxyz", 8}, {"rstuvwxyz", 20}, {"\"1234\"\"567\"", 8},
+            {"\"1234\"\"5678\"", 20}}},
+    {"d9, required", {{4, 2}},
+        {{"", 19}, {"\"\"", 19}, {"0", 0}, {"000000005", 0}, {"999999999", 0}, {"0000000005", 20}, {"1000000000", 20},
+            {"18446744073709551621", 20}, {"x", 8}, {"rstuvwxyz", 8}, {"qrstuvwxyz", 20}, {"\"1234\"\"5678\"", 8},
+            {"\"1234\"\"56789\"", 20}}},
+    {"c4, optional", {{1, 7}},
+        {{"", 0}, {"\"\"", 0}, {" ", 0}, {"abcd", 0}, {"abcde", 20}, {"1234", 0}, {"12345", 20}, {"\"ab;c\"", 0},
+            {"\"abc\"\"\"", 0}, {"\"abcd\"\"\"", 20}, {"\"" QUOTES QUOTES "\"", 0}, {"\"" QUOTES QUOTES "x\"", 20},
+            {"\xC3\xA4\xC3\xA4", 0}, {"\xC3\xA4\xC3\xA4x", 20}}},
+    {"c40, optional", {{1, 6}},
+        {{"", 0}, {"\"\"", 0}, {"-1", 0}, {TEN TEN TEN TEN, 0}, {TEN TEN TEN TEN "x", 20},
+            {"\"" TEN TEN TEN "012345678\"\"\"", 0}, {"\"" TEN TEN TEN TEN "\"\"\"", 20}}},
+    {"c50, required", {{3, 3}},
+        {{"", 19}, {"\"\"", 19}, {" ", 0}, {"0", 0}, {"-1", 0}, {"\"\"\"\"", 0}, {TEN TEN TEN TEN TEN, 0},
+            {TEN TEN TEN TEN TEN "x", 20}, {"\"" TEN TEN TEN TEN "012345678\"\"\"", 0},
+            {"\"" TEN TEN TEN TEN TEN "\"\"\"", 20}}},
+};
+
+/* A good row of each table, cell by cell: that of the whole case, with something in the optional columns. */
+static const char *const good_row[LAST_TABLE + 1][NUMBERS] = {
+    [VEHICLE_TYPE] = {"1", "4", "40", "8", "2", "solo", "SL", "1200", "2550", "3000", "1"},
+    [DEPOT] = {"1", "3"},
+    [STOP] = {"1", "20", "Yard"},
+    [STOP_POINT] = {"1", "20", "1"},
+    [VEHICLE_BLOCK] = {"1", "5", "3", "101", "4", "20", "1", "18000", "31", "2", "46800"},
+};
+
+/* The cells of that row, this one in one column, this between them. */
+static void put_row(struct growing *text, unsigned t, uint64_t columns, uint64_t column, const char *cell,
+    const char *between)
+{
+    uint64_t c;
+
+    for (c = 1; c <= columns; c++) {
+        put(text, c > 1 ? between : "");
+        put(text, c == column ? cell : good_row[t][c - 1]);
+    }
+    put(text, "\n");
+}
+
+/* A table with all its columns and that row. */
+static struct text table_with_cell(unsigned t, uint64_t column, const char *cell)
+{
+    struct growing text = {big[t], 0};
+    uint64_t c;
+
+    for (c = 0; c < tables[t].column_count; c++) {
+        put(&text, c > 0 ? ";" : "");
+        put(&text, tables[t].columns[c].name);
+    }
+    put(&text, "\n");
+    put_row(&text, t, tables[t].column_count, column, cell, ";");
+    return done(&text);
+}
+
+static int is_cell_fault(uint64_t number)
+{
+    return number == 8 || (number >= 19 && number <= 21);
+}
+
+/* The bytes of a text's first line, its line feed with them. */
+static size_t header_bytes(struct text text)
+{
+    size_t n = 1;
+
+    while (text.bytes[n - 1] != '\n')
+        n++;
+    return n;
+}
+
+/* A reading, whole and by radio, the row byte by byte. Where the cell passes, a key or a reference may be wrong with the row;
+ * that comes later. */
+static int is_read_cell(const struct side *side, struct text text, unsigned t, uint64_t column, uint64_t number)
+{
+    size_t first = header_bytes(text);
+    struct text texts[TABLES];
+    uint64_t place[4];
+
+    memcpy(texts, whole_case, sizeof texts);
+    texts[part_of(t)] = text;
+    if (number)
+        return is_read(side, texts, part_of(t), first, 1, number, t, 2, column);
+    read_into_book(side, texts, place);
+    return !is_cell_fault(place[0])
+        && is_read(side, texts, part_of(t), first, 1, place[0], place[1], place[2], place[3]);
+}
+
+static int is_asked_cell(const struct side *side, struct text text, unsigned t, uint64_t column, uint64_t number)
+{
+    uint64_t place[4], got[4];
+    uint64_t answer = side->cell(text.bytes, text.length, t, 2, column, got, place);
+
+    return answered(answer, place, number, t, number ? 2 : 0, number ? column : 0) && (number == 0 || got[0] == 0);
+}
+
+/* The bytes as a field of each kind of slip line that has the column. */
+static int is_slip_field(const struct side *side, uint64_t column, const char *field, uint64_t number)
+{
+    static const char *const kinds[] = {"A\t", "R\t", "D\t"};
+    int good = 1;
+    size_t k;
+
+    for (k = 0; k < 3 && good; k++) {
+        struct growing slip = {big[SLIP], 0};
+        uint64_t fields = k < 2 ? NUMBERS : 4;
+        uint64_t place[4], answer;
+
+        if (column > fields)
+            continue;
+        put(&slip, kinds[k]);
+        put_row(&slip, VEHICLE_BLOCK, fields, column, field, "\t");
+        read_into_book(side, whole_case, place);
+        answer = slip_on_book(side, done(&slip), place);
+        good = number ? answered(answer, place, number, SLIP, 1, column) : !is_cell_fault(answer);
+    }
+    return good;
+}
+
+/* In a reading, in the cell question and, where it has no quotes, on a slip. */
+static void run_content(struct run *run, const char *words, unsigned t, uint64_t column, const struct cell_content *content)
+{
+    struct text text = table_with_cell(t, column, content->cell);
+    int good = is_read_cell(run->side, text, t, column, content->number)
+        && is_asked_cell(run->side, text, t, column, content->number);
+
+    if (t == VEHICLE_BLOCK && content->cell[0] != '"')
+        good = good && is_slip_field(run->side, column, content->cell, content->number);
+    if (!good)
+        printf("  table %u, column %" PRIu64 ": %s\n", t, column, content->cell);
+    tell(run, words, good);
+}
+
+static void run_columns(struct run *run, const struct columns_edge *edge)
+{
+    size_t i, k;
+
+    for (i = 0; i < MOST_ALIKE && edge->of[i].table; i++)
+        for (k = 0; k < MOST_CONTENTS && edge->contents[k].cell; k++)
+            run_content(run, edge->words, edge->of[i].table, edge->of[i].column, &edge->contents[k]);
+}
+
+/* "8 by column number": the lowest column with any of the four, wherever it stands on the line. */
+static void run_lowest_columns(struct run *run)
+{
+    static const struct cell_content versions[] = {{"", 19}, {"100", 20}, {"x", 8}, {"0", 21}};
+    static const struct cell_content stops[] = {{"", 19}, {"100000", 20}, {"x", 8}, {"0", 21}};
+    static const char *const headers[] = {"VERSION;STOP_NR;STOP_NAME\n", "STOP_NR;VERSION;STOP_NAME\n"};
+    size_t v, n, order;
+
+    for (v = 0; v < 4; v++)
+        for (n = 0; n < 4; n++)
+            for (order = 0; order < 2; order++) {
+                struct growing text = {big[STOP], 0};
+
+                put(&text, headers[order]);
+                put(&text, order == 0 ? versions[v].cell : stops[n].cell);
+                put(&text, ";");
+                put(&text, order == 0 ? stops[n].cell : versions[v].cell);
+                put(&text, ";\n");
+                tell(run, "C4-05 the lowest column",
+                    is_read_cell(run->side, done(&text), STOP, 1, versions[v].number)
+                        && is_asked_cell(run->side, done(&text), STOP, 1, versions[v].number)
+                        && is_asked_cell(run->side, done(&text), STOP, 2, stops[n].number)
+                        && is_asked_cell(run->side, done(&text), STOP, 3, 19));
+            }
+}
+
+/* The same on a slip. */
+static void run_lowest_fields(struct run *run)
+{
+    static const struct cell_content versions[] = {{"", 19}, {"100", 20}, {"x", 8}, {"0", 21}, {"1", 0}};
+    static const struct cell_content days[] = {{"", 19}, {"1234567890", 20}, {"x", 8}, {"5", 0}};
+    size_t v, d;
+
+    for (v = 0; v < 5; v++)
+        for (d = 0; d < 4; d++) {
+            struct growing slip = {big[SLIP], 0};
+            uint64_t number = versions[v].number ? versions[v].number : days[d].number ? days[d].number : 20;
+            uint64_t column = versions[v].number ? 1 : days[d].number ? 2 : 3;
+            uint64_t place[4], answer;
+
+            put(&slip, "D\t");
+            put(&slip, versions[v].cell);
+            put(&slip, "\t");
+            put(&slip, days[d].cell);
+            put(&slip, "\t000003\t\n");
+            read_into_book(run->side, whole_case, place);
+            answer = slip_on_book(run->side, done(&slip), place);
+            tell(run, "C4-05 the lowest column of a slip line", answered(answer, place, number, SLIP, 1, column));
+        }
+}
+
 /* ---- 3/13: lines of 2,048 bytes and some more */
 
 /* A line of the depots that long, its line end left out: the header or the first row. By a cell of an unknown column, quoted
@@ -1293,6 +1587,9 @@ static const struct long_order long_orders[] = {
     {"C3-01 row: 17 before 7", 1, "1;3;;", 7, 0},
     {"C3-01 row: 17 before 8", 1, "x;3;", 8, 1},
     {"C3-01 row: 17 before 8, a number", 1, "1;", 7, 0},
+    {"C3-01 row: 17 before 19", 1, ";3;", 19, 1},
+    {"C3-01 row: 17 before 20", 1, "1;000003;", 20, 2},
+    {"C3-01 row: 17 before 21", 1, "0;3;", 21, 1},
 };
 
 static void run_long_order(struct run *run, const struct long_order *order)
@@ -1342,7 +1639,7 @@ static void run_long_elsewhere(struct run *run)
     fill_up(&slip, 2100);
     put(&slip, "\t5\t3\t101\n");
     answer = slip_on_book(run->side, done(&slip), place);
-    tell(run, "C3-03 a long field on a slip is 8", answered(answer, place, 8, 5, 1, 1));
+    tell(run, "C3-03 a long field on a slip is 20", answered(answer, place, 20, 5, 1, 1));
 }
 
 /* ---- 3/13: what is announced and what comes */
@@ -1373,6 +1670,7 @@ static const struct announced_edge announced_edges[] = {
     {"C3-06 18 in place of a header's 6", 2, 3, T("\"\n"), 18, 0, 0},
     {"C3-06 18 in place of a row's 6", 2, LENGTH(D) + 3, T(D "\"\n1;3\n"), 18, 0, 0},
     {"C3-06 18 in place of 8", 2, LENGTH(D) + 5, T(D "1;x\n"), 18, 0, 0},
+    {"C3-06 18 in place of 20", 2, LENGTH(D) + 10, T(D "1;000003\n"), 18, 0, 0},
     {"C3-06 18 in place of 9", 2, LENGTH(D) + 8, T(D "1;3\n1;3\n1"), 18, 0, 0},
     {"a fault in the surplus alone", 2, LENGTH(DEPOTS), T(DEPOTS "\""), 18, 0, 0},
     {"C3-05 65,537 announced, nothing came", 2, 65537, T(""), 1, 0, 0},
@@ -1423,6 +1721,7 @@ static void run_two_faults(struct run *run)
         uint64_t number, line, column; /* at table 1 */
     } two[] = {
         {"C3-06 an 8 of table 1 before table 2's 18", 0, 3, T(V "VEH_TYPE_SEATS\n1;4;x\n"), 8, 2, 3},
+        {"C3-06 a 21 of table 1 before table 2's 18", 0, 3, T(V "VEH_TYPE_ACCESS_EQUIP\n1;4;3\n"), 21, 2, 11},
         {"C3-06 a 2 of table 1 before table 2's 1", 0, 65537, T("X"), 2, 1, 1},
         {"C3-06 an 18 of table 1 before table 2's 18", 3, 3, T(TYPES), 18, 0, 0},
         {"C3-06 an 18 of table 1 before table 2's 1", 3, 65537, T(TYPES), 18, 0, 0},
@@ -1727,6 +2026,10 @@ void edges_run(const struct side *side, size_t *passed, size_t *failed)
         run_further_point(&run, &further_points[i]);
     for (i = 0; i < COUNT(times_edges); i++)
         run_times(&run, &times_edges[i]);
+    for (i = 0; i < COUNT(columns_edges); i++)
+        run_columns(&run, &columns_edges[i]);
+    run_lowest_columns(&run);
+    run_lowest_fields(&run);
     run_long_tables(&run);
     run_long_texts(&run);
     run_full_book(&run);

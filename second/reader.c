@@ -185,40 +185,46 @@ static int content_is(const uint8_t *text, struct cell cell, const char *name)
 
 /* ---- What a column takes */
 
-/* "A d cell is 1 to N digits, leading zeros allowed, no sign" and within the column's range. */
-static int take_number(const uint8_t *digits, size_t length, const struct column *column, uint64_t *value)
+/* "A d cell is 1 to N digits, leading zeros allowed, no sign". 4/13: "8 stays for content that is not digits"; "21 outside the
+ * named range". Returns 0, 8 or 21. There are not more digits than the column's width. */
+static uint64_t judge_digits(const uint8_t *digits, size_t length, const struct column *column, uint64_t *value)
 {
     uint64_t sum = 0;
     size_t i;
 
-    if (length < 1 || length > column->width)
-        return 0;
     for (i = 0; i < length; i++) {
         if (digits[i] < '0' || digits[i] > '9')
-            return 0;
+            return 8;
         sum = sum * 10 + (uint64_t)(digits[i] - '0');
     }
     if (sum < column->least || sum > column->most)
-        return 0;
+        return 21;
     *value = sum;
-    return 1;
+    return 0;
 }
 
-/* "8 | cell empty where required, not digits, too long, out of range". Whether the cell passes; *value is the number of a
- * d cell that is not empty. */
-static int judge_cell(const uint8_t *text, struct cell cell, const struct column *column, uint64_t *value)
+/* What is wrong with content: 0, 19, 20, 8 or 21. Its bytes may have doubled quotes in them, which `length` counts once.
+ * *value is the number of a d column that is not empty. */
+static uint64_t judge_content(const uint8_t *bytes, size_t byte_count, size_t length, const struct column *column,
+    uint64_t *value)
 {
-    size_t length = content_length(text, cell);
-
     *value = 0;
-    /* "An optional cell may be empty." */
+    /* "An optional cell may be empty." 4/13: "19 empty where required" */
     if (length == 0)
-        return !column->required;
+        return column->required ? 19 : 0;
+    /* 4/13: "20 content longer than the width"; "where two hold, 20 comes first" */
+    if (length > column->width)
+        return 20;
     /* "A c cell is at most N bytes of content, and not empty where required." */
     if (column->kind == 'c')
-        return length <= column->width;
-    /* A doubled quote is content and no digit, so the raw bytes tell. */
-    return take_number(text + cell.start, cell.end - cell.start, column, value);
+        return 0;
+    /* A doubled quote is content and no digit, so the bytes as they stand tell. */
+    return judge_digits(bytes, byte_count, column, value);
+}
+
+static uint64_t judge_cell(const uint8_t *text, struct cell cell, const struct column *column, uint64_t *value)
+{
+    return judge_content(text + cell.start, cell.end - cell.start, content_length(text, cell), column, value);
 }
 
 /* ---- The header */
@@ -436,20 +442,25 @@ static uint64_t lost_reference(rows_in book, unsigned t, const uint64_t numbers[
 
 /* ---- Reading a table */
 
-/* Judges the cells of a row under the known columns, "8 by column number", and gathers the numbers by column. Returns 0 or
- * the column with an 8. */
+/* Judges the cells of a row under the known columns, "8 by column number", and gathers the numbers by column. 4/13: "all keep
+ * 8's place". Returns 0, or the number of what is wrong with the cell of *column, the lowest column with a fault. */
 static uint64_t take_cells(const struct table *table, const uint8_t *text, const struct header *header,
-    const struct cell cells[HEADER_CELLS], uint64_t numbers[NUMBERS])
+    const struct cell cells[HEADER_CELLS], uint64_t numbers[NUMBERS], uint64_t *column)
 {
     unsigned c;
 
     for (c = 1; c <= table->column_count; c++) {
         uint64_t cell = header->cell_of[c];
+        uint64_t number;
 
         /* "Optional columns may be missing and then every cell of theirs is empty." */
         numbers[c - 1] = 0;
-        if (cell && !judge_cell(text, cells[cell - 1], &table->columns[c - 1], &numbers[c - 1]))
-            return c;
+        if (!cell)
+            continue;
+        number = judge_cell(text, cells[cell - 1], &table->columns[c - 1], &numbers[c - 1]);
+        *column = c;
+        if (number)
+            return number;
     }
     return 0;
 }
@@ -473,7 +484,8 @@ static uint64_t take_line(unsigned t, const uint8_t *text, struct line line, uin
     return 0;
 }
 
-/* "line by line 5, 6, 7, 8 by column number, 11, 9, 10 by column number"; 3/13: 17 comes "after 5" */
+/* "line by line 5, 6, 7, 8 by column number, 11, 9, 10 by column number"; 3/13: 17 comes "after 5"; 4/13: 19, 20 and 21 "keep
+ * 8's place" */
 static uint64_t read_row(unsigned t, const uint8_t *text, struct line line, uint64_t line_number,
     const struct header *header, uint64_t (*book)[NUMBERS], uint64_t place[4])
 {
@@ -490,9 +502,9 @@ static uint64_t read_row(unsigned t, const uint8_t *text, struct line line, uint
     number = take_line(t, text, line, line_number, header, cells, place);
     if (number)
         return number;
-    column = take_cells(table, text, header, cells, numbers);
-    if (column)
-        return refuse(place, 8, t, line_number, column);
+    number = take_cells(table, text, header, cells, numbers, &column);
+    if (number)
+        return refuse(place, number, t, line_number, column);
     /* "11 | END below BEGIN | line, 11" */
     if (t == VEHICLE_BLOCK && ends_early(numbers))
         return refuse(place, 11, t, line_number, 11);
@@ -770,7 +782,7 @@ uint64_t second_cell(const uint8_t *text, size_t length, uint64_t table, uint64_
     memset(answer, 0, 4 * sizeof answer[0]);
     /* "Checks: 15 for table or column, 1, header faults, 15 for the line (line 1 included), then 6 and 7 for that line and
      * 8 for that cell. Other rows and 5 do not matter." 3/13: 17 is first among the header's checks and the line's, "in both
-     * ways of reading and in the cell question". */
+     * ways of reading and in the cell question". 4/13: 8 is split "wherever cells are read". */
     if (table > LAST_TABLE || tables[table].column_count == 0)
         return refuse_without_place(place, 15);
     t = (unsigned)table;
@@ -790,8 +802,9 @@ uint64_t second_cell(const uint8_t *text, size_t length, uint64_t table, uint64_
     if (!cell)
         return accept(place); /* a missing column that the header was let off is optional: nothing */
     asked = &tables[t].columns[column - 1];
-    if (!judge_cell(text, cells[cell - 1], asked, &value))
-        return refuse(place, 8, t, line, column);
+    number = judge_cell(text, cells[cell - 1], asked, &value);
+    if (number)
+        return refuse(place, number, t, line, column);
     answer_cell(cells[cell - 1], asked, value, answer);
     return accept(place);
 }
@@ -876,7 +889,7 @@ static size_t cut_fields(const uint8_t *slip, struct line line, struct field fie
 }
 
 /* "each ended by a line feed (the last may lack it)". A carriage return is a byte like another here: "a field with another
- * byte, a carriage return too, is 8". */
+ * byte, a carriage return too, is 8", or 20 where it makes the field too long. */
 static int next_slip_line(const uint8_t *slip, size_t length, size_t *at, struct line *line)
 {
     size_t i = *at;
@@ -907,24 +920,27 @@ static uint8_t kind_of(const uint8_t *slip, const struct field fields[SLIP_FIELD
     return 0;
 }
 
-/* "Numbers follow their column's rules, unquoted" and "Fields count as the vehicle_block columns." Returns 0 or the column
- * with an 8. */
+/* "Numbers follow their column's rules, unquoted" and "Fields count as the vehicle_block columns." A field is its content, byte
+ * for byte. Returns 0, or the number of what is wrong with the field of *column, the first one with a fault. */
 static uint64_t take_fields(const uint8_t *slip, const struct field fields[SLIP_FIELDS], size_t count,
-    uint64_t numbers[NUMBERS])
+    uint64_t numbers[NUMBERS], uint64_t *column)
 {
     size_t c;
 
     for (c = 1; c < count; c++) {
-        const struct column *column = &tables[VEHICLE_BLOCK].columns[c - 1];
+        size_t length = fields[c].end - fields[c].start;
+        uint64_t number = judge_content(slip + fields[c].start, length, length, &tables[VEHICLE_BLOCK].columns[c - 1],
+            &numbers[c - 1]);
 
-        if (!take_number(slip + fields[c].start, fields[c].end - fields[c].start, column, &numbers[c - 1]))
-            return c;
+        *column = c;
+        if (number)
+            return number;
     }
     return 0;
 }
 
-/* "A: 12, 5, 8, 11, 9, 10. R: 12, 8, 11, 13, 10. D: 12, 8, 13." The blocks stand in their own rows here, as the earlier
- * lines left them; the book has the tables that they refer to. */
+/* "A: 12, 5, 8, 11, 9, 10. R: 12, 8, 11, 13, 10. D: 12, 8, 13." 4/13: 19, 20 and 21 "keep 8's place". The blocks stand in their
+ * own rows here, as the earlier lines left them; the book has the tables that they refer to. */
 static uint64_t take_slip_line(const uint8_t *slip, struct line line, uint64_t line_number, rows_in book,
     uint64_t (*blocks)[NUMBERS], uint64_t place[4])
 {
@@ -932,7 +948,7 @@ static uint64_t take_slip_line(const uint8_t *slip, struct line line, uint64_t l
     uint64_t numbers[NUMBERS] = {0};
     size_t count = cut_fields(slip, line, fields);
     uint8_t kind = kind_of(slip, fields, count);
-    uint64_t column;
+    uint64_t number, column;
     size_t at;
 
     /* "12 | slip line of unknown kind or field count | slip line, 0" */
@@ -941,9 +957,9 @@ static uint64_t take_slip_line(const uint8_t *slip, struct line line, uint64_t l
     /* "An A meets 5 only while 512 blocks stand; a deleted block's room is used again." */
     if (kind == 'A' && used((rows_in)blocks) == ROWS)
         return refuse(place, 5, SLIP, line_number, 0);
-    column = take_fields(slip, fields, count, numbers);
-    if (column)
-        return refuse(place, 8, SLIP, line_number, column);
+    number = take_fields(slip, fields, count, numbers, &column);
+    if (number)
+        return refuse(place, number, SLIP, line_number, column);
     if (kind != 'D' && ends_early(numbers))
         return refuse(place, 11, SLIP, line_number, 11);
     at = find((rows_in)blocks, numbers, 4);

@@ -8,6 +8,7 @@ use native.Mathlib.Numerals.{add-one}
 use lib.ListN.{length, getD, set, length-map, length-set}
 use lib.Dec.{lit≤}
 use Rattle.words.specs.Words.{Row, Bytes}
+use Rattle.refusals.proofs.Chaining.{both}
 use Rattle.refusals.specs.Verdicts.{_⊳_, _when_, tooManyRows, endsEarly, unknownLine, noBlock}
 use Rattle.refusals.specs.declared.Check.{Check}
 use Rattle.refusals.specs.declared.Check.the-variants.{Passes, Fails}
@@ -53,10 +54,6 @@ removed-wide k ns xs = removed-key k (wide ns) ns (sameKey-wide k ns ns ∙ same
 then-fails : (c d : Check) → (d ≡ Passes → ⊥) → c ⊳ d ≡ Passes → ⊥
 then-fails Passes d f e = f e
 then-fails (Fails n k) d f e = let z : _≡_ {A = ℕ} 0 1 = cc in omega arith
-
-first-passes : (c d : Check) → c ⊳ d ≡ Passes → c ≡ Passes
-first-passes Passes d e = refl
-first-passes (Fails n k) d e = e
 
 module _ (line : Bytes) (slice slots : List Row) (order : List ℕ) (n : ℕ) (on : OnShelf Block slice slots order n) where
   abbrev b : Book
@@ -182,7 +179,7 @@ module _ (line : Bytes) (slice slots : List Row) (order : List ℕ) (n : ℕ) (o
           where
             replace-row : j .row ≡ rowIn line
             replace-row =
-                row-whole (wish-size (fields line) Replace w (λ q. let z : _≡_ {A = ℕ} 0 1 = cc in omega arith)) (first-passes (j .check) _ (sym f ∙ e))
+                row-whole (wish-size (fields line) Replace w (λ q. let z : _≡_ {A = ℕ} 0 1 = cc in omega arith)) (both (j .check) _ (sym f ∙ e) .0)
 
     -- D
     module _ (w : wish (fields line) ≡ Delete) where

@@ -39,7 +39,7 @@ fn early(row: Row) -> Check
     Check::Passes
 }
 
-// 5, 8, and the rules of a row that a reading has too.
+// 5, what is wrong with a field, and the rules of a row that a reading has too.
 fn add_block(
     line: &[u8],
     marks: Fields,
@@ -82,7 +82,7 @@ fn add_block(
     }
 }
 
-// 8, 11, 13, 10, where it is known whether the block is missing.
+// What is wrong with a field, 11, 13, 10, where it is known whether the block is missing.
 fn judge_replace(read: Judged, missing: Check, book: &[Row]) -> Check
     requires { ⌜ Sound (now book) × (pointsNamed (bookOf (now book)) ≡ true) ⌝ }
     ensures { λ r. ⌜ r ≡ read .check ⊳ (endsEarly when timeFault Table.Block (read .row) ⊳ (missing ⊳ unknown Table.Block (read .row) (bookOf (now (book .entry))))) ⌝ }
@@ -132,7 +132,7 @@ fn replace_block(
     }
 }
 
-// 8, 13: a line that deletes a block frees its slot. (Nothing of the book is looked at; the contract speaks of it.)
+// What is wrong with a field, 13: a line that deletes a block frees its slot. (Nothing of the book is looked at; the contract speaks of it.)
 fn delete_block(
     line: &[u8],
     marks: Fields,

@@ -8,7 +8,7 @@ use lib.Dec.{eqb, ltb}
 use lib.ListN.{length, length-take, length-drop, getD, length-append, take, drop}
 use borrow.Author.Tests.{ne-eqb, le-ltb, eqb-false, ltb-false, eq-eqb, lt-ltb, ltb-true}
 use Rattle.words.specs.Words.{Bytes, if_then_else_}
-use Rattle.refusals.specs.Verdicts.{placed, _when_, cellFault, _⊳_, _before_, nowhere, notThere}
+use Rattle.refusals.specs.Verdicts.{placed, _when_, _⊳_, _before_, nowhere, notThere}
 use Rattle.refusals.specs.declared.Check.{Check}
 use Rattle.refusals.specs.declared.Check.the-variants.{Fails, Passes}
 use Rattle.refusals.specs.declared.Verdict.{Verdict}
@@ -26,18 +26,23 @@ use Rattle.cells.proofs.Numbered.{cell-bounded}
 use Rattle.cells.proofs.Cutting.{cells-parted}
 use Rattle.cells.proofs.Contents.{quoted-some}
 use Rattle.contents.proofs.Contents.{content-le}
-use Rattle.tables.specs.Columns.{columnAt, number, columnsOf, numbered}
+use Rattle.numbers.specs.Numbers.{value}
+use Rattle.numbers.specs.Decimals.{decimalOf}
+use Rattle.numbers.specs.declared.Digits.{Digits}
+use Rattle.numbers.specs.declared.Digits.the-variants as digits-are
+use Rattle.numbers.proofs.Decimals.{decimal-value}
+use Rattle.tables.specs.Columns.{columnAt, number, columnsOf, numbered, inRange}
 use Rattle.tables.specs.declared.Table.{Table}
 use Rattle.tables.specs.declared.Rules.{Rules}
 use Rattle.tables.specs.declared.Sort.{Sort}
 use Rattle.tables.specs.declared.Named.{Named}
 use Rattle.tables.specs.declared.Named.the-variants.{Known, Unknown}
 use Rattle.tables.specs.declared.Sort.the-variants as sort-is
-use Rattle.values.specs.Values.{breaks, cellCheck}
-use Rattle.values.specs.Judged.{kept, valueOf}
+use Rattle.values.specs.Values.{cellCheck}
+use Rattle.values.specs.Judged.{byDigits, bySort, checkOf, valueOf}
 use Rattle.values.specs.declared.Value.{Value}
 use Rattle.values.specs.declared.Value.the-variants as value-is
-use Rattle.values.proofs.Values.{column-narrow}
+use Rattle.values.proofs.Values.{column-narrow, check-of-value}
 use Rattle.header.specs.Header.{Header, offset, placeFrom, under, cutCheck, headerOf, topFaults}
 use Rattle.header.specs.Heading.{headerPlaces, places}
 use Rattle.header.proofs.Names.{place-at}
@@ -69,18 +74,33 @@ module _ (n line k at : ℕ) (cell : Bytes) where
   answeredBy (value-is.Number v) = answered Accepted (Number v)
   answeredBy value-is.Text = answered Accepted (said sort-is.Text at cell)
   answeredBy value-is.Empty = answered Accepted Empty
-  answeredBy value-is.Bad = answered (placed n line (cellFault k)) Empty
+  answeredBy (value-is.Bad fault) = answered (placed n line (Fails fault k)) Empty
 
   by-value : (x : Rules) → answered (placed n line (cellCheck k x (content cell))) (cellSaid (x .sort) at cell) ≡ answeredBy (valueOf x (content cell))
-  by-value x = go (breaks x (content cell)) (x .sort) (eqb (length (content cell)) 0) refl
+  by-value x = rw (← check-of-value k x (content cell)) (by-length (eqb (length (content cell)) 0) refl (x .required) (ltb (x .width) (length (content cell))) (x .sort))
     where
-      go : (b : Bool) (sort : Sort) (z : Bool) → eqb (length (content cell)) 0 ≡ z
-          → answered (placed n line (cellFault k when b)) (cellSaid sort at cell) ≡ answeredBy (if b then value-is.Bad else kept sort (content cell))
-      go true sort z e = refl
-      go false sort-is.Decimal true e = rw e
-      go false sort-is.Decimal false e = rw e
-      go false sort-is.Text true e = rw e
-      go false sort-is.Text false e = rw e
+      by-digits : (d : Digits) → decimalOf (x .width) (content cell) ≡ d → eqb (length (content cell)) 0 ≡ false
+          → answered (placed n line (checkOf k (byDigits x d))) (cellSaid sort-is.Decimal at cell) ≡ answeredBy (byDigits x d)
+      by-digits digits-are.Other p e = refl
+      by-digits (digits-are.Value m) p e = by-range (inRange x m)
+        where
+          is : value (content cell) ≡ m
+          is = decimal-value (x .width) (content cell) m p .1
+
+          by-range : (i : Bool) → answered (placed n line (checkOf k (if i then value-is.Number m else value-is.Bad 21))) (cellSaid sort-is.Decimal at cell)
+              ≡ answeredBy (if i then value-is.Number m else value-is.Bad 21)
+          by-range true = rw (e, is)
+          by-range false = refl
+
+      by-length : (z : Bool) → eqb (length (content cell)) 0 ≡ z → (q w : Bool) (sort : Sort)
+          → answered (placed n line (checkOf k (if z then (if q then value-is.Bad 19 else value-is.Empty) else (if w then value-is.Bad 20 else bySort sort x (content cell))))) (cellSaid sort at cell)
+          ≡ answeredBy (if z then (if q then value-is.Bad 19 else value-is.Empty) else (if w then value-is.Bad 20 else bySort sort x (content cell)))
+      by-length true e true w sort = refl
+      by-length true e false w sort-is.Decimal = rw e
+      by-length true e false w sort-is.Text = rw e
+      by-length false e q true sort = refl
+      by-length false e q false sort-is.Decimal = by-digits (decimalOf (x .width) (content cell)) refl e
+      by-length false e q false sort-is.Text = rw e
 
 pub judged-by : (t : Table) (line k at : ℕ) (cell : Bytes) (x : Rules) (v w : Value) → x ≡ columnAt t (k - 1) .rules → v ≡ valueOf x (content cell) → v ≡ w
     → answeredBy (number t) line k at cell w ≡ cellJudged t line k at cell

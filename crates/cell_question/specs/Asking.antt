@@ -11,12 +11,12 @@ use Rattle.header.specs.Header.{Header, cutCheck, under, offset}
 use Rattle.cell_question.specs.CellQuestion.{answered, cellSaid}
 use Rattle.cell_question.specs.declared.CellAnswer.{CellAnswer}
 
--- 8, and what is said of a cell of column k that begins at this place of its text
+-- 19, 20, 8 or 21, and what is said of a cell of column k that begins at this place of its text
 unfoldable pub cellJudged : Table → ℕ → ℕ → ℕ → Bytes → CellAnswer
 cellJudged t line k at cell =
     answered (placed (number t) line (cellCheck k (columnAt t (k - 1) .rules) (content cell))) (cellSaid (columnAt t (k - 1) .rules .sort) at cell)
 
--- 17, 6, 7 and 8, and what is said of the cell of column k, on a row that begins at this place of its text
+-- 17, 6, 7 and what is wrong with the cell, and what is said of the cell of column k, on a row that begins at this place of its text
 unfoldable pub rowAnswer : Table → Header → ℕ → ℕ → ℕ → Bytes → CellAnswer
 rowAnswer t h line k at row =
     let cell = under k h (cellsOf (cut row)) in

@@ -53,7 +53,7 @@ abbrev pub cellAt : Table → Bytes → ℕ → ℕ → Bytes
 cellAt t s line k = under k (headerOf t s) (cellsOf (cutAt line s))
 
 -- "15 for table or column, 1, header faults, 15 for the line (line 1 included), then 6 and 7 for that line and 8 for that cell. Other rows
--- and 5 do not matter." 17 is "first among header and line checks"
+-- and 5 do not matter." 17 is "first among header and line checks"; 19, 20 and 21 "keep 8's place"
 unfoldable pub cellVerdict : Table → Bytes → ℕ → ℕ → Verdict
 cellVerdict t s line k =
     nowhere (notThere when (eqb k 0 || ltb (length (columnsOf t)) k))

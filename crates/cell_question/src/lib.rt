@@ -74,7 +74,7 @@ fn text_said(cell: &[u8], at: usize) -> Cell
     }
 }
 
-// 8, and what the cell holds.
+// 19, 20, 8 or 21, and what the cell holds.
 fn judged_cell(
     cell: &[u8],
     at: usize,
@@ -92,7 +92,7 @@ fn judged_cell(
         Value::Number(n) => accepted(Cell::Number(n)),
         Value::Text => accepted(text_said(cell, at)),
         Value::Empty => accepted(Cell::Empty),
-        Value::Bad => refused(Check::cell_fault(header::wide(column)), t.number(), line),
+        Value::Bad(number) => refused(Check::fails(number, header::wide(column)), t.number(), line),
     }
 }
 

@@ -9,6 +9,7 @@ use lib.Dec.{eqb}
 use lib.Seq.{getD-take, length-take-le}
 use borrow.Author.Tests.{ne-eqb, le-ltb}
 use Rattle.words.specs.Words.{Bytes, Row, if_then_else_}
+use Rattle.refusals.proofs.Chaining.{both}
 use Rattle.refusals.specs.declared.Check.the-variants.{Passes}
 use Rattle.refusals.specs.Verdicts.{_⊳_, _when_, tooManyRows}
 use Rattle.refusals.specs.declared.Verdict.the-variants.{Accepted}
@@ -28,7 +29,9 @@ use Rattle.tables.specs.declared.Named.{Named}
 use Rattle.tables.specs.declared.Sort.{Sort}
 use Rattle.tables.specs.declared.Sort.the-variants.{Decimal}
 use Rattle.tables.proofs.Figures.{kept-columns, kept-decimal, kept-required}
-use Rattle.values.specs.Values.{breaks, cellCheck, badCell}
+use Rattle.values.specs.Values.{cellCheck, badCell}
+use Rattle.values.specs.Judged.{breaks}
+use Rattle.values.proofs.Values.{check-kept, kept-check}
 use Rattle.book.specs.Book.{Book, full, rows}
 use Rattle.book.specs.Result.{leaves}
 use Rattle.rules.specs.Rules.{ruled}
@@ -38,7 +41,6 @@ use Rattle.table_lines.specs.Reading.{judged}
 use Rattle.delivery.specs.Delivery.{Delivery, reading}
 use Rattle.cell_question.specs.CellQuestion.{answered, cellSaid, cellAt, cellVerdict, cellStart, tableCell, askedOf, cellAsked, cellPaper}
 use Rattle.promises.specs.Promises.{rowLinesOf, rowAt, textOf, CellsAccepted, CellsAgree}
-use Rattle.promises.proofs.TestLaws.{both, unfailed}
 use Rattle.promises.proofs.DeliveryLaws.{ReadTo, left-by}
 use Rattle.promises.proofs.ExactPromises.{accepted-exactly}
 use Rattle.promises.proofs.RowPromises.{rows-exactly, found-copy, copy-at}
@@ -63,20 +65,20 @@ unfolding contentsFrom
 contents-long k [] h cs = refl
 contents-long k (x ∷ xs) h cs = ap suc (contents-long (suc k) xs h cs)
 
--- 8 is given for no column
+-- no column has a fault
 good-at : (k : ℕ) (xs : List Column) (ss : List Bytes) (n : ℕ) → n < length xs → n < length ss → badCell k xs ss ≡ Passes →
     breaks (getD xs n noColumn .rules) (getD ss n []) ≡ false
 unfolding badCell
 good-at k [] ss n g f h = absurd (omega arith)
 good-at k (x ∷ xs) [] n g f h = absurd (omega arith)
-good-at k (x ∷ xs) (s ∷ ss) zero g f h = unfailed 8 k (breaks (x .rules) s) (both (cellCheck k (x .rules) s) (badCell (suc k) xs ss) h .0)
+good-at k (x ∷ xs) (s ∷ ss) zero g f h = check-kept k (x .rules) s (both (cellCheck k (x .rules) s) (badCell (suc k) xs ss) h .0)
 good-at k (x ∷ xs) (s ∷ ss) (suc n) g f h = good-at (suc k) xs ss n (omega arith) (omega arith) (both (cellCheck k (x .rules) s) (badCell (suc k) xs ss) h .1)
 
 -- so a required cell is not empty
 some-content : (x : Rules) (s : Bytes) (e : Bool) → eqb (length s) 0 ≡ e → x .required ≡ true → breaks x s ≡ false → eqb (length s) 0 ≡ false
 some-content x s false e r h = e
 some-content x s true e r h =
-    let f : true ≡ false = sym r ∙ (rw e at h) in
+    let f = rw (e, r) at (kept-check 0 x s h) in
     let z : _≡_ {A = ℕ} 0 1 = cc in let y : ⊥ = omega arith in absurd y
 
 -- the lines --------------------------------------------------------------------------------------------------------------
@@ -156,7 +158,7 @@ module _ (t : Table) (s : Bytes) (i n : ℕ) (b : Book)
           line-at (lines s) i on,
           checks .0,
           m,
-          good,
+          kept-check (suc n) rules (content (under (suc n) (headerOf t s) (cellsOf (cut line)))) good,
         )
 
     cell-number : n < keptWidth t → cellSaid (columnAt t (suc n - 1) .rules .sort) (cellStart t s (2 + i) (suc n)) (cellAt t s (2 + i) (suc n)) ≡ Number (column (suc n) (rowRead t (headerOf t s) line))

@@ -10,6 +10,7 @@ use lib.ListN.{length, take}
 use lib.Seq.{take-all}
 use borrow.Author.Tests.{ltb-false, eqb-true, not-false, eq-eqb}
 use Rattle.words.specs.Words.{Bytes, if_then_else_}
+use Rattle.refusals.proofs.Chaining.{both}
 use Rattle.refusals.specs.Verdicts.{_when_, inText, textTooLong, _⊳_, _before_, placed, inHeader, lengthDiffers}
 use Rattle.refusals.specs.declared.Check.{Check}
 use Rattle.refusals.specs.declared.Check.the-variants.{Passes, Fails}
@@ -32,7 +33,7 @@ use Rattle.radio.specs.Hearing.{bytesHeard}
 use Rattle.radio.proofs.Hearing.{over-stopped, table-over, own-fault}
 use Rattle.radio.proofs.Counting.{counts, counted-short, part-whole, check-counted}
 use Rattle.promises.specs.Radio.{run, parts, joined, PartsJoin, EmptyPart, Clear, TableHeard, sendingOf, callsFor, callsOf, DeliveryHeard, HeardAsRead, FaultStays, MayAnswer, FaultAnswers, FaultEnds, OutOfTurn}
-use Rattle.promises.proofs.TestLaws.{both, unfailed}
+use Rattle.promises.proofs.TestLaws.{unfailed}
 
 pub parts-join : PartsJoin
 unfolding partTaken

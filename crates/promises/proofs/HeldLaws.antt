@@ -8,6 +8,7 @@ use lib.ListN.{take, length, length-append, length-take, length-replicate, repli
 use lib.Seq.{take-at, append-snoc}
 use borrow.Author.Tests.{leb-false, lt-leb, le-ltb}
 use Rattle.words.specs.Words.{Row, Bytes}
+use Rattle.refusals.proofs.Chaining.{both}
 use Rattle.refusals.specs.declared.Check.the-variants.{Passes, Fails}
 use Rattle.refusals.specs.Verdicts.{_⊳_, _when_, tooManyRows, endsEarly, keyStands, placed, place}
 use Rattle.refusals.specs.declared.Check.{Check}
@@ -40,7 +41,7 @@ use Rattle.table_lines.specs.Reading.{judged, lineAfter, rowsRead}
 use Rattle.table_reading.specs.Reading.{tableRead}
 use Rattle.writer.specs.Writing.{linesWritten}
 use Rattle.promises.proofs.PlainLaws.{Eleven, eleven-long, kept-numeric, cells-ranged, plainHeader, plainLine, row-judged, row-read, plainNames, names-short, names-good, names-read, line-short, plainText, unbroken-plain, unbroken-line}
-use Rattle.promises.proofs.TestLaws.{both, unfailed, going-on}
+use Rattle.promises.proofs.TestLaws.{unfailed, going-on}
 use Rattle.promises.proofs.LastRowLaws.{AboveAll, stands-not, above-all, inserted-last}
 use Rattle.promises.proofs.LineLaws.{EachUnbroken, lines-written, Unbroken}
 

@@ -3,7 +3,7 @@ use mathlib.Core.Bool.{Bool, true, false, not, _&&_, _||_}
 use mathlib.Core.Path.{_≡_, refl, subst, sym}
 use mathlib.Core.List.{List, [], _∷_, map}
 use mathlib.Core.Logic.{⊎-elim}
-use Prim.Native.Nat.{ℕ, _≤_, _<_, zero, suc, _+_, _-_}
+use Prim.Native.Nat.{ℕ, _≤_, _<_, zero, suc, _+_, _-_, _*_, _^_}
 use native.Mathlib.Omega.{arith}
 use lib.ListN.{length, getD, take}
 use lib.Dec.{eqb, leb, ltb}
@@ -12,7 +12,7 @@ use Rattle.words.specs.Words.{Bytes, Row, if_then_else_}
 use Rattle.words.proofs.Lists.{and-left, and-right, every}
 use Rattle.refusals.specs.declared.Check.{Check}
 use Rattle.refusals.specs.declared.Check.the-variants.{Passes, Fails}
-use Rattle.refusals.specs.Verdicts.{_when_, _⊳_, placed, place, tooManyRows, columnTwice, columnMissing, tooManyCells, cellCount, cellFault, endsEarly, keyStands, noRow, _before_, inText, inHeader, textTooLong, paper, lineTooLong}
+use Rattle.refusals.specs.Verdicts.{_when_, _⊳_, placed, place, tooManyRows, columnTwice, columnMissing, tooManyCells, cellCount, endsEarly, keyStands, noRow, _before_, inText, inHeader, textTooLong, paper, lineTooLong, cellEmpty, cellTooLong, notDigits, outOfRange}
 use Rattle.refusals.specs.declared.Place.{Place}
 use Rattle.refusals.specs.declared.Verdict.the-variants.{Refused, Accepted}
 use Rattle.refusals.specs.declared.Verdict.{Verdict}
@@ -20,12 +20,17 @@ use Rattle.lines.specs.Lines.{lines, headLine, overlong, slipLines, mostBytes, 
 use Rattle.cells.specs.Cells.{cut, faultyCell, cellsOf, content}
 use Rattle.cells.specs.declared.State.the-variants.{Fresh}
 use Rattle.fields.specs.Fields.{fields}
-use Rattle.tables.specs.Columns.{Column, columnsOf, references, number, noColumn, columnNumber, columnAt}
+use Rattle.numbers.specs.Numbers.{allDigits, valueFrom, value}
+use Rattle.numbers.proofs.Decimals.{digit-more, power-le}
+use Rattle.tables.specs.Columns.{Column, columnsOf, references, number, noColumn, columnNumber, columnAt, inRange}
+use Rattle.tables.specs.declared.Rules.{Rules}
+use Rattle.tables.specs.declared.Sort.{Sort}
+use Rattle.tables.specs.declared.Sort.the-variants.{Decimal, Text}
 use Rattle.tables.proofs.Names.{column-number-most}
 use Rattle.tables.specs.declared.Table.{Table}
 use Rattle.tables.specs.declared.Reference.{Reference}
 use Rattle.tables.specs.declared.Table.the-variants.{Block, VehicleType, Depot, Stop, StopPoint}
-use Rattle.values.specs.Values.{breaks, badCell}
+use Rattle.values.specs.Values.{badCell, cellCheck, saidCheck}
 use Rattle.book.specs.Book.{Book, knows, full, empty}
 use Rattle.book.specs.Result.{refused}
 use Rattle.rules.specs.Rules.{timeFault, named, unknown, unknownOf, ruled}
@@ -39,7 +44,7 @@ use Rattle.slip_line.specs.SlipLine.{badField, numbers, wish, rowIn}
 use Rattle.slip_line.specs.declared.Wish.{Wish}
 use Rattle.slip_line.specs.declared.Wish.the-variants.{Add, Replace, Delete, Unknown}
 use Rattle.block_change.specs.Change.{missingBlock, lineJudged, slipCheck, slipLeaves}
-use Rattle.promises.specs.Promises.{Numbered, _naming_, unnamed, anyCell, anyColumn, requiredColumn, endColumn, referringColumn, rowLinesOf, rowStep, textNumbers, headerNumbers, rowNumbers, slipNumbers, among, givenIn, givenInSlip, FaultyTable, in-types, in-depots, in-stops, in-points, in-blocks, ReadingNumbered, onward, FirstFault, SlipNumbered}
+use Rattle.promises.specs.Promises.{Numbered, _naming_, unnamed, anyCell, anyColumn, requiredColumn, numberColumn, rangedColumn, rangeNamed, ofNumbers, endColumn, referringColumn, rowLinesOf, rowStep, textNumbers, headerNumbers, rowNumbers, slipNumbers, among, givenIn, givenInSlip, FaultyTable, in-types, in-depots, in-stops, in-points, in-blocks, ReadingNumbered, onward, FirstFault, SlipNumbered}
 use Rattle.promises.proofs.TestLaws.{and-both, and-three, or-later}
 use Rattle.promises.proofs.TextLaws.{slip-lines-few, head-within, row-within, rows-few, cut-few}
 use Rattle.promises.proofs.ExactPromises.{refused-at-first, delivery-refused, slip-refused-at-first}
@@ -88,14 +93,16 @@ module _ (xs : List Numbered) where
   given-chain (Fails n k) e h g = h
 
   -- the cells of columns, of which the first has number k
-  given-cells : (k : ℕ) (cols : List Column) (ss : List Bytes) → ((j : ℕ) → k ≤ j → j < k + length cols → among xs 8 j ≡ true) → given xs (badCell k cols ss) ≡ true
+  given-cells : (k : ℕ) (cols : List Column) (ss : List Bytes) → ((i : ℕ) → i < length cols → (s : Bytes) → given xs (cellCheck (k + i) (getD cols i noColumn .rules) s) ≡ true) →
+      given xs (badCell k cols ss) ≡ true
   unfolding badCell given
   given-cells k [] ss h = refl
   given-cells k (x ∷ cols) [] h = refl
   given-cells k (x ∷ cols) (s ∷ ss) h =
-      given-chain (cellFault k when breaks (x .rules) s) (badCell (suc k) cols ss)
-      (given-when 8 k (breaks (x .rules) s) (λ e. h k (omega arith) (omega arith)))
-      (given-cells (suc k) cols ss (λ j l m. h j (omega arith) (omega arith)))
+      let here : k + 0 ≡ k = omega arith in
+      given-chain (cellCheck k (x .rules) s) (badCell (suc k) cols ss)
+      (rw here at (h 0 (omega arith) s))
+      (given-cells (suc k) cols ss (λ i l c. let on : k + suc i ≡ suc k + i = omega arith in rw on at (h (suc i) (omega arith) c)))
 
   given-unknown : (rs : List Reference) (row : Row) (b : Book) → ((k : ℕ) → member k (map (λ r. r .column) rs) ≡ true → among xs 10 k ≡ true) →
       given xs (unknownOf rs row b) ≡ true
@@ -120,6 +127,74 @@ given-placed xs table line (Fails n k) p h e =
 -- the columns of a table, and the column of a block's end
 column-any : (t : Table) (j : ℕ) → 1 ≤ j → j < 1 + length (columnsOf t) → anyColumn t j ≡ true
 column-any t j l m = and-both (ltb 0 j) (leb j (length (columnsOf t))) (lt-ltb 0 j l) (le-leb j (length (columnsOf t)) (omega arith))
+
+-- digits are no more than their number of nines
+value-below : (s : Bytes) (n i : ℕ) → allDigits s ≡ true → n < 10 ^ i → valueFrom n s < 10 ^ (i + length s)
+unfolding allDigits valueFrom
+value-below [] n i h l = let z : i + 0 ≡ i = omega arith in rw z l
+value-below (b ∷ s) n i h l =
+    let digit : b - 48 ≤ 9 = omega (arith, leb-true b 57 (and-right (leb 48 b) (leb b 57) (and-left (leb 48 b && leb b 57) (allDigits s) h))) in
+    let on : i + length (b ∷ s) ≡ i + 1 + length s = omega arith in
+    rw on (value-below s (n * 10 + (b - 48)) (i + 1) (and-right (leb 48 b && leb b 57) (allDigits s) h) (digit-more n (b - 48) i l digit))
+
+-- so a number of the column's width that is out of its range is out of a range that is named
+range-named : (x : Rules) (s : Bytes) → allDigits s ≡ true → length s ≤ x .width → inRange x (value s) ≡ false → rangeNamed x ≡ true
+range-named x s d l out = go (eqb (x .low) 0) refl (eqb (x .high) (10 ^ x .width - 1)) refl
+  where
+    below : value s < 10 ^ x .width
+    below =
+        let z : 0 + length s ≡ length s = omega arith in
+        let v : value s < 10 ^ length s = rw z at (value-below s 0 0 d (power-le 0 0 (omega arith))) in
+        omega (arith, v, power-le (length s) (x .width) l)
+
+    go : (p : Bool) → eqb (x .low) 0 ≡ p → (q : Bool) → eqb (x .high) (10 ^ x .width - 1) ≡ q → not (p && q) ≡ true
+    go true e true f =
+        let low = eqb-true (x .low) 0 e in
+        let high = eqb-true (x .high) (10 ^ x .width - 1) f in
+        let r : inRange x (value s) ≡ true = and-both (leb (x .low) (value s)) (leb (value s) (x .high)) (le-leb (x .low) (value s) (omega arith)) (le-leb (value s) (x .high) (omega (arith, below))) in
+        let z : _≡_ {A = ℕ} 0 1 = cc in let y : ⊥ = omega arith in absurd y
+    go true e false f = refl
+    go false e q f = refl
+
+-- what is wrong with a cell of a table's column
+module _ (xs : List Numbered) (t : Table)
+    (bare : (k : ℕ) → requiredColumn t k ≡ true → among xs 19 k ≡ true)
+    (long : (k : ℕ) → anyColumn t k ≡ true → among xs 20 k ≡ true)
+    (other : (k : ℕ) → numberColumn t k ≡ true → among xs 8 k ≡ true)
+    (outside : (k : ℕ) → rangedColumn t k ≡ true → among xs 21 k ≡ true)
+  where
+    module _ (i : ℕ) (l : i < length (columnsOf t)) (s : Bytes) where
+      abbrev x : Rules
+      x = columnAt t i .rules
+
+      this : 1 + i - 1 ≡ i
+      this = omega arith
+
+      number-column : x .sort ≡ Decimal → numberColumn t (1 + i) ≡ true
+      number-column e = rw (this, e, lt-ltb 0 (1 + i) (omega arith))
+
+      given-cell : given xs (cellCheck (1 + i) x s) ≡ true
+      unfolding given
+      given-cell = by-length (eqb (length s) 0) (ltb (x .width) (length s)) refl
+        where
+          by-digits : x .sort ≡ Decimal → length s ≤ x .width → (d : Bool) → allDigits s ≡ d → (r : Bool) → inRange x (value s) ≡ r
+              → given xs (notDigits (1 + i) when not d ⊳ outOfRange (1 + i) when not r) ≡ true
+          by-digits e w false d r q = other (1 + i) (number-column e)
+          by-digits e w true d true q = refl
+          by-digits e w true d false q = outside (1 + i) (and-both (numberColumn t (1 + i)) (rangeNamed (columnAt t (1 + i - 1) .rules)) (number-column e) (rw this (range-named x s d w q)))
+
+          by-sort : length s ≤ x .width → (sort : Sort) → x .sort ≡ sort → given xs (saidCheck sort (1 + i) x s) ≡ true
+          by-sort w Decimal e = by-digits e w (allDigits s) refl (inRange x (value s)) refl
+          by-sort w Text e = refl
+
+          by-length : (z w : Bool) → ltb (x .width) (length s) ≡ w
+              → given xs (if z then cellEmpty (1 + i) when x .required else (cellTooLong (1 + i) when w ⊳ saidCheck (x .sort) (1 + i) x s)) ≡ true
+          by-length true w f = given-when xs 19 (1 + i) (x .required) (λ e. bare (1 + i) (rw (this, e, lt-ltb 0 (1 + i) (omega arith))))
+          by-length false true f = long (1 + i) (column-any t (1 + i) (omega arith) (omega arith))
+          by-length false false f = by-sort (ltb-false (x .width) (length s) f) (x .sort) refl
+
+    given-columns : (ss : List Bytes) → given xs (badCell 1 (columnsOf t) ss) ≡ true
+    given-columns ss = given-cells xs 1 (columnsOf t) ss (λ i l s. given-cell i l s)
 
 end-timed : (t : Table) (row : Row) → timeFault t row ≡ true → endColumn t 11 ≡ true
 end-timed VehicleType row e = e
@@ -154,7 +229,7 @@ module _ (t : Table) where
       (given-chain xs (lineTooLong when longLine l) (badCut (cut l) ⊳ count) (given-when xs 17 0 (longLine l) (λ e. refl))
       (given-chain xs (badCut (cut l)) count (given-cut xs l n (λ k e. e))
       (given-when xs 7 0 (not (eqb (length (cellsOf (cut l))) (length h))) (λ e. refl))))
-      (given-chain xs (badCell 1 (columnsOf t) cs) (ruled t row b) (given-cells xs 1 (columnsOf t) cs (column-any t))
+      (given-chain xs (badCell 1 (columnsOf t) cs) (ruled t row b) (given-columns xs t (λ k e. e) (λ k e. e) (λ k e. e) (λ k e. e) cs)
       (given-ruled xs row b (λ e. e) refl (λ k e. e))))
 
   -- a column that comes twice is one of the table's
@@ -191,16 +266,16 @@ unfolding given among
 given-line Unknown fs row b = refl
 given-line Add fs row b =
     given-chain slipNumbers (tooManyRows when full Block b) (badField fs ⊳ ruled Block row b) (given-when slipNumbers 5 0 (full Block b) (λ e. refl))
-    (given-chain slipNumbers (badField fs) (ruled Block row b) (given-cells slipNumbers 1 (columnsOf Block) fs (column-any Block))
+    (given-chain slipNumbers (badField fs) (ruled Block row b) (given-columns slipNumbers Block (λ k e. e) (λ k e. e) (λ k e. e) (λ k e. e) fs)
     (given-ruled Block slipNumbers row b (λ e. refl) refl (λ k e. e)))
 given-line Replace fs row b =
     given-chain slipNumbers (badField fs) (endsEarly when timeFault Block row ⊳ missingBlock row b ⊳ unknown Block row b)
-    (given-cells slipNumbers 1 (columnsOf Block) fs (column-any Block))
+    (given-columns slipNumbers Block (λ k e. e) (λ k e. e) (λ k e. e) (λ k e. e) fs)
     (given-chain slipNumbers (endsEarly when timeFault Block row) (missingBlock row b ⊳ unknown Block row b) (given-when slipNumbers 11 11 (timeFault Block row) (λ e. refl))
     (given-chain slipNumbers (missingBlock row b) (unknown Block row b) (given-when slipNumbers 13 0 (not (knows Block row b)) (λ e. refl))
     (given-unknown slipNumbers (references Block) row b (λ k e. e))))
 given-line Delete fs row b =
-    given-chain slipNumbers (badField fs) (missingBlock row b) (given-cells slipNumbers 1 (columnsOf Block) fs (column-any Block))
+    given-chain slipNumbers (badField fs) (missingBlock row b) (given-columns slipNumbers Block (λ k e. e) (λ k e. e) (λ k e. e) (λ k e. e) fs)
     (given-when slipNumbers 13 0 (not (knows Block row b)) (λ e. refl))
 
 -- the tables ---------------------------------------------------------------------------------------------------------------
@@ -317,16 +392,23 @@ columns-few Block = omega arith
 near-column : (t : Table) (k : ℕ) → anyColumn t k ≡ true → k ≤ suc mostBytes
 near-column t k e = omega (arith, columns-few t, leb-true k (length (columnsOf t)) (and-right (ltb 0 k) (leb k (length (columnsOf t))) e))
 
--- behind the last column none is required
-required-inside : (cols : List Column) (i : ℕ) → getD cols i noColumn .rules .required ≡ true → i < length cols
-required-inside [] zero e = let z : _≡_ {A = ℕ} 0 1 = cc in let y : ⊥ = omega arith in absurd y
-required-inside [] (suc i) e = let z : _≡_ {A = ℕ} 0 1 = cc in let y : ⊥ = omega arith in absurd y
-required-inside (x ∷ cols) zero e = omega arith
-required-inside (x ∷ cols) (suc i) e = omega (arith, required-inside cols i e)
+-- behind the last column none is required, and none is of numbers
+column-inside : (f : Rules → Bool) → f (noColumn .rules) ≡ false → (cols : List Column) (i : ℕ) → f (getD cols i noColumn .rules) ≡ true → i < length cols
+column-inside f none [] zero e = let z : _≡_ {A = ℕ} 0 1 = cc in let y : ⊥ = omega arith in absurd y
+column-inside f none [] (suc i) e = let z : _≡_ {A = ℕ} 0 1 = cc in let y : ⊥ = omega arith in absurd y
+column-inside f none (x ∷ cols) zero e = omega arith
+column-inside f none (x ∷ cols) (suc i) e = omega (arith, column-inside f none cols i e)
 
 near-required : (t : Table) (k : ℕ) → requiredColumn t k ≡ true → k ≤ suc mostBytes
 near-required t k e =
-    omega (arith, columns-few t, required-inside (columnsOf t) (k - 1) (and-right (ltb 0 k) (columnAt t (k - 1) .rules .required) e))
+    omega (arith, columns-few t, column-inside (λ x. x .required) refl (columnsOf t) (k - 1) (and-right (ltb 0 k) (columnAt t (k - 1) .rules .required) e))
+
+near-number : (t : Table) (k : ℕ) → numberColumn t k ≡ true → k ≤ suc mostBytes
+near-number t k e =
+    omega (arith, columns-few t, column-inside (λ x. ofNumbers (x .sort)) refl (columnsOf t) (k - 1) (and-right (ltb 0 k) (ofNumbers (columnAt t (k - 1) .rules .sort)) e))
+
+near-ranged : (t : Table) (k : ℕ) → rangedColumn t k ≡ true → k ≤ suc mostBytes
+near-ranged t k e = near-number t k (and-left (numberColumn t k) (rangeNamed (columnAt t (k - 1) .rules)) e)
 
 near-member : (ks : List ℕ) (k : ℕ) → every (λ j. leb j 11) ks ≡ true → member k ks ≡ true → k ≤ 11
 unfolding member
@@ -363,11 +445,11 @@ header-near t = (near (omega arith) near-unnamed, (near (omega arith) near-cell,
 
 row-near : (t : Table) → EachNear (rowNumbers t)
 unfolding EachNear
-row-near t = (near (omega arith) near-unnamed, (near (omega arith) near-unnamed, (near (omega arith) near-cell, (near (omega arith) near-unnamed, (near (omega arith) (near-column t), (near (omega arith) (near-end t), (near (omega arith) near-unnamed, (near (omega arith) (near-referring t), tt))))))))
+row-near t = (near (omega arith) near-unnamed, (near (omega arith) near-unnamed, (near (omega arith) near-cell, (near (omega arith) near-unnamed, (near (omega arith) (near-required t), (near (omega arith) (near-column t), (near (omega arith) (near-number t), (near (omega arith) (near-ranged t), (near (omega arith) (near-end t), (near (omega arith) near-unnamed, (near (omega arith) (near-referring t), tt)))))))))))
 
 slip-near : EachNear slipNumbers
 unfolding EachNear
-slip-near = (near (omega arith) near-unnamed, (near (omega arith) near-unnamed, (near (omega arith) (near-column Block), (near (omega arith) (near-end Block), (near (omega arith) near-unnamed, (near (omega arith) near-unnamed, (near (omega arith) (near-referring Block), tt)))))))
+slip-near = (near (omega arith) near-unnamed, (near (omega arith) near-unnamed, (near (omega arith) (near-required Block), (near (omega arith) (near-column Block), (near (omega arith) (near-number Block), (near (omega arith) (near-ranged Block), (near (omega arith) (near-end Block), (near (omega arith) near-unnamed, (near (omega arith) near-unnamed, (near (omega arith) (near-referring Block), tt))))))))))
 
 -- what is given on paper is so bounded
 paper-bounded : (home : ℕ) (p : Place) (xs : List Numbered) → EachNear xs → (leb (p .line) (suc mostBytes) && eqb (p .table) home && among xs (p .number) (p .column)) ≡ true → Bounded home p

@@ -1,31 +1,31 @@
 -- A table in its plainest form: the required columns alone, numbers with no leading zeros. A row in that form is read as itself, and meets
 -- only 5, 11, 9 and 10. Of the blocks it is the writer's form. Assumes nothing.
 use mathlib.Core.List.{List, [], _∷_, map, _++_}
-use mathlib.Core.Path.{_≡_, refl, sym, subst, _∙_, ap}
-use mathlib.Core.Bool.{true, Bool, false, not}
+use mathlib.Core.Path.{_≡_, refl, sym, _∙_, ap}
+use mathlib.Core.Bool.{true}
 use Prim.Native.Nat.{ℕ, zero, suc, _^_, _<_, _+_, _≤_}
 use native.Mathlib.Omega.{arith}
 use lib.ListN.{take, length, drop, length-map, length-append}
-use lib.Dec.{lit<, leb, eqb}
+use lib.Dec.{lit<, leb}
 use lib.Seq.{length-take-le, take-at}
-use borrow.Author.Tests.{leb-true, le-ltb, not-false, eq-eqb}
+use borrow.Author.Tests.{leb-true, le-ltb, eq-eqb}
 use Rattle.words.specs.Words.{if_then_else_, Bytes, Row}
 use Rattle.words.proofs.Lists.{and-left, and-right}
+use Rattle.refusals.proofs.Chaining.{both}
 use Rattle.refusals.specs.declared.Check.the-variants.{Passes}
-use Rattle.refusals.specs.Verdicts.{_when_, cellFault, _⊳_, tooManyRows}
+use Rattle.refusals.specs.Verdicts.{_when_, _⊳_, tooManyRows}
 use Rattle.lines.specs.Lines.{mostLine}
 use Rattle.cells.specs.Cells.{parted, content, cut, cells, cellsOf}
-use Rattle.numbers.specs.Numbers.{decimal, value, isDecimal}
+use Rattle.numbers.specs.Numbers.{decimal, value}
 use Rattle.numbers.proofs.Writing.{decimal-digits, read-back, decimal-width}
 use Rattle.rows.specs.Rows.{wide}
 use Rattle.tables.specs.Columns.{Column, columnsOf, keptWidth, inRange}
 use Rattle.tables.specs.declared.Table.{Table}
 use Rattle.tables.specs.declared.Table.the-variants.{VehicleType, Depot, Stop, StopPoint, Block}
 use Rattle.tables.specs.declared.Sort.the-variants.{Decimal}
-use Rattle.tables.specs.declared.Rules.{Rules}
-use Rattle.tables.specs.declared.Sort.{Sort}
 use Rattle.tables.proofs.Figures.{kept-few, keys-some, keys-kept, kept-columns}
-use Rattle.values.specs.Values.{badCell, fits, breaks}
+use Rattle.values.specs.Values.{badCell, cellCheck}
+use Rattle.values.proofs.Values.{check-kept, number-in-range}
 use Rattle.book.specs.Book.{Book, full}
 use Rattle.rules.specs.Rules.{ruled}
 use Rattle.keeping.specs.Keeping.{ranged}
@@ -35,7 +35,6 @@ use Rattle.table_lines.specs.Reading.{judged}
 use Rattle.writer.specs.Writing.{linesWritten, namesLine, rowLine}
 use Rattle.promises.specs.Run.{computed}
 use Rattle.promises.proofs.NumberLaws.{cell-good, digits-plain, digits-unbroken}
-use Rattle.promises.proofs.TestLaws.{both, unfailed}
 use Rattle.promises.proofs.CutLaws.{EachPlain, AllPlain, cut-parted}
 use Rattle.promises.proofs.Writing.{digits-content}
 use Rattle.promises.proofs.LineLaws.{Unbroken, EachUnbroken, unbroken-append, unbrokenTest, tested}
@@ -145,7 +144,7 @@ kept-numeric Block = (
   ),
 )
 
--- 8 is not given for numbers in their columns' ranges
+-- numbers in their columns' ranges have no fault
 good-cells : (k : ℕ) (xs : List Column) (ns : Row) (rest : List Bytes) → Numeric (length ns) xs → ranged xs ns ≡ true →
     badCell (k + length ns) (drop (length ns) xs) rest ≡ Passes → badCell k xs (map decimal ns ++ rest) ≡ Passes
 unfolding badCell Numeric ranged
@@ -156,17 +155,10 @@ good-cells k (x ∷ xs) (n ∷ ns) rest h r e =
     let high : n ≤ x .rules .high = leb-true n (x .rules .high) (and-right (leb (x .rules .low) n) (leb n (x .rules .high)) here) in
     let within : n < 10 ^ suc (h .0 .0) = omega (arith, h .0 .4) in
     let on : k + length (n ∷ ns) ≡ suc k + length ns = omega arith in
-    rw (cell-good (x .rules) (h .0 .0) n (h .0 .1) (h .0 .3) within here)
+    rw (cell-good k (x .rules) (h .0 .0) n (h .0 .1) (h .0 .3) within here)
     (good-cells (suc k) xs ns rest (h .1) (and-right (inRange (x .rules) n) (ranged xs ns) r) (rw on at e))
 
-no-fault : (x : Rules) (s : Bytes) (e : Bool) → x .sort ≡ Decimal → x .required ≡ true →
-    (if e then x .required else not (fits (x .sort) x s)) ≡ false → inRange x (value s) ≡ true
-no-fault x s true p q h = let z : true ≡ false = sym q ∙ h in let y : _≡_ {A = ℕ} 0 1 = cc in let w : ⊥ = omega arith in absurd w
-no-fault x s false p q h =
-    let t : fits Decimal x s ≡ true = subst (λ (q : Sort). fits q x s ≡ true) p (not-false (fits (x .sort) x s) h) in
-    and-right (isDecimal (x .width) s) (inRange x (value s)) t
-
--- and where 8 is not given, the numbers are in their columns' ranges
+-- and where there is none, the numbers are in their columns' ranges
 pub cells-ranged : (n k : ℕ) (xs : List Column) (ss : List Bytes) → Numeric n xs → badCell k xs ss ≡ Passes → ranged xs (map value (take n ss)) ≡ true
 unfolding badCell Numeric ranged
 cells-ranged zero k [] ss a h = refl
@@ -174,8 +166,8 @@ cells-ranged zero k (x ∷ xs) ss a h = refl
 cells-ranged (suc n) k [] ss a h = refl
 cells-ranged (suc n) k (x ∷ xs) [] a h = refl
 cells-ranged (suc n) k (x ∷ xs) (s ∷ ss) a h =
-    let t = both (cellFault k when breaks (x .rules) s) (badCell (suc k) xs ss) h in
-    rw (no-fault (x .rules) s (eqb (length s) 0) (a .0 .1) (a .0 .2) (unfailed 8 k (breaks (x .rules) s) (t .0)), cells-ranged n (suc k) xs ss (a .1) (t .1))
+    let t = both (cellCheck k (x .rules) s) (badCell (suc k) xs ss) h in
+    rw (number-in-range (x .rules) s (a .0 .1) (a .0 .2) (check-kept k (x .rules) s (t .0)), cells-ranged n (suc k) xs ss (a .1) (t .1))
 
 -- a row in the plain form ------------------------------------------------------------------------------------------------
 

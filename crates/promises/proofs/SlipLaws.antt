@@ -9,6 +9,7 @@ use lib.ListN.{length, take, length-map}
 use lib.Seq.{take-all}
 use borrow.Author.Tests.{eqb-true, leb-false}
 use Rattle.words.specs.Words.{Row, Bytes}
+use Rattle.refusals.proofs.Chaining.{both}
 use Rattle.refusals.specs.declared.Check.the-variants.{Passes, Fails}
 use Rattle.refusals.specs.Verdicts.{_⊳_, _when_, tooManyRows, endsEarly, keyStands, placed, place, inText, textTooLong}
 use Rattle.refusals.specs.declared.Check.{Check}
@@ -35,7 +36,7 @@ use Rattle.slips.specs.Slips.{linesPosted, posting, kept, posted}
 use Rattle.promises.specs.Promises.{run, onward, checkAt}
 use Rattle.promises.proofs.HeldLaws.{Good, EachGood, Held, held-insert, held-moved}
 use Rattle.promises.proofs.PlainLaws.{Eleven, eleven, eleven-long, kept-numeric, cells-ranged}
-use Rattle.promises.proofs.TestLaws.{both, unfailed, going-on}
+use Rattle.promises.proofs.TestLaws.{unfailed, going-on}
 
 module _ (b : Book) (row : Row) where
   good-replaced : (xs : List Row) → Good Block b row → EachGood Block b xs → EachGood Block b (replaced 4 row xs)

@@ -5,6 +5,7 @@ use mathlib.Core.Path.{_≡_, refl, ap, sym, _∙_}
 use mathlib.Core.Bool.{Bool, true, false, not}
 use mathlib.Core.List.{List, [], _∷_, _++_, append-assoc}
 use Rattle.words.specs.Words.{Bytes, Row, if_then_else_}
+use Rattle.refusals.proofs.Chaining.{both}
 use Rattle.refusals.specs.Verdicts.{_⊳_, _when_, place, inText, textTooLong, tooManyRows, endsEarly, keyStands, noBlock, nowhere, notThere}
 use Rattle.refusals.specs.declared.Check.{Check}
 use Rattle.refusals.specs.declared.Check.the-variants.{Passes, Fails}
@@ -28,7 +29,7 @@ use Rattle.block_change.specs.Change.{missingBlock, lineJudged, granted, slipCh
 use Rattle.slips.specs.Slips.{linesPosted, posting, kept, posted}
 use Rattle.writer.specs.Writing.{written}
 use Rattle.promises.specs.Promises.{rowsOf, copies, accepted, run, with-blocks, slipsCalled, brings, takes, broughtBy, takenBy, LineStores, allBrought, allTaken, SlipStores, honoured, RunStores, RowsStored, SharesStored, says, lastSaid, SlipSaid, RunSaid, none, CallsSaid, YearsFaultRuledOut}
-use Rattle.promises.proofs.TestLaws.{both, unfailed, going-on}
+use Rattle.promises.proofs.TestLaws.{unfailed, going-on}
 use Rattle.promises.proofs.WeighLaws.{Weighs, copies-weighs, total-weighs, many-more, many-inserted, many-replaced, many-removed}
 use Rattle.promises.proofs.KeyLaws.{stoodBefore, own-found, other-found, granted-rises}
 use Rattle.promises.proofs.PlainLaws.{Eleven, eleven}

@@ -4,8 +4,7 @@ use mathlib.Core.Bool.{Bool, true, _&&_, false, _||_}
 use Prim.Native.Nat.{ℕ}
 use native.Mathlib.Omega.{arith}
 use Rattle.words.proofs.Lists.{and-left, and-right}
-use Rattle.refusals.specs.Verdicts.{_⊳_, _when_}
-use Rattle.refusals.specs.declared.Check.{Check}
+use Rattle.refusals.specs.Verdicts.{_when_}
 use Rattle.refusals.specs.declared.Check.the-variants.{Passes, Fails}
 use Rattle.refusals.specs.declared.Verdict.{Verdict}
 use Rattle.refusals.specs.declared.Verdict.the-variants.{Accepted, Refused}
@@ -33,11 +32,7 @@ pub or-later : (p q : Bool) → q ≡ true → (p || q) ≡ true
 or-later true q h = refl
 or-later false q h = h
 
--- a chain of checks passes if each does
-pub both : (c e : Check) → c ⊳ e ≡ Passes → (c ≡ Passes) × (e ≡ Passes)
-both Passes e h = (refl, h)
-both (Fails n k) e h = let z : _≡_ {A = ℕ} 0 1 = cc in let y : ⊥ = omega arith in absurd y
-
+-- a check that passes is not in its case
 pub unfailed : (n k : ℕ) (t : Bool) → Fails n k when t ≡ Passes → t ≡ false
 unfailed n k true h = let z : _≡_ {A = ℕ} 0 1 = cc in let y : ⊥ = omega arith in absurd y
 unfailed n k false h = refl

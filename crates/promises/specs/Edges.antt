@@ -48,19 +48,20 @@ block stop begin end out =
 
 unfoldable pub cases : List Case
 cases =
-    -- "A d2 cell: `07` has the value 7; `100` gets refusal 8; empty and required, 8; `"12"` has the value 12."
+    -- "A d2 cell: `07` has the value 7; `100` gets refusal 8; empty and required, 8; `"12"` has the value 12.": since request 4/13 too long is 20,
+    -- and empty where required is 19
     cell 1 1 (d2 "07") (0 ∷ 0 ∷ 0 ∷ 0 ∷ 1 ∷ 7 ∷ 0 ∷ 0 ∷ []) ∷
-    cell 1 1 (d2 "100") (8 ∷ 1 ∷ 2 ∷ 1 ∷ 0 ∷ 0 ∷ 0 ∷ 0 ∷ []) ∷
-    cell 1 1 (d2 "") (8 ∷ 1 ∷ 2 ∷ 1 ∷ 0 ∷ 0 ∷ 0 ∷ 0 ∷ []) ∷
+    cell 1 1 (d2 "100") (20 ∷ 1 ∷ 2 ∷ 1 ∷ 0 ∷ 0 ∷ 0 ∷ 0 ∷ []) ∷
+    cell 1 1 (d2 "") (19 ∷ 1 ∷ 2 ∷ 1 ∷ 0 ∷ 0 ∷ 0 ∷ 0 ∷ []) ∷
     cell 1 1 (d2 "\"12\"") (0 ∷ 0 ∷ 0 ∷ 0 ∷ 1 ∷ 12 ∷ 0 ∷ 0 ∷ []) ∷
     -- "Text `a"b` is 6; `"a""b"` fits c4 with 3 bytes; `"a` is 6." (its stretch is the 4 bytes between the quotes)
     cell 1 6 (c40 "a\"b") (6 ∷ 1 ∷ 2 ∷ 3 ∷ 0 ∷ 0 ∷ 0 ∷ 0 ∷ []) ∷
     cell 1 7 (c4 "\"a\"\"b\"") (0 ∷ 0 ∷ 0 ∷ 0 ∷ 2 ∷ 0 ∷ 38 ∷ 4 ∷ []) ∷
     long "\"a\"\"b\"" 3 ∷
     cell 1 6 (c40 "\"a") (6 ∷ 1 ∷ 2 ∷ 3 ∷ 0 ∷ 0 ∷ 0 ∷ 0 ∷ []) ∷
-    -- "ACCESS_EQUIP 2 passes, 3 is 8."
+    -- "ACCESS_EQUIP 2 passes, 3 is 8.": since request 4/13 outside its range is 21
     cell 1 11 (equip "2") (0 ∷ 0 ∷ 0 ∷ 0 ∷ 1 ∷ 2 ∷ 0 ∷ 0 ∷ []) ∷
-    cell 1 11 (equip "3") (8 ∷ 1 ∷ 2 ∷ 11 ∷ 0 ∷ 0 ∷ 0 ∷ 0 ∷ []) ∷
+    cell 1 11 (equip "3") (21 ∷ 1 ∷ 2 ∷ 11 ∷ 0 ∷ 0 ∷ 0 ∷ 0 ∷ []) ∷
     -- "END equal to BEGIN gives 0 seconds; one below is 11": since request 2/13 where either time is 86,400 or more
     block "20" "500" "500" "T\t1\t4\t0\t1\nS\t1\t1\n" ∷
     block "20" "86400" "86399" "X\t11\t4\t2\t11\n" ∷
@@ -68,8 +69,8 @@ cases =
     block "20" "500" "499" "T\t1\t4\t86399\t1\nS\t1\t1\n" ∷
     block "20" "86399" "0" "T\t1\t4\t1\t1\nS\t1\t1\n" ∷
     block "20" "80000" "3600" "T\t1\t4\t10000\t1\nS\t1\t1\n" ∷
-    -- "STOP_NR 0 is 8, column 2."
-    day (d2 "1") "VERSION;DEPOT_NR\n" "VERSION;STOP_NR;STOP_NAME\n1;0;Yard\n" "" "" "X\t8\t3\t2\t2\n" ∷
+    -- "STOP_NR 0 is 8, column 2.": 21 too
+    day (d2 "1") "VERSION;DEPOT_NR\n" "VERSION;STOP_NR;STOP_NAME\n1;0;Yard\n" "" "" "X\t21\t3\t2\t2\n" ∷
     -- "DEP_STOP_NR 100000 is well formed and then 10, column 6."
     block "100000" "500" "500" "X\t10\t4\t2\t6\n" ∷
     -- "Keys `1;07` and `1;7` collide: 9."

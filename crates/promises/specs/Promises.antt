@@ -3,14 +3,14 @@ use mathlib.Core.Path.{_≡_}
 use mathlib.Core.List.{List, [], _∷_, map, _++_}
 use mathlib.Core.Logic.{_↔_, _⊎_}
 use mathlib.Core.Bool.{false, true, not, Bool, _&&_, _||_}
-use Prim.Native.Nat.{_≤_, ℕ, suc, _<_, _+_, _-_}
+use Prim.Native.Nat.{_≤_, ℕ, suc, _<_, _+_, _-_, _^_}
 use lib.ListN.{length, replicate, getD, take, drop}
 use lib.Dec.{eqb, ltb, leb}
 use Rattle.words.specs.Words.{Bytes, Row, if_then_else_, same}
 use Rattle.refusals.specs.declared.Place.{Place}
 use Rattle.refusals.specs.declared.Verdict.the-variants.{Refused, Accepted}
 use Rattle.refusals.specs.declared.Verdict.{Verdict}
-use Rattle.refusals.specs.Verdicts.{place, placed, _when_, nowhere, notThere, passes, paper}
+use Rattle.refusals.specs.Verdicts.{placed, _when_, nowhere, notThere, passes, paper}
 use Rattle.refusals.specs.declared.Check.{Check}
 use Rattle.refusals.specs.declared.Check.the-variants.{Passes, Fails}
 use Rattle.lines.specs.Lines.{lines, rowLines, slipLines, overlong, mostBytes}
@@ -22,6 +22,8 @@ use Rattle.tables.specs.Columns.{number, keyWidth, columnsOf, keptWidth, column
 use Rattle.tables.specs.Parts.{bookRows}
 use Rattle.tables.specs.declared.Table.{Table}
 use Rattle.tables.specs.declared.Table.the-variants.{VehicleType, Depot, Stop, StopPoint, Block}
+use Rattle.tables.specs.declared.Rules.{Rules}
+use Rattle.tables.specs.declared.Sort.{Sort}
 use Rattle.tables.specs.declared.Sort.the-variants as sort-is
 use Rattle.book.specs.Result.{refused, leaves, Result}
 use Rattle.book.specs.Book.{Book, empty, entered, rows, knows}
@@ -107,12 +109,26 @@ unnamed k = eqb k 0
 abbrev pub anyCell : ℕ → Bool
 anyCell k = ltb 0 k && leb k (suc mostBytes)
 
--- a column of the table, a required one, one that refers to another table
+-- "A d cell is 1 to N digits"; "A d column with no range named takes every number of its width, zero too."
+abbrev pub ofNumbers : Sort → Bool
+ofNumbers sort-is.Decimal = true
+ofNumbers sort-is.Text = false
+
+abbrev pub rangeNamed : Rules → Bool
+rangeNamed x = not (eqb (x .low) 0 && eqb (x .high) (10 ^ x .width - 1))
+
+-- a column of the table, a required one, one of numbers, one with a range, one that refers to another table
 abbrev pub anyColumn : Table → ℕ → Bool
 anyColumn t k = ltb 0 k && leb k (length (columnsOf t))
 
 abbrev pub requiredColumn : Table → ℕ → Bool
 requiredColumn t k = ltb 0 k && columnAt t (k - 1) .rules .required
+
+abbrev pub numberColumn : Table → ℕ → Bool
+numberColumn t k = ltb 0 k && ofNumbers (columnAt t (k - 1) .rules .sort)
+
+abbrev pub rangedColumn : Table → ℕ → Bool
+rangedColumn t k = numberColumn t k && rangeNamed (columnAt t (k - 1) .rules)
 
 abbrev pub referringColumn : Table → ℕ → Bool
 referringColumn t k = member k (map (λ x. x .column) (references t))
@@ -148,7 +164,10 @@ rowNumbers t =
     17 naming unnamed ∷
     6 naming anyCell ∷
     7 naming unnamed ∷
-    8 naming anyColumn t ∷
+    19 naming requiredColumn t ∷
+    20 naming anyColumn t ∷
+    8 naming numberColumn t ∷
+    21 naming rangedColumn t ∷
     11 naming endColumn t ∷
     9 naming unnamed ∷
     10 naming referringColumn t ∷ []
@@ -158,7 +177,10 @@ abbrev pub slipNumbers : List Numbered
 slipNumbers =
     12 naming unnamed ∷
     5 naming unnamed ∷
-    8 naming anyColumn Block ∷
+    19 naming requiredColumn Block ∷
+    20 naming anyColumn Block ∷
+    8 naming numberColumn Block ∷
+    21 naming rangedColumn Block ∷
     11 naming endColumn Block ∷
     9 naming unnamed ∷
     13 naming unnamed ∷
@@ -609,7 +631,7 @@ known Add = true
 known Replace = true
 known Delete = true
 
--- "A line is well formed if neither 12 nor 8 holds of it."
+-- "A line is well formed if neither 12 nor 8 holds of it", and it "is free of all four": 8, 19, 20 and 21
 abbrev pub wellFormed : Bytes → Bool
 wellFormed line = known (wish (fields line)) && passes (badField (numbers (fields line)))
 

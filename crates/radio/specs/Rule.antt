@@ -18,7 +18,7 @@ use Rattle.radio.specs.Radio.{Course, stopped, going, Radio, awaits, hea
 -- "Numbers of refusal": those of tables that are read, whole or by radio. 12 and 13 are a slip's, 14 is the writer's, 15 and 16 are of what is
 -- asked and lent
 abbrev pub readingNumbers : List ℕ
-readingNumbers = 1 ∷ 2 ∷ 3 ∷ 4 ∷ 5 ∷ 6 ∷ 7 ∷ 8 ∷ 9 ∷ 10 ∷ 11 ∷ 17 ∷ 18 ∷ []
+readingNumbers = 1 ∷ 2 ∷ 3 ∷ 4 ∷ 5 ∷ 6 ∷ 7 ∷ 8 ∷ 9 ∷ 10 ∷ 11 ∷ 17 ∷ 18 ∷ 19 ∷ 20 ∷ 21 ∷ []
 
 -- a fault that is kept has such a number, and the number of a table: "The table number belongs to each place"
 abbrev pub lawfulFault : Place → Bool

@@ -66,7 +66,7 @@ pub const LAST_TURN: u64 = 10;
 pub const MOST_COUNTED: u64 = 65537;
 
 // The numbers of refusal of tables that are read.
-const READING_NUMBERS: [u64; 13] = [
+const READING_NUMBERS: [u64; 16] = [
     Place::TEXT_TOO_LONG,
     Place::COLUMN_MISSING,
     Place::COLUMN_TWICE,
@@ -74,12 +74,15 @@ const READING_NUMBERS: [u64; 13] = [
     Place::TOO_MANY_ROWS,
     Place::QUOTE_FAULT,
     Place::CELL_COUNT,
-    Place::CELL_FAULT,
+    Place::NOT_DIGITS,
     Place::KEY_STANDS,
     Place::NO_ROW,
     Place::ENDS_EARLY,
     Place::LINE_TOO_LONG,
     Place::LENGTH_DIFFERS,
+    Place::CELL_EMPTY,
+    Place::CELL_TOO_LONG,
+    Place::OUT_OF_RANGE,
 ];
 
 fn zero_numbers(list: &[u64]) -> bool

@@ -40,9 +40,9 @@ quoteFault cell = Fails 6 cell
 abbrev pub cellCount : Check
 cellCount = Fails 7 0
 
--- "cell empty where required, not digits, too long, out of range"
-abbrev pub cellFault : ℕ → Check
-cellFault column = Fails 8 column
+-- "8 stays for content that is not digits"
+abbrev pub notDigits : ℕ → Check
+notDigits column = Fails 8 column
 
 -- "key stands in an earlier row (A: in the book)"
 abbrev pub keyStands : Check
@@ -83,6 +83,18 @@ lineTooLong = Fails 17 0
 -- "a table closed with more or fewer bytes than announced is 18 at 0, 0"
 abbrev pub lengthDiffers : Check
 lengthDiffers = Fails 18 0
+
+-- "19 empty where required"
+abbrev pub cellEmpty : ℕ → Check
+cellEmpty column = Fails 19 column
+
+-- "20 content longer than the width"
+abbrev pub cellTooLong : ℕ → Check
+cellTooLong column = Fails 20 column
+
+-- "21 outside the named range"
+abbrev pub outOfRange : ℕ → Check
+outOfRange column = Fails 21 column
 
 -- the order of checks -------------------------------------------------------------------------------------------------------
 

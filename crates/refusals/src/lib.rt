@@ -1,6 +1,6 @@
 // What is answered: a verdict with its place, and what a cell holds.
 ghost use mathlib.Core.Path.{_≡_};
-ghost use Rattle.refusals.specs.Verdicts.{place, placed, _⊳_, textTooLong, columnMissing, columnTwice, tooManyCells, tooManyRows, quoteFault, cellCount, cellFault, keyStands, noRow, endsEarly, unknownLine, noBlock, outputShort, notThere, badLoan, lineTooLong, lengthDiffers};
+ghost use Rattle.refusals.specs.Verdicts.{place, placed, _⊳_, textTooLong, columnMissing, columnTwice, tooManyCells, tooManyRows, quoteFault, cellCount, keyStands, noRow, endsEarly, unknownLine, noBlock, outputShort, notThere, badLoan, lineTooLong, lengthDiffers};
 
 // Where something is refused: the number of refusal, the table, the line, and the column or the cell, each 0 where it is not named.
 pub struct Place {
@@ -43,7 +43,7 @@ impl Place {
 
     pub const CELL_COUNT: u64 = 7;
 
-    pub const CELL_FAULT: u64 = 8;
+    pub const NOT_DIGITS: u64 = 8;
 
     pub const KEY_STANDS: u64 = 9;
 
@@ -64,6 +64,12 @@ impl Place {
     pub const LINE_TOO_LONG: u64 = 17;
 
     pub const LENGTH_DIFFERS: u64 = 18;
+
+    pub const CELL_EMPTY: u64 = 19;
+
+    pub const CELL_TOO_LONG: u64 = 20;
+
+    pub const OUT_OF_RANGE: u64 = 21;
 
     // The tables' numbers; a slip has one in places only.
     pub const VEHICLE_TYPE: u64 = 1;
@@ -98,7 +104,8 @@ impl Place {
 }
 
 impl Check {
-    fn fails(number: u64, column: u64) -> Check
+    // What is wrong with a cell has one of four numbers, and always the cell's column.
+    pub fn fails(number: u64, column: u64) -> Check
         ensures { λ r. ⌜ r ≡ Check.Fails number column ⌝ }
     {
         Check::Fails { number, column }
@@ -144,12 +151,6 @@ impl Check {
         ensures { λ r. ⌜ r ≡ cellCount ⌝ }
     {
         Check::fails(Place::CELL_COUNT, 0)
-    }
-
-    pub fn cell_fault(column: u64) -> Check
-        ensures { λ r. ⌜ r ≡ cellFault column ⌝ }
-    {
-        Check::fails(Place::CELL_FAULT, column)
     }
 
     pub fn key_stands() -> Check

@@ -9,7 +9,8 @@ use lib.ListN.{getD, length, drop, drop-of-length-le}
 use borrow.Author.Tests.{ne-eqb, eqb-false, eq-eqb}
 use Rattle.words.specs.Words.{if_then_else_, Bytes}
 use Rattle.words.proofs.Lists.{drop-step}
-use Rattle.refusals.specs.Verdicts.{_⊳_, _when_, cellFault, cellCount, lineTooLong}
+use Rattle.refusals.proofs.Chaining.{both}
+use Rattle.refusals.specs.Verdicts.{_⊳_, _when_, cellCount, lineTooLong}
 use Rattle.refusals.specs.declared.Check.{Check}
 use Rattle.refusals.specs.declared.Check.the-variants.{Passes, Fails}
 use Rattle.lines.specs.Lines.{longLine}
@@ -17,24 +18,16 @@ use Rattle.cells.specs.Numbered.{cellNumbered, MarksOf}
 use Rattle.cells.specs.Cells.{content, cut, cellsOf}
 use Rattle.tables.specs.Columns.{Column, columnsOf, noColumn}
 use Rattle.tables.specs.declared.Table.{Table}
-use Rattle.tables.specs.declared.Rules.{Rules}
 use Rattle.tables.proofs.Figures.{columns-few}
-use Rattle.values.specs.Values.{cellCheck, badCell, breaks}
+use Rattle.values.specs.Values.{cellCheck, badCell}
+use Rattle.values.specs.Judged.{breaks}
+use Rattle.values.proofs.Values.{check-kept}
 use Rattle.header.specs.Header.{Header, placeFrom, under, badCut, cutCheck, contentsFrom, contents}
 use Rattle.header.specs.Heading.{places, lineCheck, LineCut}
 use Rattle.header.specs.declared.CutLine.{CutLine}
 use Rattle.header.proofs.Cutting.{check-order}
 use Rattle.header.proofs.Names.{place-at}
 use Rattle.row_line.specs.Judging.{CutOf}
-
--- of two checks
-pub first-passes : (a b : Check) → (a ⊳ b) ≡ Passes → a ≡ Passes
-first-passes Passes b e = refl
-first-passes (Fails n k) b e = e
-
-pub second-passes : (a b : Check) → (a ⊳ b) ≡ Passes → b ≡ Passes
-second-passes Passes b e = e
-second-passes (Fails n k) b e = cc
 
 -- the cell of a column ----------------------------------------------------------------------------------------------------------
 
@@ -96,7 +89,7 @@ content-found t h cs at k cell e l f =
     let u : cell ≡ under (k + 1) h cs = f ∙ rw p (sym (under-numbered (k + 1) h cs)) in
     sym (contents-at 1 (columnsOf t) h cs k l ∙ rw (n, ← u))
 
--- 8, column by column ------------------------------------------------------------------------------------------------------------
+-- 19, 20, 8 and 21, column by column ------------------------------------------------------------------------------------------------------------
 
 module _ (xs : List Column) (ss : List Bytes) (k : ℕ) (lx : k < length xs) (ls : k < length ss) where
   bad-step : badCell (k + 1) (drop k xs) (drop k ss) ≡ cellCheck (k + 1) (getD xs k noColumn .rules) (getD ss k []) ⊳ badCell (k + 1 + 1) (drop (k + 1) xs) (drop (k + 1) ss)
@@ -115,21 +108,14 @@ pub bad-end : (xs : List Column) (ss : List Bytes) (k : ℕ) → length xs ≤ k
 unfolding badCell
 bad-end xs ss k l = rw (drop-of-length-le xs l)
 
-pub check-kept : (k : ℕ) (x : Rules) (s : Bytes) → cellCheck k x s ≡ Passes → breaks x s ≡ false
-check-kept k x s e = go (breaks x s) e
-  where
-    go : (b : Bool) → (cellFault k when b) ≡ Passes → b ≡ false
-    go true q = cc
-    go false q = refl
-
 -- where no column has a fault, the content of each keeps to its rules
 pub all-kept : (j : ℕ) (xs : List Column) (ss : List Bytes) → badCell j xs ss ≡ Passes → (k : ℕ) → k < length xs → k < length ss → breaks (getD xs k noColumn .rules) (getD ss k []) ≡ false
 unfolding badCell
 all-kept j [] ss e k lx ls = absurd (omega arith)
 all-kept j (x ∷ xs) [] e k lx ls = absurd (omega arith)
-all-kept j (x ∷ xs) (s ∷ ss) e zero lx ls = check-kept j (x .rules) s (first-passes (cellCheck j (x .rules) s) (badCell (suc j) xs ss) e)
+all-kept j (x ∷ xs) (s ∷ ss) e zero lx ls = check-kept j (x .rules) s (both (cellCheck j (x .rules) s) (badCell (suc j) xs ss) e .0)
 all-kept j (x ∷ xs) (s ∷ ss) e (suc k) lx ls =
-    all-kept (suc j) xs ss (second-passes (cellCheck j (x .rules) s) (badCell (suc j) xs ss) e) k (omega arith) (omega arith)
+    all-kept (suc j) xs ss (both (cellCheck j (x .rules) s) (badCell (suc j) xs ss) e .1) k (omega arith) (omega arith)
 
 -- the checks of a line -------------------------------------------------------------------------------------------------------------
 

@@ -11,6 +11,7 @@ use lib.Dec.{ltb}
 use borrow.Author.Tests.{ltb-true, ltb-false}
 use Rattle.words.specs.Words.{Bytes, Row}
 use Rattle.words.proofs.Lists.{getD-padded}
+use Rattle.refusals.proofs.Chaining.{both}
 use Rattle.refusals.specs.declared.Check.{Check}
 use Rattle.refusals.specs.declared.Check.the-variants.{Passes, Fails}
 use Rattle.refusals.specs.Verdicts.{_⊳_}
@@ -22,17 +23,17 @@ use Rattle.rows.specs.Room.{zeros}
 use Rattle.tables.specs.declared.Table.{Table}
 use Rattle.tables.specs.Columns.{keptWidth, columnsOf, columnAt}
 use Rattle.tables.proofs.Figures.{kept-few, kept-columns, keys-some, keys-kept, version-low, kept-decimal, kept-required}
-use Rattle.values.specs.Values.{badCell, cellCheck, breaks}
+use Rattle.values.specs.Values.{badCell, cellCheck}
 use Rattle.values.specs.declared.Value.{Value}
 use Rattle.values.specs.declared.Value.the-variants.{Number}
-use Rattle.values.specs.Judged.{valueOf, checkOf, rowed}
+use Rattle.values.specs.Judged.{breaks, valueOf, checkOf, rowed}
 use Rattle.values.specs.declared.Judged.{Judged}
-use Rattle.values.proofs.Values.{check-of-value, kept-value, number-from}
+use Rattle.values.proofs.Values.{check-kept, check-of-value, kept-value, number-from}
 use Rattle.header.specs.Header.{Header, contents, cutCheck}
 use Rattle.header.specs.Heading.{places}
 use Rattle.row_line.specs.RowLine.{rowOf, rowRead}
 use Rattle.row_line.specs.Judging.{cellsCheck, read}
-use Rattle.row_line.proofs.Columns.{contents-length, content-found, bad-next, bad-here, check-kept, bad-end, all-kept, second-passes}
+use Rattle.row_line.proofs.Columns.{contents-length, content-found, bad-next, bad-here, bad-end, all-kept}
 
 -- a row is an array of 11 numbers
 pub wide-more : (ns : List ℕ) (k v : ℕ) → length ns ≡ k → k < 11 → set (wide ns) k v ≡ wide (ns ++ (v ∷ []))
@@ -162,7 +163,7 @@ module _ (t : Table) (h : Header) (line : Bytes) (p : read t h line .check ≡ P
   line-passes = rowed-passes (cutCheck h line ⊳ cellsCheck t h line) (rowRead t h line) p
 
   pub read-passes : cellsCheck t h line ≡ Passes
-  read-passes = second-passes (cutCheck h line) (cellsCheck t h line) line-passes
+  read-passes = both (cutCheck h line) (cellsCheck t h line) line-passes .1
 
   pub read-row : read t h line .row ≡ rowRead t h line
   read-row = rw line-passes

@@ -25,11 +25,11 @@ pub record CutOf (line : Bytes) (count : ℕ) (bounds : List ℕ) (c : Check) : 
   pub is : (h : Header) → count ≡ length h → c ≡ cutCheck h line
   pub marks : c ≡ Passes → MarksOf line bounds count
 
--- 8 of a line's cells
+-- what is wrong with a line's cells
 abbrev pub cellsCheck : Table → Header → Bytes → Check
 cellsCheck t h line = badCell 1 (columnsOf t) (contents t h (cellsOf (cut line)))
 
--- 17, 6, 7, 8, without a look at the book
+-- 17, 6, 7 and what is wrong with a cell, without a look at the book
 abbrev pub read : Table → Header → Bytes → Judged
 read t h line = rowed (cutCheck h line ⊳ cellsCheck t h line) (rowRead t h line)
 

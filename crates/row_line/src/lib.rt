@@ -17,7 +17,7 @@ use tables::Table;
 use values::Judged;
 use values::Value;
 
-// 8 by column number: the cells of a line, and its row.
+// 19, 20, 8 or 21 by column number: the cells of a line, and its row.
 fn read_columns(line: &[u8], bounds: &[usize], t: Table, columns: &Columns, at: &Places) -> Judged
     requires { ⌜ MarksOf (now line) (now bounds) (cellsKept (now at)) × (now columns ≡ listed t) ⌝ }
     ensures { λ r. ⌜ ((h : List ℕ) → now (at .entry) ≡ places h → r ≡ rowed (cellsCheck t h (now (line .entry))) (rowRead t h (now (line .entry)))) ⌝ }
@@ -64,7 +64,7 @@ pub fn cut_row(line: &[u8], cells: usize, bounds: &mut [usize]) -> Check
     }
 }
 
-// 17, 6, 7, 8 and the row of a line, without looking at a book.
+// 17, 6, 7, what is wrong with a cell, and the row of a line, without looking at a book.
 pub fn read_row(
     line: &[u8],
     t: Table,

@@ -1,7 +1,7 @@
 -- The numbers of a slip line, field by field. Assumes nothing.
 use mathlib.Core.Path.{_≡_, sym, refl, ap, _∙_}
 use mathlib.Core.List.{List, [], _∷_, _++_, map}
-use mathlib.Core.Bool.{Bool, true, false}
+use mathlib.Core.Bool.{false}
 use Prim.Native.Nat.{_+_, _≤_, ℕ, suc, _<_, _-_}
 use native.Mathlib.Numerals.{add-one}
 use native.Mathlib.Omega.{arith}
@@ -10,8 +10,9 @@ use lib.Seq.{take-all}
 use lib.Dec.{lit<}
 use Rattle.words.specs.Words.{Bytes, Row}
 use Rattle.words.proofs.Lists.{drop-step, map-set}
+use Rattle.refusals.proofs.Chaining.{both}
 use Rattle.refusals.specs.declared.Check.{Check}
-use Rattle.refusals.specs.Verdicts.{_⊳_, _when_, cellFault}
+use Rattle.refusals.specs.Verdicts.{_⊳_}
 use Rattle.refusals.specs.declared.Check.the-variants.{Passes, Fails}
 use Rattle.cells.proofs.Marking.{Stands}
 use Rattle.numbers.specs.Numbers.{value}
@@ -23,11 +24,11 @@ use Rattle.rows.specs.Room.{zeros}
 use Rattle.tables.specs.Columns.{columnsOf, Column, columnAt, noColumn}
 use Rattle.tables.specs.declared.Table.the-variants.{Block}
 use Rattle.tables.proofs.Figures.{version-low, kept-decimal, kept-required}
-use Rattle.values.specs.Values.{badCell, breaks, cellCheck}
-use Rattle.values.specs.Judged.{valueOf, checkOf, rowed}
+use Rattle.values.specs.Values.{badCell, cellCheck}
+use Rattle.values.specs.Judged.{breaks, valueOf, checkOf, rowed}
 use Rattle.values.specs.declared.Value.{Value}
 use Rattle.values.specs.declared.Value.the-variants as value-is
-use Rattle.values.proofs.Values.{check-of-value, kept-value, number-from}
+use Rattle.values.proofs.Values.{check-of-value, check-kept, kept-value, number-from}
 use Rattle.slip_line.specs.SlipLine.{numbers, badField}
 use Rattle.slip_line.specs.Marks.{FieldsOf}
 
@@ -75,11 +76,7 @@ module _ (fs : List Bytes) (few : length fs ≤ 11) (i : ℕ) where
     field-passes e = bad-here in-row ∙ ap (λ (c : Check). c ⊳ badFrom (i + 1) fs) (sym field-check ∙ e)
 
     keeps : q ≡ Passes → breaks (columnAt Block i .rules) (getD fs i []) ≡ false
-    keeps e = go (breaks (columnAt Block i .rules) (getD fs i [])) (sym field-check ∙ e)
-      where
-        go : (t : Bool) → (cellFault (i + 1) when t) ≡ Passes → t ≡ false
-        go true p = cc
-        go false p = refl
+    keeps e = check-kept (i + 1) (columnAt Block i .rules) (getD fs i []) (sym field-check ∙ e)
 
     pub field-number : q ≡ Passes → v ≡ value-is.Number (value (getD fs i []))
     field-number e = is ∙ kept-value Block i (omega arith) (getD fs i []) (keeps e)
@@ -116,9 +113,6 @@ module _ (q : Check) (row : Row) where
 pub version-some : (fs : List Bytes) → 1 ≤ length fs → length fs ≤ 11 → badField fs ≡ Passes → 1 ≤ column 1 (map value fs)
 version-some [] h few e = absurd (omega arith)
 version-some (f ∷ fs) h few e =
-    let k : breaks (columnAt Block 0 .rules) f ≡ false = go (breaks (columnAt Block 0 .rules) f) (sym (bad-here (f ∷ fs) few 0 (omega arith)) ∙ e) in
+    let p : cellCheck 1 (columnAt Block 0 .rules) f ≡ Passes = both (cellCheck 1 (columnAt Block 0 .rules) f) (badFrom 1 (f ∷ fs)) (sym (bad-here (f ∷ fs) few 0 (omega arith)) ∙ e) .0 in
+    let k : breaks (columnAt Block 0 .rules) f ≡ false = check-kept 1 (columnAt Block 0 .rules) f p in
     omega (arith, version-low Block, number-from (columnAt Block 0 .rules) f (kept-decimal Block 0 (lit< tt)) (kept-required Block 0 (lit< tt)) k)
-  where
-    go : (t : Bool) → (cellFault 1 when t) ⊳ badFrom 1 (f ∷ fs) ≡ Passes → t ≡ false
-    go true p = cc
-    go false p = refl

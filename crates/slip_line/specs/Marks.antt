@@ -14,7 +14,7 @@ use Rattle.values.specs.Judged.{rowed}
 use Rattle.values.specs.declared.Judged.{Judged}
 use Rattle.slip_line.specs.SlipLine.{badField}
 
--- what the code answers of the fields `fs` behind the kind: 8, and their row
+-- what the code answers of the fields `fs` behind the kind: what is wrong with one, and their row
 abbrev pub fieldsRead : List Bytes → Judged
 fieldsRead fs = rowed (badField fs) (wide (map value fs))
 

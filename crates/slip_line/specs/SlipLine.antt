@@ -34,7 +34,7 @@ abbrev pub wish : List Bytes → Wish
 wish [] = Unknown
 wish (f ∷ fs) = counted (letter f) (length fs)
 
--- "Numbers follow their column's rules, unquoted": 8. "Fields count as the vehicle_block columns."
+-- "Numbers follow their column's rules, unquoted": 19, 20, 8 or 21. "Fields count as the vehicle_block columns."
 abbrev pub badField : List Bytes → Check
 badField fs = badCell 1 (columnsOf Block) fs
 

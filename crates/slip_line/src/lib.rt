@@ -97,7 +97,7 @@ pub fn wish_of(line: &[u8], marks: Fields) -> Wish
     kind_of(&line[from..to]).with_numbers(n)
 }
 
-// 8, and the row of a line of n numbers.
+// 19, 20, 8 or 21, and the row of a line of n numbers.
 pub fn read_fields(line: &[u8], marks: Fields, columns: &Columns, n: usize) -> Judged
     requires { ⌜ FieldsOf (now line) marks × (length (numbers (fields (now line))) ≡ n) × (n ≤ rowNumbers) × (now columns ≡ listed Table.Block) ⌝ }
     ensures { λ r. ⌜ r ≡ fieldsRead (numbers (fields (now (line .entry)))) ⌝ }

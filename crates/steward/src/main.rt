@@ -6,6 +6,10 @@ use refusals::Verdict;
 use rows::NO_ROW;
 use rows::Row;
 use tables::BOOK_ROWS;
+use tables::COLUMN_ROOM;
+use tables::Columns;
+use tables::Named;
+use tables::Rules;
 use tables::Table;
 
 // Room for the longest line of a text and, behind it, the mark of an empty last cell.
@@ -83,8 +87,45 @@ fn unknown_row(column: u64) {
     }
 }
 
+// The columns of a table by its number.
+fn columns_of(table: u64) -> Columns {
+    let named = Table::numbered(table);
+    match named {
+        Named::Known(t) => t.column_rules(),
+        Named::Unknown => Table::Block.column_rules(),
+    }
+}
+
+// What the cells of the place's column must keep to. (A fault of a cell names a column of its table; that there is one of this number is tested, since
+// looking it up asks for it.)
+fn rules_of(p: Place) -> Rules {
+    let columns = columns_of(p.table);
+    let k = p.column as usize;
+    if k == 0 {
+        return tables::rules_at(&columns, 0);
+    }
+    if COLUMN_ROOM < k {
+        return tables::rules_at(&columns, 0);
+    }
+    tables::rules_at(&columns, k - 1)
+}
+
+fn too_long(rules: Rules) {
+    say(b"this cell has more than ");
+    counted(rules.width, b"byte", b"bytes");
+    say(b", the width of its column");
+}
+
+fn out_of_range(rules: Rules) {
+    say(b"this number is not in its column's range, ");
+    number(rules.low);
+    say(b" to ");
+    number(rules.high);
+}
+
 // What each number of refusal means, for a person.
-fn meaning(refusal: u64, column: u64) {
+fn meaning(p: Place) {
+    let refusal = p.number;
     match refusal {
         1 => say(b"the file has more than 65,536 bytes"),
         2 => say(b"this column is required and the header lacks it"),
@@ -93,14 +134,15 @@ fn meaning(refusal: u64, column: u64) {
         5 => say(b"the table has more than 512 rows; this is the first too many"),
         6 => say(b"this cell is badly quoted, or holds a byte that no cell may hold"),
         7 => say(b"this line has more or fewer cells than the header"),
-        8 => say(
-            b"this cell is empty though required, or not digits, or too long, or out of its range",
-        ),
+        8 => say(b"this cell is not digits"),
         9 => say(b"the key of this row stands in an earlier row"),
-        10 => unknown_row(column),
+        10 => unknown_row(p.column),
         11 => say(b"the block ends before it begins, and one of its two times is 86,400 or more"),
         17 => say(b"this line has more than 2,048 bytes"),
         18 => say(b"the table came with more or fewer bytes than were announced"),
+        19 => say(b"this cell is empty and its column is required"),
+        20 => too_long(rules_of(p)),
+        21 => out_of_range(rules_of(p)),
         _ => say(b"the book was lent at another length"),
     }
 }
@@ -233,7 +275,7 @@ fn fault(p: Place, types: &[u8], depots: &[u8], stops: &[u8], points: &[u8], blo
     say(b", refusal ");
     number(p.number);
     say(b": ");
-    meaning(p.number, p.column);
+    meaning(p);
     say(b"\n");
     let table = p.table;
     match table {

@@ -14,7 +14,7 @@ use Rattle.rules.specs.Rules.{ruled}
 use Rattle.header.specs.Header.{Header, cutCheck, contents}
 use Rattle.row_line.specs.RowLine.{rowRead}
 
--- "then line by line 5, 6, 7, 8 by column number, 11, 9, 10 by column number", and 17 "after 5"
+-- "then line by line 5, 6, 7, 8 by column number, 11, 9, 10 by column number", 17 "after 5", and 19, 20 and 21, which "keep 8's place"
 unfoldable pub judged : Table → Header → Bytes → Book → Check
 judged t h line b =
     tooManyRows when full t b

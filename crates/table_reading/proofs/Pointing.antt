@@ -4,6 +4,7 @@ use mathlib.Core.List.{List, [], _∷_}
 use mathlib.Core.Bool.{true}
 use Prim.Native.Nat.{ℕ}
 use Rattle.words.specs.Words.{Bytes}
+use Rattle.refusals.proofs.Chaining.{both}
 use Rattle.refusals.specs.Verdicts.{_⊳_, _when_, tooManyRows, keyStands, endsEarly, placed}
 use Rattle.refusals.specs.declared.Check.the-variants.{Passes, Fails}
 use Rattle.refusals.specs.declared.Check.{Check}
@@ -21,7 +22,6 @@ use Rattle.rules.specs.Points.{pointsNamed, NamedIn}
 use Rattle.rules.proofs.Points.{entered-named}
 use Rattle.header.specs.Header.{Header, cutCheck, contents, headerOf, topFaults}
 use Rattle.row_line.specs.RowLine.{rowRead}
-use Rattle.row_line.proofs.Columns.{second-passes}
 use Rattle.table_lines.specs.Reading.{judged, lineAfter, rowsRead}
 use Rattle.table_reading.specs.Reading.{tableRead}
 
@@ -31,11 +31,11 @@ unfolding judged
 passes-known t h line b p =
     let row = rowRead t h line in
     let cells = badCell 1 (columnsOf t) (contents t h (cellsOf (cut line))) in
-    let behind-5 = second-passes (tooManyRows when full t b) (cutCheck h line ⊳ cells ⊳ ruled t row b) p in
-    let behind-7 = second-passes (cutCheck h line) (cells ⊳ ruled t row b) behind-5 in
-    let behind-8 = second-passes cells (ruled t row b) behind-7 in
-    let behind-11 = second-passes (endsEarly when timeFault t row) (keyStands when knows t row b ⊳ unknown t row b) behind-8 in
-    second-passes (keyStands when knows t row b) (unknown t row b) behind-11
+    let behind-5 = both (tooManyRows when full t b) (cutCheck h line ⊳ cells ⊳ ruled t row b) p .1 in
+    let behind-7 = both (cutCheck h line) (cells ⊳ ruled t row b) behind-5 .1 in
+    let behind-8 = both cells (ruled t row b) behind-7 .1 in
+    let behind-11 = both (endsEarly when timeFault t row) (keyStands when knows t row b ⊳ unknown t row b) behind-8 .1 in
+    both (keyStands when knows t row b) (unknown t row b) behind-11 .1
 
 rows-named : (t : Table) (h : Header) (i : ℕ) (ls : List Bytes) (b : Book) → pointsNamed b ≡ true → NamedIn (rowsRead t h i ls b)
 unfolding rowsRead

@@ -1,26 +1,26 @@
 // What content is to a column, and what the cells of a line come to.
 ghost use mathlib.Core.Path.{_≡_};
-ghost use mathlib.Core.List.{List};
-ghost use Prim.Native.Nat.{_≤_, ℕ};
-ghost use lib.ListN.{length};
+ghost use Prim.Native.Nat.{_≤_};
 ghost use Rattle.words.specs.Words.{if_then_else_};
+ghost use Rattle.refusals.specs.Verdicts.{cellEmpty, outOfRange};
 ghost use Rattle.cells.specs.Cells.{content};
 ghost use Rattle.numbers.specs.Decimals.{decimalOf};
 ghost use Rattle.tables.specs.Columns.{inRange};
-ghost use Rattle.values.specs.Judged.{valueOf, checkOf, unkept, keptNumber};
+ghost use Rattle.values.specs.Judged.{against, byLength, byDigits, valueOf, checkOf, unkept, keptNumber};
 use numbers::Digits;
 use refusals::Check;
+use refusals::Place;
 use rows::NO_ROW;
 use rows::Row;
 use tables::Rules;
 use tables::Sort;
 
-// What content is to a column: a number, a text, nothing, or against its rules.
+// What content is to a column: a number, a text, nothing, or against its rules, by the number of refusal.
 pub enum Value {
     Number(u64),
     Text,
     Empty,
-    Bad,
+    Bad(u64),
 }
 
 // A line: what its checks find, and its row.
@@ -40,51 +40,48 @@ pub fn number_in(cell: &[u8], width: usize) -> Digits
 impl Value {
     // Empty content is nothing, unless the column is required.
     fn of_nothing(rules: Rules) -> Value
-        ensures { λ r. ⌜ r ≡ (if rules .required then Value.Bad else Value.Empty) ⌝ }
+        ensures { λ r. ⌜ r ≡ (if rules .required then against (cellEmpty 0) else Value.Empty) ⌝ }
     {
         if rules.required {
-            Value::Bad
+            Value::Bad(Place::CELL_EMPTY)
         } else {
             Value::Empty
         }
     }
 
-    fn of_number(rules: Rules, n: u64) -> Value
-        ensures { λ r. ⌜ r ≡ (if inRange rules n then Value.Number n else Value.Bad) ⌝ }
-    {
-        if n < rules.low {
-            return Value::Bad;
-        }
-        if rules.high < n {
-            return Value::Bad;
-        }
-        Value::Number(n)
-    }
-
-    // What content is to a decimal column, by its length and by what it is read as.
-    fn of_digits(rules: Rules, count: usize, digits: Digits) -> Value
-        ensures { λ r. ⌜ ((s : List ℕ) → rules .sort ≡ Sort.Decimal → count ≡ length s → digits ≡ decimalOf (rules .width) s → r ≡ valueOf rules s) ⌝ }
-    {
-        if count == 0 {
-            return Value::of_nothing(rules);
-        }
-        match digits {
-            Digits::Other => Value::Bad,
-            Digits::Value(n) => Value::of_number(rules, n),
-        }
-    }
-
-    // What content is to a text column, by its length.
-    fn of_text(rules: Rules, count: usize) -> Value
-        ensures { λ r. ⌜ ((s : List ℕ) → rules .sort ≡ Sort.Text → count ≡ length s → r ≡ valueOf rules s) ⌝ }
+    // "where two hold, 20 comes first": by its length content is nothing or too long; else it is what it says.
+    fn of_length(rules: Rules, count: usize, said: Value) -> Value
+        ensures { λ r. ⌜ r ≡ byLength rules count said ⌝ }
     {
         if count == 0 {
             return Value::of_nothing(rules);
         }
         if rules.width < count {
-            return Value::Bad;
+            return Value::Bad(Place::CELL_TOO_LONG);
         }
-        Value::Text
+        said
+    }
+
+    fn of_number(rules: Rules, n: u64) -> Value
+        ensures { λ r. ⌜ r ≡ (if inRange rules n then Value.Number n else against (outOfRange 0)) ⌝ }
+    {
+        if n < rules.low {
+            return Value::Bad(Place::OUT_OF_RANGE);
+        }
+        if rules.high < n {
+            return Value::Bad(Place::OUT_OF_RANGE);
+        }
+        Value::Number(n)
+    }
+
+    // What the content of a decimal column says.
+    fn of_digits(rules: Rules, digits: Digits) -> Value
+        ensures { λ r. ⌜ r ≡ byDigits rules digits ⌝ }
+    {
+        match digits {
+            Digits::Other => Value::Bad(Place::NOT_DIGITS),
+            Digits::Value(n) => Value::of_number(rules, n),
+        }
     }
 
     // What a cell of the column holds, by its content.
@@ -95,8 +92,11 @@ impl Value {
         let count = contents::content_length(cell);
         let sort = rules.sort;
         match sort {
-            Sort::Decimal => Value::of_digits(rules, count, number_in(cell, rules.width)),
-            Sort::Text => Value::of_text(rules, count),
+            Sort::Decimal => {
+                let said = Value::of_digits(rules, number_in(cell, rules.width));
+                Value::of_length(rules, count, said)
+            }
+            Sort::Text => Value::of_length(rules, count, Value::Text),
         }
     }
 
@@ -108,8 +108,11 @@ impl Value {
         let count = field.len();
         let sort = rules.sort;
         match sort {
-            Sort::Decimal => Value::of_digits(rules, count, numbers::number_of(field, rules.width)),
-            Sort::Text => Value::of_text(rules, count),
+            Sort::Decimal => {
+                let said = Value::of_digits(rules, numbers::number_of(field, rules.width));
+                Value::of_length(rules, count, said)
+            }
+            Sort::Text => Value::of_length(rules, count, Value::Text),
         }
     }
 }
@@ -123,7 +126,7 @@ impl Value {
             Value::Number(_) => Check::Passes,
             Value::Text => Check::Passes,
             Value::Empty => Check::Passes,
-            Value::Bad => Check::cell_fault(column),
+            Value::Bad(number) => Check::fails(number, column),
         }
     }
 }
@@ -146,6 +149,6 @@ pub fn kept_number(value: Value, kept: bool) -> u64
         Value::Number(n) => if kept { n } else { 0 },
         Value::Text => 0,
         Value::Empty => 0,
-        Value::Bad => 0,
+        Value::Bad(_) => 0,
     }
 }

@@ -43,14 +43,14 @@ enum-told-2 c = search needs
 accepted-requires-3 : tie.Need-accepted-requires-3
 accepted-requires-3 c κs = search needs
 
-enum-told-3 : tie.Need-enum-told-3
-enum-told-3 c = search needs
+enum-known-value-2 : tie.Need-enum-known-value-2
+enum-known-value-2 c = search needs
 
 wide-requires : tie.Need-wide-requires
 wide-requires c κs = search needs
 
-cell-fault-requires : tie.Need-cell-fault-requires
-cell-fault-requires c κs = search needs
+fails-requires : tie.Need-fails-requires
+fails-requires c κs = search needs
 
 number-requires : tie.Need-number-requires
 number-requires c κs = search needs
@@ -78,9 +78,11 @@ returns-3 c =
 
 returns-4 : tie.Need-returns-4
 returns-4 c =
-    let st = c .before .before .before .before .before .before .before .before .before in
+    let v = c .before .before .before .before .before in
+    let of = v .before .before in
+    let st = of .before .before .before in
     let a = st .args in
-    fault-answer (a .line) (c .refused .result) (c .before .before .cell-fault .result) (c .before .number .result) (number (a .t)) 8 (c .before .before .before .wide .result) (a .column) (c .refused .ensures) (c .before .before .cell-fault .ensures) (c .before .before .before .wide .ensures) (c .before .number .ensures) ∙ judged-by (a .t) (a .line) (a .column) (a .at) (a .cell .now) (c .before .before .before .before .before .before .before .rules-at .result) (c .before .before .before .before .before .before .of-cell .result) (value-is.Bad) (c .before .before .before .before .before .before .before .rules-at .ensures (a .t) (st .pre .3)) (c .before .before .before .before .before .before .of-cell .ensures) (c .before .before .before .before .enum-told3 .given .1)
+    fault-answer (a .line) (c .refused .result) (c .before .before .fails .result) (c .before .number .result) (number (a .t)) (v .value2 .given .0 .0) (c .before .before .before .wide .result) (a .column) (c .refused .ensures) (c .before .before .fails .ensures) (c .before .before .before .wide .ensures) (c .before .number .ensures) ∙ judged-by (a .t) (a .line) (a .column) (a .at) (a .cell .now) (of .before .rules-at .result) (of .of-cell .result) (value-is.Bad (v .value2 .given .0 .0)) (of .before .rules-at .ensures (a .t) (st .pre .3)) (of .of-cell .ensures) (v .value2 .given .1)
 
 pub judged-cell-spec : {M : Type 1} → statement M
 judged-cell-spec =
@@ -96,9 +98,9 @@ judged-cell-spec =
     accepted-requires-2
     enum-told-2
     accepted-requires-3
-    enum-told-3
+    enum-known-value-2
     wide-requires
-    cell-fault-requires
+    fails-requires
     number-requires
     refused-requires
     returns

@@ -13,11 +13,11 @@ enum-told-2 c = search needs
 enum-told-3 : tie.Need-enum-told-3
 enum-told-3 c = search needs
 
-enum-told-4 : tie.Need-enum-told-4
-enum-told-4 c = search needs
+enum-known-self : tie.Need-enum-known-self
+enum-known-self c = search needs
 
-cell-fault-requires : tie.Need-cell-fault-requires
-cell-fault-requires c κs = search needs
+fails-requires : tie.Need-fails-requires
+fails-requires c κs = search needs
 
 returns : tie.Need-returns
 returns c = search needs
@@ -29,7 +29,7 @@ returns-3 : tie.Need-returns-3
 returns-3 c = search needs
 
 returns-4 : tie.Need-returns-4
-returns-4 c = c .cell-fault .ensures ∙ rw (c .before .enum-told4 .given .1)
+returns-4 c = c .fails .ensures ∙ rw (c .before .before .self .given .1)
 
 pub check-spec : {M : Type 1} → statement M
 check-spec =
@@ -38,8 +38,8 @@ check-spec =
     enum-told
     enum-told-2
     enum-told-3
-    enum-told-4
-    cell-fault-requires
+    enum-known-self
+    fails-requires
     returns
     returns-2
     returns-3

@@ -1,6 +1,8 @@
 -- `values::Value::of_field` meets its contract, by the sort of the column. Assumes nothing.
 use mathlib.Core.Path.{refl}
+use lib.ListN.{length}
 use borrow.Author.Needs.{needs}
+use Rattle.values.proofs.Values.{decimal-judged, text-judged}
 use Rattle.values.proofs.Value.of_field.Statement.{statement}
 use Rattle.values.proofs.Value.of_field.Tie as tie
 
@@ -13,17 +15,24 @@ number-of-requires c κs = c .before .before .before .pre (c .enum-told .given .
 of-digits-requires : tie.Need-of-digits-requires
 of-digits-requires c κs = search needs
 
+of-length-requires : tie.Need-of-length-requires
+of-length-requires c κs = search needs
+
 enum-told-2 : tie.Need-enum-told-2
 enum-told-2 c = search needs
 
-of-text-requires : tie.Need-of-text-requires
-of-text-requires c κs = search needs
+of-length-requires-2 : tie.Need-of-length-requires-2
+of-length-requires-2 c κs = search needs
 
 returns : tie.Need-returns
-returns c = c .of-digits .ensures (c .before .before .before .before .before .args .field .now) (c .before .before .enum-told .given .1) refl (c .before .number-of .ensures)
+returns c =
+    let a = c .before .before .before .before .before .before .args in
+    decimal-judged (a .rules) (a .field .now) (length (a .field .now)) (c .before .before .number-of .result) (c .before .of-digits .result) (c .of-length .result) (c .before .before .before .enum-told .given .1) refl (c .before .before .number-of .ensures) (c .before .of-digits .ensures) (c .of-length .ensures)
 
 returns-2 : tie.Need-returns-2
-returns-2 c = c .of-text .ensures (c .before .before .before .before .args .field .now) (c .before .enum-told2 .given .1) refl
+returns-2 c =
+    let a = c .before .before .before .before .args in
+    text-judged (a .rules) (a .field .now) (length (a .field .now)) (c .of-length2 .result) (c .before .enum-told2 .given .1) refl (c .of-length2 .ensures)
 
 pub of-field-spec : {M : Type 1} → statement M
 of-field-spec =
@@ -32,7 +41,8 @@ of-field-spec =
     enum-told
     number-of-requires
     of-digits-requires
+    of-length-requires
     enum-told-2
-    of-text-requires
+    of-length-requires-2
     returns
     returns-2)
