@@ -31,6 +31,7 @@ use Rattle.numbers.specs.Decimals.{decimalOf}
 use Rattle.numbers.specs.declared.Digits.{Digits}
 use Rattle.numbers.specs.declared.Digits.the-variants as digits-are
 use Rattle.numbers.proofs.Decimals.{decimal-value}
+use Rattle.tables.specs.declared.Edition.the-variants.{Dino21}
 use Rattle.tables.specs.Columns.{columnAt, number, columnsOf, numbered, inRange}
 use Rattle.tables.specs.declared.Table.{Table}
 use Rattle.tables.specs.declared.Rules.{Rules}
@@ -65,8 +66,8 @@ pub fault-answer : (line : ℕ) (r : CellAnswer) (fault : Check) (table t n k j 
 fault-answer line r fault table t n k j is e p q = is n k Empty e ∙ rw (p, q)
 
 -- a decimal column is no wider than 64 bits
-pub narrow-rules : (t : Table) (i : ℕ) (x : Rules) → x ≡ columnAt t i .rules → x .sort ≡ sort-is.Decimal → x .width ≤ 19
-narrow-rules t i x e = rw e (column-narrow t i)
+pub narrow-rules : (t : Table) (i : ℕ) (x : Rules) → x ≡ columnAt Dino21 t i .rules → x .sort ≡ sort-is.Decimal → x .width ≤ 19
+narrow-rules t i x e = rw e (column-narrow Dino21 t i)
 
 -- what is said of a cell by the value that it has to its column
 module _ (n line k at : ℕ) (cell : Bytes) where
@@ -102,7 +103,7 @@ module _ (n line k at : ℕ) (cell : Bytes) where
       by-length false e q false sort-is.Decimal = by-digits (decimalOf (x .width) (content cell)) refl e
       by-length false e q false sort-is.Text = rw e
 
-pub judged-by : (t : Table) (line k at : ℕ) (cell : Bytes) (x : Rules) (v w : Value) → x ≡ columnAt t (k - 1) .rules → v ≡ valueOf x (content cell) → v ≡ w
+pub judged-by : (t : Table) (line k at : ℕ) (cell : Bytes) (x : Rules) (v w : Value) → x ≡ columnAt Dino21 t (k - 1) .rules → v ≡ valueOf x (content cell) → v ≡ w
     → answeredBy (number t) line k at cell w ≡ cellJudged t line k at cell
 unfolding cellJudged
 judged-by t line k at cell x v w e f g =
@@ -186,10 +187,10 @@ module _ (t : Table) (h : Header) (line k begin : ℕ) (row : Bytes) where
   rowCell = under k h (cellsOf (cut row))
 
   abbrev rowCheck : Check
-  rowCheck = cellCheck k (columnAt t (k - 1) .rules) (content rowCell)
+  rowCheck = cellCheck k (columnAt Dino21 t (k - 1) .rules) (content rowCell)
 
   abbrev rowSaid : ℕ → Cell
-  rowSaid at = cellSaid (columnAt t (k - 1) .rules .sort) at rowCell
+  rowSaid at = cellSaid (columnAt Dino21 t (k - 1) .rules .sort) at rowCell
 
   row-checked : (c : Check) → (cutCheck h row ⊳ rowCheck) ≡ c → rowAnswer t h line k begin row ≡ answered (placed (number t) line c) (rowSaid (begin + offset k h (cellsOf (cut row))))
   unfolding rowAnswer
@@ -207,8 +208,8 @@ module _ (t : Table) (h : Header) (line k begin : ℕ) (row : Bytes) where
       let o : m ≡ placeFrom 0 k h = p ∙ rw a (rw d at (place-at h (k - 1) (omega arith))) in
       let u : cellNumbered m cs ≡ rowCell = rw o (sym (under-numbered k h cs)) in
       let g : from ≡ begin + beginAt bounds count (placeFrom 0 k h) = q ∙ rw o in
-      let f : rowSaid from ≡ rowSaid (begin + offset k h cs) = ap rowSaid g ∙ said-begun (columnAt t (k - 1) .rules .sort) begin k h row bounds count marks n in
-      ap (λ (c : Bytes). answered (placed (number t) line (cellCheck k (columnAt t (k - 1) .rules) (content c))) (cellSaid (columnAt t (k - 1) .rules .sort) from c)) u
+      let f : rowSaid from ≡ rowSaid (begin + offset k h cs) = ap rowSaid g ∙ said-begun (columnAt Dino21 t (k - 1) .rules .sort) begin k h row bounds count marks n in
+      ap (λ (c : Bytes). answered (placed (number t) line (cellCheck k (columnAt Dino21 t (k - 1) .rules) (content c))) (cellSaid (columnAt Dino21 t (k - 1) .rules .sort) from c)) u
       ∙ ap (λ (c : Cell). answered (placed (number t) line rowCheck) c) f
       ∙ sym (row-checked rowCheck (rw pass))
 
@@ -219,21 +220,21 @@ module _ (t : Table) (s : Bytes) (line k : ℕ) where
   unfolding tableCell cellVerdict
   column-zero e = rw (eq-eqb k 0 e)
 
-  pub column-past : (k ≡ 0 → ⊥) → length (columnsOf t) < k → answered (nowhere notThere) Empty ≡ tableCell t s line k
+  pub column-past : (k ≡ 0 → ⊥) → length (columnsOf Dino21 t) < k → answered (nowhere notThere) Empty ≡ tableCell t s line k
   unfolding tableCell cellVerdict
-  column-past n l = rw (ne-eqb k 0 n, lt-ltb (length (columnsOf t)) k l)
+  column-past n l = rw (ne-eqb k 0 n, lt-ltb (length (columnsOf Dino21 t)) k l)
 
-  module _ (some : k ≡ 0 → ⊥) (known : k ≤ length (columnsOf t)) where
-    behind-column : (v : Verdict) → topFaults t s ≡ v → tableCell t s line k
-        ≡ answered (v before nowhere (notThere when (ltb line 2 || ltb (length (lines s)) line)) before placed (number t) line (cutCheck (headerOf t s) (lineAsked line s) ⊳ cellCheck k (columnAt t (k - 1) .rules) (content (cellAt t s line k))))
-        (cellSaid (columnAt t (k - 1) .rules .sort) (cellStart t s line k) (cellAt t s line k))
+  module _ (some : k ≡ 0 → ⊥) (known : k ≤ length (columnsOf Dino21 t)) where
+    behind-column : (v : Verdict) → topFaults Dino21 t s ≡ v → tableCell t s line k
+        ≡ answered (v before nowhere (notThere when (ltb line 2 || ltb (length (lines s)) line)) before placed (number t) line (cutCheck (headerOf Dino21 t s) (lineAsked line s) ⊳ cellCheck k (columnAt Dino21 t (k - 1) .rules) (content (cellAt t s line k))))
+        (cellSaid (columnAt Dino21 t (k - 1) .rules .sort) (cellStart t s line k) (cellAt t s line k))
     unfolding tableCell cellVerdict
-    behind-column v e = rw (ne-eqb k 0 some, le-ltb (length (columnsOf t)) k known, e)
+    behind-column v e = rw (ne-eqb k 0 some, le-ltb (length (columnsOf Dino21 t)) k known, e)
 
-    pub top-refused : (p : Place) → topFaults t s ≡ Refused p → _≡_ {A = CellAnswer} (record { verdict = Refused p; cell = Empty }) (tableCell t s line k)
+    pub top-refused : (p : Place) → topFaults Dino21 t s ≡ Refused p → _≡_ {A = CellAnswer} (record { verdict = Refused p; cell = Empty }) (tableCell t s line k)
     top-refused p e = sym (behind-column (Refused p) e)
 
-    module _ (top : topFaults t s ≡ Accepted) where
+    module _ (top : topFaults Dino21 t s ≡ Accepted) where
       pub line-low : line < 2 → answered (nowhere notThere) Empty ≡ tableCell t s line k
       line-low l = sym (behind-column Accepted top ∙ rw (lt-ltb line 2 l))
 
@@ -250,11 +251,11 @@ module _ (t : Table) (s : Bytes) (line k : ℕ) where
                 let m : line ≤ length (lines s) = ltb-false (length (lines s)) line q in
                 absurd (omega (arith, start-within (line - 1) s (omega arith), last-line))
 
-        pub line-here : lineStart line s < length s → rowAnswer t (headerOf t s) line k (lineStart line s) (getD (lines s) (line - 1) []) ≡ tableCell t s line k
+        pub line-here : lineStart line s < length s → rowAnswer t (headerOf Dino21 t s) line k (lineStart line s) (getD (lines s) (line - 1) []) ≡ tableCell t s line k
         unfolding rowAnswer
         line-here l = go (ltb (length (lines s)) line) refl
           where
-            go : (b : Bool) → ltb (length (lines s)) line ≡ b → rowAnswer t (headerOf t s) line k (lineStart line s) (getD (lines s) (line - 1) []) ≡ tableCell t s line k
+            go : (b : Bool) → ltb (length (lines s)) line ≡ b → rowAnswer t (headerOf Dino21 t s) line k (lineStart line s) (getD (lines s) (line - 1) []) ≡ tableCell t s line k
             go false q = sym (behind-column Accepted top ∙ rw (le-ltb line 2 row, q))
             go true q =
                 let m : length (lines s) < line = ltb-true (length (lines s)) line q in
@@ -343,9 +344,9 @@ stretch-inside s table line k start len = go (numbered table)
     go (Known t) e =
         let row : Bytes = getD (lines s) (line - 1) [] in
         let cell : Bytes = cellAt t s line k in
-        said-inside s cell (columnAt t (k - 1) .rules .sort) (cellStart t s line k) start len
-        (λ p. omega (arith, row-inside k (headerOf t s) row p, line-inside line s))
-        (answered-text (cellVerdict t s line k) (cellSaid (columnAt t (k - 1) .rules .sort) (cellStart t s line k) cell) start len e)
+        said-inside s cell (columnAt Dino21 t (k - 1) .rules .sort) (cellStart t s line k) start len
+        (λ p. omega (arith, row-inside k (headerOf Dino21 t s) row p, line-inside line s))
+        (answered-text (cellVerdict t s line k) (cellSaid (columnAt Dino21 t (k - 1) .rules .sort) (cellStart t s line k) cell) start len e)
 
 -- the part of the text that is handed back
 pub stretch-empty : (s : Bytes) (d c : Cell) → c ≡ d → stretchOf s d ≡ [] → take (0 - 0) (drop 0 s) ≡ stretchOf s c

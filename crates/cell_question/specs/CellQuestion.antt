@@ -14,6 +14,7 @@ use Rattle.refusals.specs.Verdicts.{paper, values, _⊳_, _when_, _before_, pla
 use Rattle.lines.specs.Lines.{lines, lineStart}
 use Rattle.cells.specs.Cells.{content, quoted, Cut, cut, cellsOf}
 use Rattle.numbers.specs.Numbers.{value}
+use Rattle.tables.specs.declared.Edition.the-variants.{Dino21}
 use Rattle.tables.specs.declared.Sort.{Sort}
 use Rattle.tables.specs.declared.Table.{Table}
 use Rattle.tables.specs.Columns.{columnsOf, columnAt, number, numbered}
@@ -50,24 +51,24 @@ abbrev pub cutAt : ℕ → Bytes → Cut
 cutAt line s = cut (lineAsked line s)
 
 abbrev pub cellAt : Table → Bytes → ℕ → ℕ → Bytes
-cellAt t s line k = under k (headerOf t s) (cellsOf (cutAt line s))
+cellAt t s line k = under k (headerOf Dino21 t s) (cellsOf (cutAt line s))
 
 -- "15 for table or column, 1, header faults, 15 for the line (line 1 included), then 6 and 7 for that line and 8 for that cell. Other rows
 -- and 5 do not matter." 17 is "first among header and line checks"; 19, 20 and 21 "keep 8's place"
 unfoldable pub cellVerdict : Table → Bytes → ℕ → ℕ → Verdict
 cellVerdict t s line k =
-    nowhere (notThere when (eqb k 0 || ltb (length (columnsOf t)) k))
-    before topFaults t s
+    nowhere (notThere when (eqb k 0 || ltb (length (columnsOf Dino21 t)) k))
+    before topFaults Dino21 t s
     before nowhere (notThere when (ltb line 2 || ltb (length (lines s)) line))
-    before placed (number t) line (cutCheck (headerOf t s) (lineAsked line s) ⊳ cellCheck k (columnAt t (k - 1) .rules) (content (cellAt t s line k)))
+    before placed (number t) line (cutCheck (headerOf Dino21 t s) (lineAsked line s) ⊳ cellCheck k (columnAt Dino21 t (k - 1) .rules) (content (cellAt t s line k)))
 
 -- where the cell begins in the text
 abbrev pub cellStart : Table → Bytes → ℕ → ℕ → ℕ
-cellStart t s line k = lineStart line s + offset k (headerOf t s) (cellsOf (cutAt line s))
+cellStart t s line k = lineStart line s + offset k (headerOf Dino21 t s) (cellsOf (cutAt line s))
 
 unfoldable pub tableCell : Table → Bytes → ℕ → ℕ → CellAnswer
 tableCell t s line k =
-    answered (cellVerdict t s line k) (cellSaid (columnAt t (k - 1) .rules .sort) (cellStart t s line k) (cellAt t s line k))
+    answered (cellVerdict t s line k) (cellSaid (columnAt Dino21 t (k - 1) .rules .sort) (cellStart t s line k) (cellAt t s line k))
 
 abbrev pub askedOf : Named → Bytes → ℕ → ℕ → CellAnswer
 askedOf (Known t) s line k = tableCell t s line k

@@ -18,6 +18,7 @@ use refusals::Check;
 use refusals::Place;
 use refusals::Verdict;
 use tables::Columns;
+use tables::Edition;
 use tables::Named;
 use tables::Sort;
 use tables::Table;
@@ -83,7 +84,7 @@ fn judged_cell(
     line: u64,
     column: usize,
 ) -> CellAnswer
-    requires { ⌜ (at ≤ mostBytes) × (1 ≤ column) × (column < headerPlaces) × (now columns ≡ listed t) ⌝ }
+    requires { ⌜ (at ≤ mostBytes) × (1 ≤ column) × (column < headerPlaces) × (now columns ≡ listed Edition.Dino21 t) ⌝ }
     ensures { λ r. ⌜ r ≡ cellJudged t line column at (now (cell .entry)) ⌝ }
 {
     let rules = tables::rules_at(columns, column - 1);
@@ -106,7 +107,7 @@ fn cell_in_row(
     line: u64,
     column: usize,
 ) -> CellAnswer
-    requires { ⌜ (begin + length (now row) ≤ mostBytes) × (1 ≤ column) × (column < headerPlaces) × (cellsKept (now at) ≤ mostCells) × (now columns ≡ listed t) ⌝ }
+    requires { ⌜ (begin + length (now row) ≤ mostBytes) × (1 ≤ column) × (column < headerPlaces) × (cellsKept (now at) ≤ mostCells) × (now columns ≡ listed Edition.Dino21 t) ⌝ }
     ensures { λ r. ⌜ ((h : List ℕ) → now (at .entry) ≡ places h → r ≡ rowAnswer t h line column begin (now (row .entry))) ⌝ }
 {
     let mut bounds = [0usize; BOUNDS];
@@ -135,7 +136,7 @@ fn cell_on_line(
     line: u64,
     column: usize,
 ) -> CellAnswer
-    requires { ⌜ (length (now bytes) ≤ mostBytes) × (1 ≤ column) × (column ≤ length (columnsOf t)) × (cellsKept (now at) ≤ mostCells) × (topFaults t (now bytes) ≡ Verdict.Accepted) × (now at ≡ places (headerOf t (now bytes))) × (now columns ≡ listed t) ⌝ }
+    requires { ⌜ (length (now bytes) ≤ mostBytes) × (1 ≤ column) × (column ≤ length (columnsOf Edition.Dino21 t)) × (cellsKept (now at) ≤ mostCells) × (topFaults Edition.Dino21 t (now bytes) ≡ Verdict.Accepted) × (now at ≡ places (headerOf Edition.Dino21 t (now bytes))) × (now columns ≡ listed Edition.Dino21 t) ⌝ }
     ensures { λ r. ⌜ r ≡ tableCell t (now (bytes .entry)) line column ⌝ }
 {
     if line < 2 {
@@ -157,11 +158,11 @@ fn cell_in_table(bytes: &[u8], t: Table, line: u64, column: u64) -> CellAnswer
     if column == 0 {
         return not_there();
     }
-    if header::wide(t.columns()) < column {
+    if header::wide(t.columns(Edition::Dino21)) < column {
         return not_there();
     }
-    let columns = t.column_rules();
-    let top = header::read_top(bytes, t, &columns);
+    let columns = t.column_rules(Edition::Dino21);
+    let top = header::read_top(bytes, Edition::Dino21, t, &columns);
     let verdict = top.verdict;
     let at = top.at;
     match verdict {

@@ -13,6 +13,8 @@ use Rattle.words.specs.Words.{Bytes, if_then_else_, same, bytes}
 use Rattle.words.proofs.Lists.{drop-step, every, same-true, and-left, and-right}
 use Rattle.lines.specs.Lines.{onto}
 use Rattle.cells.specs.Cells.{parted}
+use Rattle.tables.specs.declared.Edition.{Edition}
+use Rattle.tables.specs.declared.Edition.the-variants.{Dino21, Dino23}
 use Rattle.tables.specs.declared.Table.{Table}
 use Rattle.tables.specs.Columns.{columnsOf, columnFrom, columnNumber, Column}
 use Rattle.tables.specs.declared.Table.the-variants.{VehicleType, Depot, Stop, StopPoint, Block}
@@ -107,16 +109,21 @@ place-on s name at e n b ee eb h l =
 -- a table's names ------------------------------------------------------------------------------------------------------------
 
 -- the names of a table's columns, as its header is written
-abbrev pub headerOf : Table → Bytes
-headerOf t = parted 59 (map (λ x. x .name) (columnsOf t))
+abbrev pub headerOf : Edition → Table → Bytes
+headerOf e t = parted 59 (map (λ x. x .name) (columnsOf e t))
 
-header-names : (t : Table) → namesIn (headerOf t) ≡ map (λ x. x .name) (columnsOf t)
+header-names : (e : Edition) (t : Table) → namesIn (headerOf e t) ≡ map (λ x. x .name) (columnsOf e t)
 unfolding namesIn parted columnsOf bytes
-header-names VehicleType = refl
-header-names Depot = refl
-header-names Stop = refl
-header-names StopPoint = refl
-header-names Block = refl
+header-names Dino21 VehicleType = refl
+header-names Dino23 VehicleType = refl
+header-names Dino21 Depot = refl
+header-names Dino23 Depot = refl
+header-names Dino21 Stop = refl
+header-names Dino23 Stop = refl
+header-names Dino21 StopPoint = refl
+header-names Dino23 StopPoint = refl
+header-names Dino21 Block = refl
+header-names Dino23 Block = refl
 
 -- "Two other spellings are read as the same column": the other name of a table, if any, and the column for which it stands
 abbrev pub otherName : Table → Bytes
@@ -133,25 +140,35 @@ otherColumn Stop = 0
 otherColumn StopPoint = 0
 otherColumn Block = 5
 
-other-number : (t : Table) → columnNumber t (otherName t) ≡ otherColumn t
+other-number : (e : Edition) (t : Table) → columnNumber e t (otherName t) ≡ otherColumn t
 unfolding columnNumber columnFrom columnsOf bytes same
-other-number VehicleType = refl
-other-number Depot = refl
-other-number Stop = refl
-other-number StopPoint = refl
-other-number Block = refl
+other-number Dino21 VehicleType = refl
+other-number Dino23 VehicleType = refl
+other-number Dino21 Depot = refl
+other-number Dino23 Depot = refl
+other-number Dino21 Stop = refl
+other-number Dino23 Stop = refl
+other-number Dino21 StopPoint = refl
+other-number Dino23 StopPoint = refl
+other-number Dino21 Block = refl
+other-number Dino23 Block = refl
 
 -- no column has a third name
 abbrev spelled : Bytes → Column → Bool
 spelled o x = same (x .other) (x .name) || same (x .other) o
 
-all-spelled : (t : Table) → every (spelled (otherName t)) (columnsOf t) ≡ true
+all-spelled : (e : Edition) (t : Table) → every (spelled (otherName t)) (columnsOf e t) ≡ true
 unfolding columnsOf bytes same
-all-spelled VehicleType = refl
-all-spelled Depot = refl
-all-spelled Stop = refl
-all-spelled StopPoint = refl
-all-spelled Block = refl
+all-spelled Dino21 VehicleType = refl
+all-spelled Dino23 VehicleType = refl
+all-spelled Dino21 Depot = refl
+all-spelled Dino23 Depot = refl
+all-spelled Dino21 Stop = refl
+all-spelled Dino23 Stop = refl
+all-spelled Dino21 StopPoint = refl
+all-spelled Dino23 StopPoint = refl
+all-spelled Dino21 Block = refl
+all-spelled Dino23 Block = refl
 
 by-name : (o name : Bytes) (x : Column) → same name o ≡ false → spelled o x ≡ true → (same name (x .name) || same name (x .other)) ≡ same name (x .name)
 by-name o name x h e = go (same (x .other) (x .name)) refl e
@@ -175,10 +192,16 @@ by-names o name k (x ∷ xs) h e =
     rw (by-name o name x h (and-left (spelled o x) (every (spelled o) xs) e), by-names o name (suc k) xs h (and-right (spelled o x) (every (spelled o) xs) e))
 
 -- what the code asks of a table's two texts is the column's number
-pub named : (t : Table) (name : Bytes) → (if same name (otherName t) then otherColumn t else numberIn 1 (namesIn (headerOf t)) name) ≡ columnNumber t name
+pub named : (e : Edition) (t : Table) (name : Bytes) → (if same name (otherName t) then otherColumn t else numberIn 1 (namesIn (headerOf e t)) name) ≡ columnNumber e t name
 unfolding columnNumber
-named t name = go (same name (otherName t)) refl
+named e t name = go (same name (otherName t)) refl
   where
-    go : (b : Bool) → same name (otherName t) ≡ b → (if b then otherColumn t else numberIn 1 (namesIn (headerOf t)) name) ≡ columnFrom 1 (columnsOf t) name
-    go true e = rw (same-true name (otherName t) e) (sym (other-number t))
-    go false e = rw (header-names t) (sym (by-names (otherName t) name 1 (columnsOf t) e (all-spelled t)))
+    go : (b : Bool) → same name (otherName t) ≡ b → (if b then otherColumn t else numberIn 1 (namesIn (headerOf e t)) name) ≡ columnFrom 1 (columnsOf e t) name
+    go true q = rw (same-true name (otherName t) q) (sym (other-number e t))
+    go false q = rw (header-names e t) (sym (by-names (otherName t) name 1 (columnsOf e t) q (all-spelled e t)))
+
+-- of a block by either edition
+pub named-block : (e : Edition) (name : Bytes) → (if same name (otherName Block) then otherColumn Block else numberIn 1 (namesIn (headerOf Dino21 Block)) name) ≡ columnNumber e Block name
+unfolding columnsOf
+named-block Dino21 name = named Dino21 Block name
+named-block Dino23 name = named Dino23 Block name

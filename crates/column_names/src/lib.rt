@@ -5,6 +5,7 @@ ghost use lib.ListN.{drop};
 ghost use Rattle.words.specs.Words.{same, if_then_else_};
 ghost use Rattle.tables.specs.Columns.{columnNumber};
 ghost use Rattle.column_names.specs.Naming.{nameLength, namesIn, numberIn};
+use tables::Edition;
 use tables::STOP_NR;
 use tables::Table;
 use tables::VERSION;
@@ -14,6 +15,10 @@ const SEMICOLON: u8 = 59;
 // The names of the columns in their order, as a header has them. Blocks are written under theirs.
 pub const VEHICLE_TYPE_NAMES: [u8; 178] =
     *b"VERSION;VEH_TYPE_NR;VEH_TYPE_SEATS;VEH_TYPE_STRAPS;PLACES_FOR_DISABLED_PERSONS;VEH_TYPE_TEXT;STR_VEH_TYPE;VEH_TYPE_DOOR_WIDTH;VEH_TYPE_WIDTH;VEH_TYPE_HEIGHT;VEH_TYPE_ACCESS_EQUIP";
+
+// By 2.3 vehicle_type has a column more.
+pub const VEHICLE_TYPE_NAMES_23: [u8; 193] =
+    *b"VERSION;VEH_TYPE_NR;VEH_TYPE_SEATS;VEH_TYPE_STRAPS;PLACES_FOR_DISABLED_PERSONS;VEH_TYPE_TEXT;STR_VEH_TYPE;VEH_TYPE_DOOR_WIDTH;VEH_TYPE_WIDTH;VEH_TYPE_HEIGHT;VEH_TYPE_ACCESS_EQUIP;VEH_DELFI_TYPE";
 
 pub const DEPOT_NAMES: [u8; 16] = *b"VERSION;DEPOT_NR";
 
@@ -101,17 +106,31 @@ fn column_in(names: &[u8], other: &[u8], column: usize, name: &[u8]) -> usize
     place_in(names, name)
 }
 
-// The number of the column of that name, counted from 1, or 0.
-pub fn column_of(t: Table, name: &[u8]) -> usize
-    ensures { λ r. ⌜ r ≡ columnNumber t (now (name .entry)) ⌝ }
+fn vehicle_type_column(edition: Edition, name: &[u8]) -> usize
+    ensures { λ r. ⌜ r ≡ columnNumber edition Table.VehicleType (now (name .entry)) ⌝ }
 {
-    match t {
-        Table::VehicleType => column_in(
+    match edition {
+        Edition::Dino21 => column_in(
             &VEHICLE_TYPE_NAMES,
             &VEHICLE_TYPE_OTHER,
             VEHICLE_TYPE_OTHER_COLUMN,
             name,
         ),
+        Edition::Dino23 => column_in(
+            &VEHICLE_TYPE_NAMES_23,
+            &VEHICLE_TYPE_OTHER,
+            VEHICLE_TYPE_OTHER_COLUMN,
+            name,
+        ),
+    }
+}
+
+// The number of the column of that name, counted from 1, or 0.
+pub fn column_of(edition: Edition, t: Table, name: &[u8]) -> usize
+    ensures { λ r. ⌜ r ≡ columnNumber edition t (now (name .entry)) ⌝ }
+{
+    match t {
+        Table::VehicleType => vehicle_type_column(edition, name),
         Table::Depot => column_in(&DEPOT_NAMES, &NO_OTHER, NO_OTHER_COLUMN, name),
         Table::Stop => column_in(&STOP_NAMES, &NO_OTHER, NO_OTHER_COLUMN, name),
         Table::StopPoint => column_in(&STOP_POINT_NAMES, &NO_OTHER, NO_OTHER_COLUMN, name),

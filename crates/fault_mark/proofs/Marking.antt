@@ -19,6 +19,7 @@ use Rattle.cells.specs.Cells.{kind, faulty, cut, cellsOf}
 use Rattle.cells.specs.declared.Kind.{Kind}
 use Rattle.cells.specs.declared.State.{State}
 use Rattle.cells.specs.declared.State.the-variants.{Fresh}
+use Rattle.tables.specs.declared.Edition.the-variants.{Dino21}
 use Rattle.tables.specs.declared.Table.{Table}
 use Rattle.tables.specs.Columns.{numbered}
 use Rattle.tables.specs.declared.Named.{Named}
@@ -140,10 +141,10 @@ module _ (t : Table) (head : Bytes) where
   named-faulty n e = rw e
 
   pub named-wide : 32 < length (cellsOf (cut head)) → columnsNamed t head ≡ []
-  named-wide l = let h : 32 < length (header t (cellsOf (cut head))) = omega (arith, header-length t (cellsOf (cut head))) in rw (lt-ltb 32 (length (header t (cellsOf (cut head)))) h)
+  named-wide l = let h : 32 < length (header Dino21 t (cellsOf (cut head))) = omega (arith, header-length Dino21 t (cellsOf (cut head))) in rw (lt-ltb 32 (length (header Dino21 t (cellsOf (cut head)))) h)
 
-  pub named-few : length (cellsOf (cut head)) ≤ 32 → columnsNamed t head ≡ header t (cellsOf (cut head))
-  named-few l = let h : length (header t (cellsOf (cut head))) ≤ 32 = omega (arith, header-length t (cellsOf (cut head))) in rw (le-ltb 32 (length (header t (cellsOf (cut head)))) h)
+  pub named-few : length (cellsOf (cut head)) ≤ 32 → columnsNamed t head ≡ header Dino21 t (cellsOf (cut head))
+  named-few l = let h : length (header Dino21 t (cellsOf (cut head))) ≤ 32 = omega (arith, header-length Dino21 t (cellsOf (cut head))) in rw (le-ltb 32 (length (header Dino21 t (cellsOf (cut head)))) h)
 
 module _ (second : Bool) (k : ℕ) (named : Header) where
   pub none-found : named ≡ [] → 0 ≡ (if second then secondPlace k named else placeFrom 0 k named)

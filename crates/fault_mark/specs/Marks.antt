@@ -12,6 +12,7 @@ use Rattle.cells.specs.declared.State.{State}
 use Rattle.cells.specs.declared.State.the-variants.{Fresh, Plain, Inside, Closed, Over, Fault}
 use Rattle.cells.specs.Cells.{next, kind, cut, cellsOf}
 use Rattle.cells.specs.declared.Kind.{Kind}
+use Rattle.tables.specs.declared.Edition.the-variants.{Dino21}
 use Rattle.tables.specs.declared.Table.{Table}
 use Rattle.tables.specs.declared.Named.{Named}
 use Rattle.tables.specs.declared.Named.the-variants.{Known, Unknown}
@@ -87,7 +88,7 @@ numberedCell n line = if eqb n 0 then [] else take (cellEnd n line - cellBegin n
 
 -- the columns that a header's cells name; "more than 32 header cells" are not looked at
 abbrev pub columnsNamed : Table → Bytes → Header
-columnsNamed t head = if ltb mostCells (length (header t (cellsOf (cut head)))) then [] else header t (cellsOf (cut head))
+columnsNamed t head = if ltb mostCells (length (header Dino21 t (cellsOf (cut head)))) then [] else header Dino21 t (cellsOf (cut head))
 
 -- the second cell that names a column, 0 where there is none
 abbrev pub secondPlace : ℕ → Header → ℕ

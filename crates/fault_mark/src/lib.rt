@@ -14,6 +14,7 @@ use cells::State;
 use header::BOUNDS;
 use header::MOST_CELLS;
 use refusals::Place;
+use tables::Edition;
 use tables::Named;
 use tables::Table;
 
@@ -169,11 +170,12 @@ fn named_behind(
     behind: usize,
 ) -> usize
     requires { ⌜ MarksOf (now head) (now bounds) cells ⌝ }
-    ensures { λ r. ⌜ r ≡ placeFrom behind column (drop behind (header t (cellsOf (cut (now (head .entry)))))) ⌝ }
+    ensures { λ r. ⌜ r ≡ placeFrom behind column (drop behind (header Edition.Dino21 t (cellsOf (cut (now (head .entry)))))) ⌝ }
 {
     let mut i = behind;
     'names: while i < cells {
         let named = column_names::column_of(
+            Edition::Dino21,
             t,
             contents::stretch_of(cells::cell_of(head, bounds, cells, i + 1)),
         );

@@ -16,6 +16,7 @@ use Rattle.lines.specs.declared.Line.{Line}
 use Rattle.lines.proofs.Lining.{row-lines, room-le}
 use Rattle.lines.proofs.Starting.{head-row}
 use Rattle.cells.specs.Cells.{cut, cellsOf}
+use Rattle.tables.specs.declared.Edition.{Edition}
 use Rattle.tables.specs.Columns.{number}
 use Rattle.tables.specs.declared.Table.{Table}
 use Rattle.header.specs.Header.{Header, mostCells, headerCheck, headerOf}
@@ -31,25 +32,25 @@ headed-check (Fails n k) h = refl
 
 -- the top of a text ---------------------------------------------------------------------------------------------------------------
 
-module _ (t : Table) (s : Bytes) where
-  pub top-long : mostBytes < length s → (top : Top) → top .verdict ≡ placed (number t) 0 textTooLong → TopOf t s top
+module _ (ed : Edition) (t : Table) (s : Bytes) where
+  pub top-long : mostBytes < length s → (top : Top) → top .verdict ≡ placed (number t) 0 textTooLong → TopOf ed t s top
   top-long l top e =
       record {
         is = e ∙ sym (rw (lt-ltb mostBytes (length s) l));
         kept = λ a. let z : _≡_ {A = ℕ} 0 1 = cc in absurd (omega arith);
       }
 
-  module _ (short : length s ≤ mostBytes) (r : Line) (e : r ≡ lineAt s 0) (g : Heading) (is : g ≡ heading t (take (r .end - 0) (drop 0 s))) where
-    heading-is : g ≡ heading t (headLine (lines s))
-    heading-is = is ∙ ap (heading t) (head-row s r e)
+  module _ (short : length s ≤ mostBytes) (r : Line) (e : r ≡ lineAt s 0) (g : Heading) (is : g ≡ heading ed t (take (r .end - 0) (drop 0 s))) where
+    heading-is : g ≡ heading ed t (headLine (lines s))
+    heading-is = is ∙ ap (heading ed t) (head-row s r e)
 
-    heading-check : g .check ≡ headerCheck t (headLine (lines s))
-    heading-check = ap (λ (x : Heading). x .check) heading-is ∙ headed-check (headerCheck t (headLine (lines s))) (headerOf t s)
+    heading-check : g .check ≡ headerCheck ed t (headLine (lines s))
+    heading-check = ap (λ (x : Heading). x .check) heading-is ∙ headed-check (headerCheck ed t (headLine (lines s))) (headerOf ed t s)
 
-    kept-top : (v : Verdict) → headerCheck t (headLine (lines s)) ≡ Passes → TopKept t s (record { verdict = v; at = g .at; next = r .next })
+    kept-top : (v : Verdict) → headerCheck ed t (headLine (lines s)) ≡ Passes → TopKept ed t s (record { verdict = v; at = g .at; next = r .next })
     kept-top v p =
-        let spots : g .at ≡ places (headerOf t s) = ap (λ (x : Heading). x .at) heading-is ∙ names.heading-kept t (headLine (lines s)) p in
-        let many : length (headerOf t s) ≤ mostCells = omega (arith, names.header-length t (cellsOf (cut (headLine (lines s)))), names.header-few t (headLine (lines s)) p) in
+        let spots : g .at ≡ places (headerOf ed t s) = ap (λ (x : Heading). x .at) heading-is ∙ names.heading-kept ed t (headLine (lines s)) p in
+        let many : length (headerOf ed t s) ≤ mostCells = omega (arith, names.header-length ed t (cellsOf (cut (headLine (lines s)))), names.header-few ed t (headLine (lines s)) p) in
         let y : r .next ≡ lineRoom s = ap (λ (x : Line). x .next) e ∙ (omega arith) in
         record {
           short = short;
@@ -59,7 +60,7 @@ module _ (t : Table) (s : Bytes) where
           rest = rw y (sym (row-lines s));
         }
 
-    pub top-headed : (v : Verdict) → v ≡ placed (number t) 1 (g .check) → TopOf t s (record { verdict = v; at = g .at; next = r .next })
+    pub top-headed : (v : Verdict) → v ≡ placed (number t) 1 (g .check) → TopOf ed t s (record { verdict = v; at = g .at; next = r .next })
     top-headed v o =
         record {
           is = o ∙ ap (placed (number t) 1) heading-check ∙ sym (rw (le-ltb mostBytes (length s) short));

@@ -17,6 +17,7 @@ use Rattle.refusals.specs.declared.Check.the-variants.{Passes, Fails}
 use Rattle.lines.specs.Lines.{longLine}
 use Rattle.cells.specs.Cells.{content, stretch, cut, cellsOf}
 use Rattle.cells.specs.Numbered.{cellNumbered}
+use Rattle.tables.specs.declared.Edition.{Edition}
 use Rattle.tables.specs.Columns.{Column, noColumn, columnNumber}
 use Rattle.tables.specs.declared.Table.{Table}
 use Rattle.tables.proofs.Figures.{columns-few}
@@ -195,61 +196,61 @@ missing-end xs k h l = rw (drop-of-length-le xs l)
 
 -- the checks of a header -------------------------------------------------------------------------------------------------------
 
-module _ (t : Table) (h : Header) where
-  pub names-twice : (x : ℕ) → repeated [] h ≡ x → 0 < x → namesCheck t h ≡ columnTwice x
+module _ (ed : Edition) (t : Table) (h : Header) where
+  pub names-twice : (x : ℕ) → repeated [] h ≡ x → 0 < x → namesCheck ed t h ≡ columnTwice x
   names-twice x e p = rw (e, lt-ltb 0 x p)
 
   module _ (e : repeated [] h ≡ 0) where
-    pub names-missing : (m : ℕ) → missing t h ≡ m → (m ≡ 0 → ⊥) → namesCheck t h ≡ columnMissing m
+    pub names-missing : (m : ℕ) → missing ed t h ≡ m → (m ≡ 0 → ⊥) → namesCheck ed t h ≡ columnMissing m
     names-missing m g p = rw (e, g, lt-ltb 0 m (positive m p))
 
-    pub names-pass : missing t h ≡ 0 → namesCheck t h ≡ Passes
+    pub names-pass : missing ed t h ≡ 0 → namesCheck ed t h ≡ Passes
     names-pass g = rw (e, g)
 
-pub header-length : (t : Table) (cs : List Bytes) → length (header t cs) ≡ length cs
-header-length t cs = length-map cs (λ c. columnNumber t (content c))
+pub header-length : (ed : Edition) (t : Table) (cs : List Bytes) → length (header ed t cs) ≡ length cs
+header-length ed t cs = length-map cs (λ c. columnNumber ed t (content c))
 
-pub header-name : (t : Table) (cs : List Bytes) (i : ℕ) → i < length cs → getD (header t cs) i 0 ≡ columnNumber t (content (getD cs i []))
-header-name t [] i l = absurd (omega arith)
-header-name t (c ∷ cs) zero l = refl
-header-name t (c ∷ cs) (suc i) l = header-name t cs i (omega arith)
+pub header-name : (ed : Edition) (t : Table) (cs : List Bytes) (i : ℕ) → i < length cs → getD (header ed t cs) i 0 ≡ columnNumber ed t (content (getD cs i []))
+header-name ed t [] i l = absurd (omega arith)
+header-name ed t (c ∷ cs) zero l = refl
+header-name ed t (c ∷ cs) (suc i) l = header-name ed t cs i (omega arith)
 
 -- the column that a cell names, as it is found by the cell's stretch
-pub name-read : (t : Table) (cs : List Bytes) (i : ℕ) (cell s : Bytes) (x : ℕ) → i < length cs → cell ≡ cellNumbered (i + 1) cs → s ≡ stretch cell → x ≡ columnNumber t s → getD (header t cs) i 0 ≡ x
-name-read t cs i cell s x l c e f =
+pub name-read : (ed : Edition) (t : Table) (cs : List Bytes) (i : ℕ) (cell s : Bytes) (x : ℕ) → i < length cs → cell ≡ cellNumbered (i + 1) cs → s ≡ stretch cell → x ≡ columnNumber ed t s → getD (header ed t cs) i 0 ≡ x
+name-read ed t cs i cell s x l c e f =
     let n : eqb (i + 1) 0 ≡ false = ne-eqb (i + 1) 0 (λ z. omega arith) in
     let m : i + 1 - 1 ≡ i = omega arith in
     let g : getD cs i [] ≡ cell = sym (c ∙ rw (n, m)) in
-    header-name t cs i l ∙ rw (g, number-of-content t cell, ← e, ← f)
+    header-name ed t cs i l ∙ rw (g, number-of-content ed t cell, ← e, ← f)
 
-pub name-few : (t : Table) (s : Bytes) (x : ℕ) → x ≡ columnNumber t s → x < headerPlaces
-name-few t s x e = omega (arith, column-number-most t s, columns-few t)
+pub name-few : (ed : Edition) (t : Table) (s : Bytes) (x : ℕ) → x ≡ columnNumber ed t s → x < headerPlaces
+name-few ed t s x e = omega (arith, column-number-most ed t s, columns-few ed t)
 
 -- a header that passes is kept
-pub names-kept : (t : Table) (h : Header) (at : List ℕ) → repeated [] h ≡ 0 → missing t h ≡ 0 → at ≡ places h → _≡_ {A = Heading} (record { check = Passes; at = at }) (headed (namesCheck t h) h)
-names-kept t h at e g p = rw (names-pass t h e g, p)
+pub names-kept : (ed : Edition) (t : Table) (h : Header) (at : List ℕ) → repeated [] h ≡ 0 → missing ed t h ≡ 0 → at ≡ places h → _≡_ {A = Heading} (record { check = Passes; at = at }) (headed (namesCheck ed t h) h)
+names-kept ed t h at e g p = rw (names-pass ed t h e g, p)
 
-module _ (t : Table) (line : Bytes) where
+module _ (ed : Edition) (t : Table) (line : Bytes) where
   -- 4, 3, 2 come behind 17 and 6
-  header-behind : headerCheck t line ≡ lineCheck line ⊳ (tooManyCells when ltb mostCells (length (header t (cellsOf (cut line)))) ⊳ namesCheck t (header t (cellsOf (cut line))))
+  header-behind : headerCheck ed t line ≡ lineCheck line ⊳ (tooManyCells when ltb mostCells (length (header ed t (cellsOf (cut line)))) ⊳ namesCheck ed t (header ed t (cellsOf (cut line))))
   unfolding headerCheck
-  header-behind = sym (check-order (lineTooLong when longLine line) (badCut (cut line)) (tooManyCells when ltb mostCells (length (header t (cellsOf (cut line)))) ⊳ namesCheck t (header t (cellsOf (cut line)))))
+  header-behind = sym (check-order (lineTooLong when longLine line) (badCut (cut line)) (tooManyCells when ltb mostCells (length (header ed t (cellsOf (cut line)))) ⊳ namesCheck ed t (header ed t (cellsOf (cut line)))))
 
-  pub header-refused : (n k : ℕ) → lineCheck line ≡ Fails n k → headerCheck t line ≡ Fails n k
+  pub header-refused : (n k : ℕ) → lineCheck line ≡ Fails n k → headerCheck ed t line ≡ Fails n k
   header-refused n k e = header-behind ∙ rw e
 
   module _ (e : lineCheck line ≡ Passes) where
-    pub header-wide : mostCells < length (cellsOf (cut line)) → headerCheck t line ≡ tooManyCells
-    header-wide l = header-behind ∙ rw (e, header-length t (cellsOf (cut line)), lt-ltb mostCells (length (cellsOf (cut line))) l)
+    pub header-wide : mostCells < length (cellsOf (cut line)) → headerCheck ed t line ≡ tooManyCells
+    header-wide l = header-behind ∙ rw (e, header-length ed t (cellsOf (cut line)), lt-ltb mostCells (length (cellsOf (cut line))) l)
 
-    pub header-names : length (cellsOf (cut line)) ≤ mostCells → headerCheck t line ≡ namesCheck t (header t (cellsOf (cut line)))
-    header-names l = header-behind ∙ rw (e, header-length t (cellsOf (cut line)), le-ltb mostCells (length (cellsOf (cut line))) l)
+    pub header-names : length (cellsOf (cut line)) ≤ mostCells → headerCheck ed t line ≡ namesCheck ed t (header ed t (cellsOf (cut line)))
+    header-names l = header-behind ∙ rw (e, header-length ed t (cellsOf (cut line)), le-ltb mostCells (length (cellsOf (cut line))) l)
 
   -- a header that passes has at most `mostCells`
-  pub header-few : headerCheck t line ≡ Passes → length (cellsOf (cut line)) ≤ mostCells
+  pub header-few : headerCheck ed t line ≡ Passes → length (cellsOf (cut line)) ≤ mostCells
   header-few p = go (lineCheck line) refl (ltb mostCells (length (cellsOf (cut line)))) refl
     where
-      never : headerCheck t line ≡ Passes → (n k : ℕ) → headerCheck t line ≡ Fails n k → length (cellsOf (cut line)) ≤ mostCells
+      never : headerCheck ed t line ≡ Passes → (n k : ℕ) → headerCheck ed t line ≡ Fails n k → length (cellsOf (cut line)) ≤ mostCells
       never q n k f = let z : _≡_ {A = ℕ} 0 1 = cc in absurd (let y : ⊥ = omega arith in y)
 
       go : (c : Check) → lineCheck line ≡ c → (b : Bool) → ltb mostCells (length (cellsOf (cut line))) ≡ b → length (cellsOf (cut line)) ≤ mostCells
@@ -258,5 +259,5 @@ module _ (t : Table) (line : Bytes) where
       go Passes e true q = never p 4 0 (header-wide e (ltb-true mostCells (length (cellsOf (cut line))) q))
 
 -- what is kept of a header that passes
-pub heading-kept : (t : Table) (line : Bytes) → headerCheck t line ≡ Passes → heading t line .at ≡ places (header t (cellsOf (cut line)))
-heading-kept t line p = rw p
+pub heading-kept : (ed : Edition) (t : Table) (line : Bytes) → headerCheck ed t line ≡ Passes → heading ed t line .at ≡ places (header ed t (cellsOf (cut line)))
+heading-kept ed t line p = rw p

@@ -9,6 +9,7 @@ use borrow.Author.Tests.{eqb-true, not-true}
 use Rattle.words.specs.Words.{Bytes, same, if_then_else_}
 use Rattle.words.proofs.Lists.{and-left, and-right, every}
 use Rattle.cells.specs.Cells.{once, quoted, stretch, content}
+use Rattle.tables.specs.declared.Edition.{Edition}
 use Rattle.tables.specs.Columns.{Column, columnFrom, columnsOf, columnNumber}
 use Rattle.tables.specs.declared.Table.{Table}
 use Rattle.tables.proofs.Names.{quoteless, unquoted, all-unquoted}
@@ -32,13 +33,13 @@ from-once k (x ∷ xs) s e =
     let u = and-left (unquoted x) (every unquoted xs) e in
     rw (same-once s (x .name) (and-left (quoteless (x .name)) (quoteless (x .other)) u), same-once s (x .other) (and-right (quoteless (x .name)) (quoteless (x .other)) u), from-once (suc k) xs s (and-right (unquoted x) (every unquoted xs) e))
 
-pub number-once : (t : Table) (s : Bytes) → columnNumber t (once false s) ≡ columnNumber t s
+pub number-once : (ed : Edition) (t : Table) (s : Bytes) → columnNumber ed t (once false s) ≡ columnNumber ed t s
 unfolding columnNumber
-number-once t s = from-once 1 (columnsOf t) s (all-unquoted t)
+number-once ed t s = from-once 1 (columnsOf ed t) s (all-unquoted ed t)
 
-pub number-of-content : (t : Table) (cell : Bytes) → columnNumber t (content cell) ≡ columnNumber t (stretch cell)
-number-of-content t cell = go (quoted cell)
+pub number-of-content : (ed : Edition) (t : Table) (cell : Bytes) → columnNumber ed t (content cell) ≡ columnNumber ed t (stretch cell)
+number-of-content ed t cell = go (quoted cell)
   where
-    go : (b : Bool) → columnNumber t (if b then once false (if b then take (length cell - 2) (drop 1 cell) else cell) else cell) ≡ columnNumber t (if b then take (length cell - 2) (drop 1 cell) else cell)
-    go true = number-once t (take (length cell - 2) (drop 1 cell))
+    go : (b : Bool) → columnNumber ed t (if b then once false (if b then take (length cell - 2) (drop 1 cell) else cell) else cell) ≡ columnNumber ed t (if b then take (length cell - 2) (drop 1 cell) else cell)
+    go true = number-once ed t (take (length cell - 2) (drop 1 cell))
     go false = refl

@@ -10,6 +10,7 @@ use Rattle.refusals.specs.declared.Check.{Check}
 use Rattle.refusals.specs.declared.Verdict.{Verdict}
 use Rattle.lines.specs.Lines.{lines, headLine, overlong, longLine}
 use Rattle.cells.specs.Cells.{content, Cut, faultyCell, cellsOf, cut}
+use Rattle.tables.specs.declared.Edition.{Edition}
 use Rattle.tables.specs.Columns.{columnNumber, Column, columnsOf, number}
 use Rattle.tables.specs.declared.Table.{Table}
 
@@ -17,8 +18,8 @@ use Rattle.tables.specs.declared.Table.{Table}
 abbrev pub Header : Type 0
 Header = List ℕ
 
-abbrev pub header : Table → List Bytes → Header
-header t cs = map (λ c. columnNumber t (content c)) cs
+abbrev pub header : Edition → Table → List Bytes → Header
+header e t cs = map (λ c. columnNumber e t (content c)) cs
 
 unfoldable pub member : ℕ → List ℕ → Bool
 member k [] = false
@@ -34,8 +35,8 @@ unfoldable pub missingFrom : ℕ → List Column → Header → ℕ
 missingFrom k [] h = 0
 missingFrom k (x ∷ xs) h = if x .rules .required && not (member k h) then k else missingFrom (suc k) xs h
 
-abbrev pub missing : Table → Header → ℕ
-missing t h = missingFrom 1 (columnsOf t) h
+abbrev pub missing : Edition → Table → Header → ℕ
+missing e t h = missingFrom 1 (columnsOf e t) h
 
 -- 6, of any line: "quote or byte fault", at the "cell counted from 1"
 abbrev pub badCut : Cut → Check
@@ -53,15 +54,15 @@ abbrev pub mostCells : ℕ
 mostCells = 32
 
 -- "header 6, 4, 3, 2", and 17 "first among header and line checks"
-unfoldable pub headerCheck : Table → Bytes → Check
-headerCheck t line =
+unfoldable pub headerCheck : Edition → Table → Bytes → Check
+headerCheck e t line =
     let u = cut line in
-    let h = header t (cellsOf u) in
+    let h = header e t (cellsOf u) in
     lineTooLong when longLine line
     ⊳ badCut u
     ⊳ tooManyCells when ltb mostCells (length h)
     ⊳ columnTwice (repeated [] h) when ltb 0 (repeated [] h)
-    ⊳ columnMissing (missing t h) when ltb 0 (missing t h)
+    ⊳ columnMissing (missing e t h) when ltb 0 (missing e t h)
 
 -- the cell of column k; "Optional columns may be missing and then every cell of theirs is empty."
 unfoldable pub under : ℕ → Header → List Bytes → Bytes
@@ -80,18 +81,18 @@ unfoldable pub contentsFrom : ℕ → List Column → Header → List Bytes → 
 contentsFrom k [] h cs = []
 contentsFrom k (x ∷ xs) h cs = content (under k h cs) ∷ contentsFrom (suc k) xs h cs
 
-abbrev pub contents : Table → Header → List Bytes → List Bytes
-contents t h cs = contentsFrom 1 (columnsOf t) h cs
+abbrev pub contents : Edition → Table → Header → List Bytes → List Bytes
+contents e t h cs = contentsFrom 1 (columnsOf e t) h cs
 
 -- the header of a text
-abbrev pub headerOf : Table → Bytes → Header
-headerOf t s = header t (cellsOf (cut (headLine (lines s))))
+abbrev pub headerOf : Edition → Table → Bytes → Header
+headerOf e t s = header e t (cellsOf (cut (headLine (lines s))))
 
 -- "in each 1; header", 17, "6, 4, 3, 2": what is judged before the rows
-abbrev pub topFaults : Table → Bytes → Verdict
-topFaults t s =
+abbrev pub topFaults : Edition → Table → Bytes → Verdict
+topFaults e t s =
     inText (number t) (textTooLong when overlong s)
-    before inHeader (number t) (headerCheck t (headLine (lines s)))
+    before inHeader (number t) (headerCheck e t (headLine (lines s)))
 
 -- the cell of column k, counted from 1, behind i cells; 0 where there is none
 unfoldable pub placeFrom : ℕ → ℕ → Header → ℕ

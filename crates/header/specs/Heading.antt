@@ -12,6 +12,8 @@ use Rattle.refusals.specs.Verdicts.{_⊳_, _when_, columnMissing, columnTwice, 
 use Rattle.lines.specs.Lines.{longLine}
 use Rattle.cells.specs.Cells.{cut, cellsOf}
 use Rattle.cells.specs.Numbered.{MarksOf}
+use Rattle.tables.specs.declared.Edition.{Edition}
+use Rattle.tables.specs.Listing.{columnRoom}
 use Rattle.tables.specs.declared.Table.{Table}
 use Rattle.header.specs.Header.{Header, placeFrom, header, badCut, headerCheck, repeated, missing}
 use Rattle.header.specs.declared.CutLine.{CutLine}
@@ -25,7 +27,7 @@ placesFrom (suc n) k h = placeFrom 0 k h ∷ placesFrom n (suc k) h
 
 -- no table has more columns
 abbrev pub mostColumns : ℕ
-mostColumns = 11
+mostColumns = columnRoom
 
 -- what is kept of a header: its count of cells, and the cell of each column
 abbrev pub headerPlaces : ℕ
@@ -43,8 +45,8 @@ abbrev pub headed : Check → Header → Heading
 headed Passes h = record { check = Passes; at = places h }
 headed (Fails n k) h = record { check = Fails n k; at = replicate headerPlaces 0 }
 
-abbrev pub heading : Table → Bytes → Heading
-heading t line = headed (headerCheck t line) (header t (cellsOf (cut line)))
+abbrev pub heading : Edition → Table → Bytes → Heading
+heading e t line = headed (headerCheck e t line) (header e t (cellsOf (cut line)))
 
 -- the names of a header: the column that comes twice, and the places where none does
 pub record NamesOf (h : Header) (names : Noted) : Type 0 where
@@ -62,7 +64,7 @@ pub record LineCut (line : Bytes) (bounds : List ℕ) (c : CutLine) : Type 0 whe
   pub marks : c .check ≡ Passes → c .cells < length bounds → MarksOf line bounds (c .cells)
 
 -- 3, then 2, of a header's names
-abbrev pub namesCheck : Table → Header → Check
-namesCheck t h =
+abbrev pub namesCheck : Edition → Table → Header → Check
+namesCheck e t h =
     columnTwice (repeated [] h) when ltb 0 (repeated [] h)
-    ⊳ columnMissing (missing t h) when ltb 0 (missing t h)
+    ⊳ columnMissing (missing e t h) when ltb 0 (missing e t h)

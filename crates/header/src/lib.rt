@@ -18,7 +18,9 @@ use lines::MOST_LINE;
 use refusals::Check;
 use refusals::Place;
 use refusals::Verdict;
+use tables::COLUMN_ROOM;
 use tables::Columns;
+use tables::Edition;
 use tables::Table;
 
 // What is kept of a header: at place 0 how many cells it has, and at the place of each column the cell that names it, counted from 1, or 0.
@@ -54,8 +56,8 @@ pub const MOST_CELLS: usize = 32;
 
 pub const BOUNDS: usize = MOST_CELLS + 1;
 
-// The cell count and eleven columns.
-const PLACES: usize = 12;
+// The cell count and the columns.
+const PLACES: usize = COLUMN_ROOM + 1;
 
 const NO_PLACES: Places = [0; PLACES];
 
@@ -105,11 +107,11 @@ fn lacks(required: bool, cell: usize) -> bool
 }
 
 // The lowest required column that no cell names, or 0.
-fn lowest_missing(t: Table, columns: &Columns, at: &Places) -> usize
-    requires { ⌜ now columns ≡ listed t ⌝ }
-    ensures { λ r. ⌜ ((h : List ℕ) → now (at .entry) ≡ places h → r ≡ missing t h) ⌝ }
+fn lowest_missing(edition: Edition, t: Table, columns: &Columns, at: &Places) -> usize
+    requires { ⌜ now columns ≡ listed edition t ⌝ }
+    ensures { λ r. ⌜ ((h : List ℕ) → now (at .entry) ≡ places h → r ≡ missing edition t h) ⌝ }
 {
-    let count = t.columns();
+    let count = t.columns(edition);
     let mut lowest = 0;
     let mut k = 0;
     'columns: while k < count {
@@ -124,9 +126,9 @@ fn lowest_missing(t: Table, columns: &Columns, at: &Places) -> usize
 }
 
 // The names of a header from left to right, up to a known column that comes again.
-fn note_names(line: &[u8], bounds: &[usize], cells: usize, t: Table) -> Noted
+fn note_names(line: &[u8], bounds: &[usize], cells: usize, edition: Edition, t: Table) -> Noted
     requires { ⌜ MarksOf (now line) (now bounds) cells ⌝ }
-    ensures { λ r. ⌜ NamesOf (header t (cellsOf (cut (now (line .entry))))) r ⌝ }
+    ensures { λ r. ⌜ NamesOf (header edition t (cellsOf (cut (now (line .entry))))) r ⌝ }
 {
     let mut at = NO_PLACES;
     at[0] = cells;
@@ -134,6 +136,7 @@ fn note_names(line: &[u8], bounds: &[usize], cells: usize, t: Table) -> Noted
     let mut i = 0;
     'names: while i < cells {
         let column = column_names::column_of(
+            edition,
             t,
             contents::stretch_of(cells::cell_of(line, bounds, cells, i + 1)),
         );
@@ -149,17 +152,24 @@ fn note_names(line: &[u8], bounds: &[usize], cells: usize, t: Table) -> Noted
 }
 
 // 3, 2: the names of a header, and what it lacks.
-fn map_names(line: &[u8], bounds: &[usize], cells: usize, t: Table, columns: &Columns) -> Heading
-    requires { ⌜ MarksOf (now line) (now bounds) cells × (now columns ≡ listed t) ⌝ }
-    ensures { λ r. ⌜ r ≡ headed (namesCheck t (header t (cellsOf (cut (now (line .entry)))))) (header t (cellsOf (cut (now (line .entry))))) ⌝ }
+fn map_names(
+    line: &[u8],
+    bounds: &[usize],
+    cells: usize,
+    edition: Edition,
+    t: Table,
+    columns: &Columns,
+) -> Heading
+    requires { ⌜ MarksOf (now line) (now bounds) cells × (now columns ≡ listed edition t) ⌝ }
+    ensures { λ r. ⌜ r ≡ headed (namesCheck edition t (header edition t (cellsOf (cut (now (line .entry)))))) (header edition t (cellsOf (cut (now (line .entry))))) ⌝ }
 {
-    let names = note_names(line, bounds, cells, t);
+    let names = note_names(line, bounds, cells, edition, t);
     let twice = names.twice;
     let at = names.at;
     if twice != 0 {
         return no_heading(Check::column_twice(wide(twice)));
     }
-    let lowest = lowest_missing(t, columns, &at);
+    let lowest = lowest_missing(edition, t, columns, &at);
     if lowest != 0 {
         return no_heading(Check::column_missing(wide(lowest)));
     }
@@ -193,9 +203,9 @@ pub fn cut_line(line: &[u8], bounds: &mut [usize]) -> CutLine
 }
 
 // 17, 6, 4, 3, 2: a header line.
-pub fn read_header(line: &[u8], t: Table, columns: &Columns) -> Heading
-    requires { ⌜ now columns ≡ listed t ⌝ }
-    ensures { λ r. ⌜ r ≡ heading t (now (line .entry)) ⌝ }
+pub fn read_header(line: &[u8], edition: Edition, t: Table, columns: &Columns) -> Heading
+    requires { ⌜ now columns ≡ listed edition t ⌝ }
+    ensures { λ r. ⌜ r ≡ heading edition t (now (line .entry)) ⌝ }
 {
     let mut bounds = [0usize; BOUNDS];
     let cut = cut_line(line, &mut bounds);
@@ -210,15 +220,15 @@ pub fn read_header(line: &[u8], t: Table, columns: &Columns) -> Heading
             if MOST_CELLS < cells {
                 return no_heading(Check::too_many_cells());
             }
-            map_names(line, &bounds, cells, t, columns)
+            map_names(line, &bounds, cells, edition, t, columns)
         }
     }
 }
 
 // 1 and the header: the top of a table's text.
-pub fn read_top(bytes: &[u8], t: Table, columns: &Columns) -> Top
-    requires { ⌜ now columns ≡ listed t ⌝ }
-    ensures { λ r. ⌜ TopOf t (now (bytes .entry)) r ⌝ }
+pub fn read_top(bytes: &[u8], edition: Edition, t: Table, columns: &Columns) -> Top
+    requires { ⌜ now columns ≡ listed edition t ⌝ }
+    ensures { λ r. ⌜ TopOf edition t (now (bytes .entry)) r ⌝ }
 {
     if MOST_BYTES < bytes.len() {
         let verdict = Check::text_too_long().on(t.number(), Place::NO_LINE);
@@ -231,7 +241,7 @@ pub fn read_top(bytes: &[u8], t: Table, columns: &Columns) -> Top
     let l = lines::next_line(bytes, 0);
     let end = l.end;
     let next = l.next;
-    let heading = read_header(&bytes[0..end], t, columns);
+    let heading = read_header(&bytes[0..end], edition, t, columns);
     let check = heading.check;
     let at = heading.at;
     let verdict = check.on(t.number(), Place::HEADER_LINE);

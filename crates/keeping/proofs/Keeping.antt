@@ -15,6 +15,7 @@ use Rattle.rows.specs.Rows.{wide, rising}
 use Rattle.rows.specs.Room.{filled, used, sameRows}
 use Rattle.rows.specs.Spots.{Holds, holds}
 use Rattle.rows.proofs.Room.{used-within, true-holds, holds-true, sameRows-refl, sameRows-true}
+use Rattle.tables.specs.declared.Edition.the-variants.{Dino21}
 use Rattle.tables.specs.Columns.{inRange, columnsOf, keptWidth, Column, columnAt, noColumn, keyWidth}
 use Rattle.tables.specs.declared.Rules.{Rules}
 use Rattle.tables.specs.declared.Table.{Table}
@@ -76,21 +77,21 @@ pub range-from : (x : Rules) (n : ℕ) → x .low ≤ n → inRange x n ≡ leb 
 range-from x n h = rw (le-leb (x .low) n h)
 
 abbrev pub rangedFrom : ℕ → Table → Row → Bool
-rangedFrom i t row = ranged (drop i (columnsOf t)) (drop i (take (keptWidth t) row))
+rangedFrom i t row = ranged (drop i (columnsOf Dino21 t)) (drop i (take (keptWidth t) row))
 
 module _ (t : Table) (row : Row) (long : length row ≡ 11) (i : ℕ) where
-  ranged-step : i < keptWidth t → rangedFrom i t row ≡ (inRange (columnAt t i .rules) (getD row i 0) && rangedFrom (i + 1) t row)
+  ranged-step : i < keptWidth t → rangedFrom i t row ≡ (inRange (columnAt Dino21 t i .rules) (getD row i 0) && rangedFrom (i + 1) t row)
   unfolding ranged
   ranged-step h =
       let few : keptWidth t ≤ length row = omega (arith, kept-few t) in
-      let c : i < length (columnsOf t) = omega (arith, kept-columns t) in
+      let c : i < length (columnsOf Dino21 t) = omega (arith, kept-columns Dino21 t) in
       let n : i < length (take (keptWidth t) row) = rw (length-take-le (keptWidth t) row few) h in
-      rw (drop-step noColumn (columnsOf t) i c, drop-step 0 (take (keptWidth t) row) i n, getD-take (keptWidth t) row i 0 h)
+      rw (drop-step noColumn (columnsOf Dino21 t) i c, drop-step 0 (take (keptWidth t) row) i n, getD-take (keptWidth t) row i 0 h)
 
-  pub ranged-next : i < keptWidth t → inRange (columnAt t i .rules) (getD row i 0) ≡ true → rangedFrom i t row ≡ rangedFrom (i + 1) t row
+  pub ranged-next : i < keptWidth t → inRange (columnAt Dino21 t i .rules) (getD row i 0) ≡ true → rangedFrom i t row ≡ rangedFrom (i + 1) t row
   ranged-next h e = ranged-step h ∙ rw e
 
-  pub ranged-not : i < keptWidth t → inRange (columnAt t i .rules) (getD row i 0) ≡ false → rangedFrom i t row ≡ false
+  pub ranged-not : i < keptWidth t → inRange (columnAt Dino21 t i .rules) (getD row i 0) ≡ false → rangedFrom i t row ≡ false
   ranged-not h e = ranged-step h ∙ rw e
 
   pub ranged-end : keptWidth t ≤ i → rangedFrom i t row ≡ true
@@ -98,7 +99,7 @@ module _ (t : Table) (row : Row) (long : length row ≡ 11) (i : ℕ) where
   ranged-end h =
       let few : keptWidth t ≤ length row = omega (arith, kept-few t) in
       let n : length (take (keptWidth t) row) ≤ i = rw (length-take-le (keptWidth t) row few) h in
-      rw (drop-of-length-le (take (keptWidth t) row) n) (none (drop i (columnsOf t)))
+      rw (drop-of-length-le (take (keptWidth t) row) n) (none (drop i (columnsOf Dino21 t)))
     where
       none : (xs : List Column) → ranged xs [] ≡ true
       none [] = refl
@@ -110,10 +111,10 @@ module _ (t : Table) (b : Book) (row : Row) where
   pub lawful-rest : same row (wide (take (keptWidth t) row)) ≡ false → lawful t b row ≡ false
   lawful-rest e = rw e
 
-  pub lawful-range : same row (wide (take (keptWidth t) row)) ≡ true → ranged (columnsOf t) (take (keptWidth t) row) ≡ false → lawful t b row ≡ false
+  pub lawful-range : same row (wide (take (keptWidth t) row)) ≡ true → ranged (columnsOf Dino21 t) (take (keptWidth t) row) ≡ false → lawful t b row ≡ false
   lawful-range e f = rw (e, f)
 
-  module _ (e : same row (wide (take (keptWidth t) row)) ≡ true) (f : ranged (columnsOf t) (take (keptWidth t) row) ≡ true) where
+  module _ (e : same row (wide (take (keptWidth t) row)) ≡ true) (f : ranged (columnsOf Dino21 t) (take (keptWidth t) row) ≡ true) where
     pub lawful-time : timeFault t row ≡ true → lawful t b row ≡ false
     lawful-time g = rw (e, f, g)
 

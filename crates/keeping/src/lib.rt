@@ -18,6 +18,7 @@ use rows::NUMBERS;
 use rows::Row;
 use tables::BOOK_ROWS;
 use tables::Columns;
+use tables::Edition;
 use tables::Rules;
 use tables::Table;
 
@@ -32,8 +33,8 @@ fn in_range(rules: Rules, n: u64) -> bool
 
 // Whether each number that the book keeps of a row is in its column's range.
 fn in_ranges(t: Table, columns: &Columns, row: Row) -> bool
-    requires { ⌜ now columns ≡ listed t ⌝ }
-    ensures { λ r. ⌜ r ≡ ranged (columnsOf t) (take (keptWidth t) row) ⌝ }
+    requires { ⌜ now columns ≡ listed Edition.Dino21 t ⌝ }
+    ensures { λ r. ⌜ r ≡ ranged (columnsOf Edition.Dino21 t) (take (keptWidth t) row) ⌝ }
 {
     let n = t.kept();
     let mut within = true;
@@ -67,7 +68,7 @@ fn rest_zero(t: Table, row: Row) -> bool
 
 // Whether a row could stand in its table of this book.
 fn is_lawful(book: &[Row], t: Table, columns: &Columns, row: Row) -> bool
-    requires { ⌜ Sound (now book) × Referable t (bookOf (now book)) × (now columns ≡ listed t) ⌝ }
+    requires { ⌜ Sound (now book) × Referable t (bookOf (now book)) × (now columns ≡ listed Edition.Dino21 t) ⌝ }
     ensures { λ r. ⌜ r ≡ lawful t (bookOf (now (book .entry))) row ⌝ }
 {
     if !rest_zero(t, row) {
@@ -92,7 +93,7 @@ fn lawful_rows(book: &[Row], t: Table) -> bool
     requires { ⌜ Sound (now book) × Referable t (bookOf (now book)) ⌝ }
     ensures { λ r. ⌜ r ≡ all (lawful t (bookOf (now (book .entry)))) (rows t (bookOf (now (book .entry)))) ⌝ }
 {
-    let columns = t.column_rules();
+    let columns = t.column_rules(Edition::Dino21);
     let n = book::count_rows(book, t);
     let mut good = true;
     let mut i = 0;

@@ -20,6 +20,7 @@ use Rattle.cells.specs.Cells.{content, cut, cellsOf}
 use Rattle.numbers.specs.Numbers.{value, valueFrom}
 use Rattle.rows.specs.Rows.{column}
 use Rattle.rows.proofs.Rising.{rising-true}
+use Rattle.tables.specs.declared.Edition.the-variants.{Dino21}
 use Rattle.tables.specs.Columns.{number, numbered, Column, noColumn, columnsOf, columnAt, keptWidth, keyWidth}
 use Rattle.tables.specs.declared.Table.{Table}
 use Rattle.tables.specs.declared.Table.the-variants.{VehicleType, Depot, Stop, StopPoint, Block}
@@ -94,51 +95,51 @@ line-at (l ∷ ls) i h = let m : 2 + i - 1 ≡ suc i = omega arith in rw m
 -- a cell of a line that is accepted ----------------------------------------------------------------------------------------
 
 module _ (t : Table) (s : Bytes) (i n : ℕ) (b : Book)
-    (top : topFaults t s ≡ Accepted) (on : i < length (rowLinesOf s)) (pass : judged t (headerOf t s) (getD (rowLinesOf s) i []) b ≡ Passes) (known-column : n < length (columnsOf t))
+    (top : topFaults Dino21 t s ≡ Accepted) (on : i < length (rowLinesOf s)) (pass : judged t (headerOf Dino21 t s) (getD (rowLinesOf s) i []) b ≡ Passes) (known-column : n < length (columnsOf Dino21 t))
   where
     abbrev line : Bytes
     line = getD (rowLinesOf s) i []
 
     abbrev said : List Bytes
-    said = contents t (headerOf t s) (cellsOf (cut line))
+    said = contents Dino21 t (headerOf Dino21 t s) (cellsOf (cut line))
 
     abbrev rules : Rules
-    rules = columnAt t n .rules
+    rules = columnAt Dino21 t n .rules
 
-    checks : (cutCheck (headerOf t s) line ≡ Passes) × (badCell 1 (columnsOf t) said ≡ Passes)
+    checks : (cutCheck (headerOf Dino21 t s) line ≡ Passes) × (badCell 1 (columnsOf Dino21 t) said ≡ Passes)
     unfolding judged
     checks =
-        let row = rowRead t (headerOf t s) line in
-        let p5 = both (tooManyRows when full t b) (cutCheck (headerOf t s) line ⊳ badCell 1 (columnsOf t) said ⊳ ruled t row b) pass in
-        let p6 = both (cutCheck (headerOf t s) line) (badCell 1 (columnsOf t) said ⊳ ruled t row b) (p5 .1) in
-        (p6 .0, both (badCell 1 (columnsOf t) said) (ruled t row b) (p6 .1) .0)
+        let row = rowRead Dino21 t (headerOf Dino21 t s) line in
+        let p5 = both (tooManyRows when full t b) (cutCheck (headerOf Dino21 t s) line ⊳ badCell 1 (columnsOf Dino21 t) said ⊳ ruled t row b) pass in
+        let p6 = both (cutCheck (headerOf Dino21 t s) line) (badCell 1 (columnsOf Dino21 t) said ⊳ ruled t row b) (p5 .1) in
+        (p6 .0, both (badCell 1 (columnsOf Dino21 t) said) (ruled t row b) (p6 .1) .0)
 
     -- the cell is the one that the reading sees
-    cell-same : cellAt t s (2 + i) (suc n) ≡ under (suc n) (headerOf t s) (cellsOf (cut line))
-    cell-same = ap (λ (l : Bytes). under (suc n) (headerOf t s) (cellsOf (cut l))) (line-at (lines s) i on)
+    cell-same : cellAt t s (2 + i) (suc n) ≡ under (suc n) (headerOf Dino21 t s) (cellsOf (cut line))
+    cell-same = ap (λ (l : Bytes). under (suc n) (headerOf Dino21 t s) (cellsOf (cut l))) (line-at (lines s) i on)
 
-    content-same : getD said n [] ≡ content (under (suc n) (headerOf t s) (cellsOf (cut line)))
+    content-same : getD said n [] ≡ content (under (suc n) (headerOf Dino21 t s) (cellsOf (cut line)))
     content-same =
-        contents-at 1 (columnsOf t) (headerOf t s) (cellsOf (cut line)) n known-column
-        ∙ (let m : 1 + n ≡ suc n = omega arith in ap (λ (k : ℕ). content (under k (headerOf t s) (cellsOf (cut line)))) m)
+        contents-at 1 (columnsOf Dino21 t) (headerOf Dino21 t s) (cellsOf (cut line)) n known-column
+        ∙ (let m : 1 + n ≡ suc n = omega arith in ap (λ (k : ℕ). content (under k (headerOf Dino21 t s) (cellsOf (cut line)))) m)
 
-    good : breaks rules (content (under (suc n) (headerOf t s) (cellsOf (cut line)))) ≡ false
+    good : breaks rules (content (under (suc n) (headerOf Dino21 t s) (cellsOf (cut line)))) ≡ false
     good =
         subst (λ (c : Bytes). breaks rules c ≡ false) content-same
-        (good-at 1 (columnsOf t) said n known-column (omega (arith, known-column, contents-long 1 (columnsOf t) (headerOf t s) (cellsOf (cut line)))) (checks .1))
+        (good-at 1 (columnsOf Dino21 t) said n known-column (omega (arith, known-column, contents-long 1 (columnsOf Dino21 t) (headerOf Dino21 t s) (cellsOf (cut line)))) (checks .1))
 
     decimal-column : n < keptWidth t → (rules .sort ≡ Decimal) × (rules .required ≡ true)
-    decimal-column kept = (kept-decimal t n kept, kept-required t n kept)
+    decimal-column kept = (kept-decimal Dino21 t n kept, kept-required Dino21 t n kept)
 
     -- the number in the row
-    row-number : n < keptWidth t → column (suc n) (rowRead t (headerOf t s) line) ≡ value (content (under (suc n) (headerOf t s) (cellsOf (cut line))))
+    row-number : n < keptWidth t → column (suc n) (rowRead Dino21 t (headerOf Dino21 t s) line) ≡ value (content (under (suc n) (headerOf Dino21 t s) (cellsOf (cut line))))
     unfolding valueFrom
     row-number kept =
         let m : suc n - 1 ≡ n = omega arith in
         let ns : Row = map value (take (keptWidth t) said) in
-        let all : length said ≡ length (columnsOf t) = contents-long 1 (columnsOf t) (headerOf t s) (cellsOf (cut line)) in
-        let long : length ns ≡ keptWidth t = length-map (take (keptWidth t) said) value ∙ length-take-le (keptWidth t) said (omega (arith, kept-columns t)) in
-        ap (λ (k : ℕ). getD (rowRead t (headerOf t s) line) k 0) m
+        let all : length said ≡ length (columnsOf Dino21 t) = contents-long 1 (columnsOf Dino21 t) (headerOf Dino21 t s) (cellsOf (cut line)) in
+        let long : length ns ≡ keptWidth t = length-map (take (keptWidth t) said) value ∙ length-take-le (keptWidth t) said (omega (arith, kept-columns Dino21 t)) in
+        ap (λ (k : ℕ). getD (rowRead Dino21 t (headerOf Dino21 t s) line) k 0) m
         ∙ List·getD-append ns (replicate (11 - length ns) 0) 0 n (omega arith)
         ∙ List·getD-map value (take (keptWidth t) said) n []
         ∙ ap value (getD-take (keptWidth t) said n [] kept ∙ content-same)
@@ -148,31 +149,31 @@ module _ (t : Table) (s : Bytes) (i n : ℕ) (b : Book)
     accepted-cell =
         let m : suc n - 1 ≡ n = omega arith in
         let long : 2 + i ≤ length (lines s) = lines-long (lines s) i on in
-        let known : suc n ≤ length (columnsOf t) = omega (arith, known-column) in
+        let known : suc n ≤ length (columnsOf Dino21 t) = omega (arith, known-column) in
         rw (
           ne-eqb (suc n) 0 (λ z. omega arith),
-          le-ltb (length (columnsOf t)) (suc n) known,
+          le-ltb (length (columnsOf Dino21 t)) (suc n) known,
           top,
           le-ltb (2 + i) 2 (omega arith),
           le-ltb (length (lines s)) (2 + i) long,
           line-at (lines s) i on,
           checks .0,
           m,
-          kept-check (suc n) rules (content (under (suc n) (headerOf t s) (cellsOf (cut line)))) good,
+          kept-check (suc n) rules (content (under (suc n) (headerOf Dino21 t s) (cellsOf (cut line)))) good,
         )
 
-    cell-number : n < keptWidth t → cellSaid (columnAt t (suc n - 1) .rules .sort) (cellStart t s (2 + i) (suc n)) (cellAt t s (2 + i) (suc n)) ≡ Number (column (suc n) (rowRead t (headerOf t s) line))
+    cell-number : n < keptWidth t → cellSaid (columnAt Dino21 t (suc n - 1) .rules .sort) (cellStart t s (2 + i) (suc n)) (cellAt t s (2 + i) (suc n)) ≡ Number (column (suc n) (rowRead Dino21 t (headerOf Dino21 t s) line))
     cell-number kept =
         let m : suc n - 1 ≡ n = omega arith in
-        let c : Bytes = under (suc n) (headerOf t s) (cellsOf (cut line)) in
+        let c : Bytes = under (suc n) (headerOf Dino21 t s) (cellsOf (cut line)) in
         let some : eqb (length (content c)) 0 ≡ false = some-content rules (content c) (eqb (length (content c)) 0) refl (decimal-column kept .1) good in
-        ap (λ (k : ℕ). cellSaid (columnAt t k .rules .sort) (cellStart t s (2 + i) (suc n)) (cellAt t s (2 + i) (suc n))) m
+        ap (λ (k : ℕ). cellSaid (columnAt Dino21 t k .rules .sort) (cellStart t s (2 + i) (suc n)) (cellAt t s (2 + i) (suc n))) m
         ∙ ap (λ (z : Sort). cellSaid z (cellStart t s (2 + i) (suc n)) (cellAt t s (2 + i) (suc n))) (decimal-column kept .0)
         ∙ ap (λ (z : Bytes). cellSaid Decimal (cellStart t s (2 + i) (suc n)) z) cell-same
         ∙ ap (λ (q : Bool). if q then Cell.Empty else Number (value (content c))) some
         ∙ ap (λ (z : ℕ). Number z) (sym (row-number kept))
 
-    cell-answered : n < keptWidth t → cellAsked s (number t) (2 + i) (suc n) ≡ answered Accepted (Number (column (suc n) (rowRead t (headerOf t s) line)))
+    cell-answered : n < keptWidth t → cellAsked s (number t) (2 + i) (suc n) ≡ answered Accepted (Number (column (suc n) (rowRead Dino21 t (headerOf Dino21 t s) line)))
     unfolding cellAsked tableCell
     cell-answered kept =
         ap (λ (z : Named). askedOf z s (2 + i) (suc n)) (numbered-known t)
@@ -184,7 +185,7 @@ module _ (t : Table) (s : Bytes) (i n : ℕ) (b : Book)
 
 -- from the column's number to its place
 module _ (d : Delivery) (b : Book) (t : Table) (i : ℕ) (e : reading d ≡ leaves b) (h : i < length (rowLinesOf (textOf t d))) where
-  line-taken : (x : Book) × (topFaults t (textOf t d) ≡ Accepted) × (judged t (headerOf t (textOf t d)) (getD (rowLinesOf (textOf t d)) i []) x ≡ Passes)
+  line-taken : (x : Book) × (topFaults Dino21 t (textOf t d) ≡ Accepted) × (judged t (headerOf Dino21 t (textOf t d)) (getD (rowLinesOf (textOf t d)) i []) x ≡ Passes)
   line-taken =
       let r : ReadTo t (textOf t d) b = left-by d b e .tables t in
       let f = accepted-exactly t (textOf t d) (r .before) (r .after) .0 (r .read) in
@@ -193,9 +194,9 @@ module _ (d : Delivery) (b : Book) (t : Table) (i : ℕ) (e : reading d ≡ leav
   cells-at : (k : ℕ) → 1 ≤ k → k ≤ keptWidth t → cellAsked (textOf t d) (number t) (2 + i) k ≡ answered Accepted (Number (column k (rowAt t (textOf t d) i)))
   cells-at zero low high = absurd (omega arith)
   cells-at (suc n) low high =
-      cell-answered t (textOf t d) i n (line-taken .0) (line-taken .1) h (line-taken .2) (omega (arith, kept-columns t)) (omega arith)
+      cell-answered t (textOf t d) i n (line-taken .0) (line-taken .1) h (line-taken .2) (omega (arith, kept-columns Dino21 t)) (omega arith)
 
-  accepted-at : (k : ℕ) → 1 ≤ k → k ≤ length (columnsOf t) → cellAsked (textOf t d) (number t) (2 + i) k .verdict ≡ Accepted
+  accepted-at : (k : ℕ) → 1 ≤ k → k ≤ length (columnsOf Dino21 t) → cellAsked (textOf t d) (number t) (2 + i) k .verdict ≡ Accepted
   accepted-at zero low high = absurd (omega arith)
   accepted-at (suc n) low high = cell-accepted t (textOf t d) i n (line-taken .0) (line-taken .1) h (line-taken .2) (omega arith)
 
@@ -208,5 +209,5 @@ cells-agree d b t i k e h low high =
     let x = rows-exactly d b t e in (
       ap cellPaper (cells-at d b t i e h k low high),
       found-copy (keyWidth t) (rowAt t s i) (rows t b) (rising-true (keyWidth t) (rows t b) (left-by d b e .standing t .rising))
-          (omega (arith, x .2 (rowAt t s i), copy-at (rowRead t (headerOf t s)) (rowLinesOf s) i h)),
+          (omega (arith, x .2 (rowAt t s i), copy-at (rowRead Dino21 t (headerOf Dino21 t s)) (rowLinesOf s) i h)),
     )

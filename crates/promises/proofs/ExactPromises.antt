@@ -14,6 +14,7 @@ use Rattle.refusals.specs.declared.Check.the-variants.{Passes, Fails}
 use Rattle.refusals.specs.declared.Verdict.the-variants.{Refused, Accepted}
 use Rattle.refusals.specs.declared.Verdict.{Verdict}
 use Rattle.lines.specs.Lines.{slipLines, overlong}
+use Rattle.tables.specs.declared.Edition.the-variants.{Dino21}
 use Rattle.tables.specs.Columns.{number}
 use Rattle.tables.specs.declared.Table.{Table}
 use Rattle.tables.specs.declared.Table.the-variants.{VehicleType, Depot, Stop, StopPoint, Block}
@@ -96,10 +97,10 @@ module _ (check : Bytes → Book → Check) (step : Bytes → Book → Book) (ta
       rw here (fault-turn (suc i) ls (step l b) p at (omega arith) (rw m at f) (λ j h. u (suc j) (omega arith)))
 
 -- rows and slip lines are so judged
-rows-in-turn : (t : Table) (h : Header) (i : ℕ) (ls : List Bytes) (b : Book) → rowsRead t h i ls b ≡ inTurn (judged t h) (λ l x. entered t (rowRead t h l) x) (number t) i ls b
+rows-in-turn : (t : Table) (h : Header) (i : ℕ) (ls : List Bytes) (b : Book) → rowsRead t h i ls b ≡ inTurn (judged t h) (λ l x. entered t (rowRead Dino21 t h l) x) (number t) i ls b
 unfolding rowsRead lineAfter inTurn
 rows-in-turn t h i [] b = refl
-rows-in-turn t h i (l ∷ ls) b = ap (λ (r : Result). unless (placed (number t) i (judged t h l b)) r) (rows-in-turn t h (suc i) ls (entered t (rowRead t h l) b))
+rows-in-turn t h i (l ∷ ls) b = ap (λ (r : Result). unless (placed (number t) i (judged t h l b)) r) (rows-in-turn t h (suc i) ls (entered t (rowRead Dino21 t h l) b))
 
 slip-in-turn : (i : ℕ) (ls : List Bytes) (b : Book) → linesPosted i ls b ≡ inTurn slipCheck slipLeaves 5 i ls b
 unfolding linesPosted inTurn
@@ -115,14 +116,14 @@ pub accepted-exactly : AcceptedExactly
 unfolding tableRead lineAfter
 accepted-exactly t s b c = (
   λ e. (
-    unrefused (topFaults t s) read c e,
-    turn-faultless (judged t h) (rowStep t s) (number t) 2 ls b c (sym (rows-in-turn t h 2 ls b) ∙ going-on (topFaults t s) read c e),
+    unrefused (topFaults Dino21 t s) read c e,
+    turn-faultless (judged t h) (rowStep t s) (number t) 2 ls b c (sym (rows-in-turn t h 2 ls b) ∙ going-on (topFaults Dino21 t s) read c e),
   ),
   λ f. rw (f .0) (rows-in-turn t h 2 ls b ∙ faultless-turn (judged t h) (rowStep t s) (number t) 2 ls b c (f .1)),
 )
   where
     h : Header
-    h = headerOf t s
+    h = headerOf Dino21 t s
 
     ls : List Bytes
     ls = rowLinesOf s
@@ -136,13 +137,13 @@ refused-at-first t s b p = (
   λ e.
       ⊎-elim (λ v. inl v)
       (λ v. inr (v .0, turn-fault (judged t h) (rowStep t s) (number t) 2 ls b p (sym (rows-in-turn t h 2 ls b) ∙ v .1)))
-      (unless-refused (topFaults t s) (rowsRead t h 2 ls b) p e),
+      (unless-refused (topFaults Dino21 t s) (rowsRead t h 2 ls b) p e),
   ⊎-elim (λ v. rw v)
       (λ v. rw (v .0) (rows-in-turn t h 2 ls b ∙ fault-turn (judged t h) (rowStep t s) (number t) 2 ls b p (v .1 .at) (v .1 .inside) (v .1 .fault) (v .1 .above))),
 )
   where
     h : Header
-    h = headerOf t s
+    h = headerOf Dino21 t s
 
     ls : List Bytes
     ls = rowLinesOf s

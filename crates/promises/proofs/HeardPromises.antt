@@ -18,6 +18,7 @@ use Rattle.refusals.specs.declared.Place.{Place}
 use Rattle.refusals.specs.declared.Verdict.{Verdict}
 use Rattle.refusals.specs.declared.Verdict.the-variants.{Accepted, Refused}
 use Rattle.lines.specs.Lines.{lines, headLine, rowLines, overlong, mostBytes}
+use Rattle.tables.specs.declared.Edition.the-variants.{Dino21}
 use Rattle.tables.specs.Columns.{number}
 use Rattle.tables.specs.declared.Table.{Table}
 use Rattle.tables.specs.declared.Table.the-variants.{VehicleType, Depot, Stop, StopPoint, Block}
@@ -97,7 +98,7 @@ own-unless t i (Fails n k) r h = refl
 own-rows : (t : Table) (h : Header) (i : ℕ) (ls : List Bytes) (b : Book) → Own t (rowsRead t h i ls b)
 unfolding rowsRead
 own-rows t h i [] b = tt
-own-rows t h i (l ∷ ls) b = own-unless t i (judged t h l b) _ (own-rows t h (lineAfter i l) ls (entered t (rowRead t h l) b))
+own-rows t h i (l ∷ ls) b = own-unless t i (judged t h l b) _ (own-rows t h (lineAfter i l) ls (entered t (rowRead Dino21 t h l) b))
 
 unless-before : (v w : Verdict) (r : Result) → unless v (unless w r) ≡ unless (v before w) r
 unless-before Accepted w r = refl
@@ -106,8 +107,8 @@ unless-before (Refused p) w r = refl
 own-table : (t : Table) (s : Bytes) (b : Book) → Own t (tableRead t s b)
 unfolding tableRead
 own-table t s b =
-    subst (Own t) (unless-before (inText (number t) (textTooLong when overlong s)) (inHeader (number t) (headerCheck t (headLine (lines s)))) (rowsRead t (headerOf t s) (lineAfter 1 (headLine (lines s))) (rowLines (lines s)) b))
-    (own-unless t 0 (textTooLong when overlong s) _ (own-unless t 1 (headerCheck t (headLine (lines s))) _ (own-rows t (headerOf t s) (lineAfter 1 (headLine (lines s))) (rowLines (lines s)) b)))
+    subst (Own t) (unless-before (inText (number t) (textTooLong when overlong s)) (inHeader (number t) (headerCheck Dino21 t (headLine (lines s)))) (rowsRead t (headerOf Dino21 t s) (lineAfter 1 (headLine (lines s))) (rowLines (lines s)) b))
+    (own-unless t 0 (textTooLong when overlong s) _ (own-unless t 1 (headerCheck Dino21 t (headLine (lines s))) _ (own-rows t (headerOf Dino21 t s) (lineAfter 1 (headLine (lines s))) (rowLines (lines s)) b)))
 
 own-heard : (t : Table) (a : ℕ) (s : Bytes) (b : Book) → Own t (heard t a s b)
 own-heard t a s b = own-unless t 0 (lengthCheck a (length s)) (tableRead t s b) (own-table t s b)
@@ -176,8 +177,8 @@ unfolding tableRead
 heard-read t a s b e = rw (e, eq-eqb (length s) (length s) refl) (go (ltb mostBytes (length s)))
   where
     go : (q : Bool) →
-        unless (inText (number t) (textTooLong when q ⊳ Passes)) (unless (inText (number t) (textTooLong when q) before inHeader (number t) (headerCheck t (headLine (lines s)))) (rowsRead t (headerOf t s) (lineAfter 1 (headLine (lines s))) (rowLines (lines s)) b))
-        ≡ unless (inText (number t) (textTooLong when q) before inHeader (number t) (headerCheck t (headLine (lines s)))) (rowsRead t (headerOf t s) (lineAfter 1 (headLine (lines s))) (rowLines (lines s)) b)
+        unless (inText (number t) (textTooLong when q ⊳ Passes)) (unless (inText (number t) (textTooLong when q) before inHeader (number t) (headerCheck Dino21 t (headLine (lines s)))) (rowsRead t (headerOf Dino21 t s) (lineAfter 1 (headLine (lines s))) (rowLines (lines s)) b))
+        ≡ unless (inText (number t) (textTooLong when q) before inHeader (number t) (headerCheck Dino21 t (headLine (lines s)))) (rowsRead t (headerOf Dino21 t s) (lineAfter 1 (headLine (lines s))) (rowLines (lines s)) b)
     go true = refl
     go false = refl
 

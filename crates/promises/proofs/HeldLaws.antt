@@ -22,6 +22,7 @@ use Rattle.rows.specs.declared.Order.{Order}
 use Rattle.rows.specs.declared.Order.the-variants.{Less, Same, More}
 use Rattle.rows.proofs.Rising.{rising-inserted, rising-true}
 use Rattle.rows.proofs.Changes.{length-inserted}
+use Rattle.tables.specs.declared.Edition.the-variants.{Dino21}
 use Rattle.tables.specs.Columns.{columnsOf, keptWidth, keyWidth, number}
 use Rattle.tables.specs.declared.Table.{Table}
 use Rattle.tables.specs.Parts.{room as roomOf}
@@ -49,7 +50,7 @@ use Rattle.promises.proofs.LineLaws.{EachUnbroken, lines-written, Unbro
 
 pub record Good (t : Table) (b : Book) (row : Row) : Type 0 where
   pub shape : row ≡ wide (take (keptWidth t) row)
-  pub inside : ranged (columnsOf t) (take (keptWidth t) row) ≡ true
+  pub inside : ranged (columnsOf Dino21 t) (take (keptWidth t) row) ≡ true
   pub timed : timeFault t row ≡ false
   pub known : unknown t row b ≡ Passes
 
@@ -97,7 +98,7 @@ pub record Taken (t : Table) (b : Book) (row : Row) : Type 0 where
   pub room : length (rows t b) < roomOf t
   pub fresh : stands (keyWidth t) row (rows t b) ≡ false
 
-contents-long : (t : Table) (h : Header) (cs : List Bytes) → length (map value (take (keptWidth t) (contents t h cs))) ≡ keptWidth t
+contents-long : (t : Table) (h : Header) (cs : List Bytes) → length (map value (take (keptWidth t) (contents Dino21 t h cs))) ≡ keptWidth t
 unfolding contentsFrom columnsOf
 contents-long VehicleType h cs = refl
 contents-long Depot h cs = refl
@@ -105,14 +106,14 @@ contents-long Stop h cs = refl
 contents-long StopPoint h cs = refl
 contents-long Block h cs = refl
 
-pub judged-taken : (t : Table) (b : Book) (h : Header) (l : Bytes) → judged t h l b ≡ Passes → Taken t b (rowRead t h l)
+pub judged-taken : (t : Table) (b : Book) (h : Header) (l : Bytes) → judged t h l b ≡ Passes → Taken t b (rowRead Dino21 t h l)
 unfolding judged
 judged-taken t b h l p =
-    let cs = contents t h (cellsOf (cut l)) in
-    let row = rowRead t h l in
-    let p5 = both (tooManyRows when full t b) (cutCheck h l ⊳ badCell 1 (columnsOf t) cs ⊳ ruled t row b) p in
-    let p6 = both (cutCheck h l) (badCell 1 (columnsOf t) cs ⊳ ruled t row b) (p5 .1) in
-    let p8 = both (badCell 1 (columnsOf t) cs) (ruled t row b) (p6 .1) in
+    let cs = contents Dino21 t h (cellsOf (cut l)) in
+    let row = rowRead Dino21 t h l in
+    let p5 = both (tooManyRows when full t b) (cutCheck h l ⊳ badCell 1 (columnsOf Dino21 t) cs ⊳ ruled t row b) p in
+    let p6 = both (cutCheck h l) (badCell 1 (columnsOf Dino21 t) cs ⊳ ruled t row b) (p5 .1) in
+    let p8 = both (badCell 1 (columnsOf Dino21 t) cs) (ruled t row b) (p6 .1) in
     let p11 = both (endsEarly when timeFault t row) (keyStands when knows t row b ⊳ unknown t row b) (p8 .1) in
     let p9 = both (keyStands when knows t row b) (unknown t row b) (p11 .1) in
     let ns : Row = map value (take (keptWidth t) cs) in
@@ -122,7 +123,7 @@ judged-taken t b h l p =
       good =
           record {
             shape = ap wide (sym back);
-            inside = rw back (cells-ranged (keptWidth t) 1 (columnsOf t) cs (kept-numeric t) (p8 .0));
+            inside = rw back (cells-ranged (keptWidth t) 1 (columnsOf Dino21 t) cs (kept-numeric t) (p8 .0));
             timed = unfailed 11 11 (timeFault t row) (p11 .0);
             known = p9 .1;
           };
@@ -152,16 +153,16 @@ unfolding rowsRead lineAfter
 held-read t h i [] b c held e =
     let f : b ≡ c = cc in
     subst (λ (z : Book). (z ≡ with-rows t (rows t z) b) × Held t z (rows t z)) f (sym (with-same t b), held)
-held-read t h i (l ∷ ls) b c held e = go (judged t h l b) refl (held-read t h (suc i) ls (entered t (rowRead t h l) b) c) e
+held-read t h i (l ∷ ls) b c held e = go (judged t h l b) refl (held-read t h (suc i) ls (entered t (rowRead Dino21 t h l) b) c) e
   where
     go : (v : Check) → judged t h l b ≡ v →
-        (Held t (entered t (rowRead t h l) b) (rows t (entered t (rowRead t h l) b)) → rowsRead t h (suc i) ls (entered t (rowRead t h l) b) ≡ leaves c →
-        (c ≡ with-rows t (rows t c) (entered t (rowRead t h l) b)) × Held t c (rows t c)) →
-        unless (placed (number t) i (judged t h l b)) (rowsRead t h (suc i) ls (entered t (rowRead t h l) b)) ≡ leaves c →
+        (Held t (entered t (rowRead Dino21 t h l) b) (rows t (entered t (rowRead Dino21 t h l) b)) → rowsRead t h (suc i) ls (entered t (rowRead Dino21 t h l) b) ≡ leaves c →
+        (c ≡ with-rows t (rows t c) (entered t (rowRead Dino21 t h l) b)) × Held t c (rows t c)) →
+        unless (placed (number t) i (judged t h l b)) (rowsRead t h (suc i) ls (entered t (rowRead Dino21 t h l) b)) ≡ leaves c →
         (c ≡ with-rows t (rows t c) b) × Held t c (rows t c)
     go Passes v ih f =
-        let r = ih (held-entered t b (rowRead t h l) (judged-taken t b h l v) held) (rw v at f) in
-        (r .0 ∙ with-with t (rows t c) (inserted (keyWidth t) (rowRead t h l) (rows t b)) b, r .1)
+        let r = ih (held-entered t b (rowRead Dino21 t h l) (judged-taken t b h l v) held) (rw v at f) in
+        (r .0 ∙ with-with t (rows t c) (inserted (keyWidth t) (rowRead Dino21 t h l) (rows t b)) b, r .1)
     go (Fails n k) v ih f =
         let x : refused (place n (number t) i k) ≡ leaves c = rw v at f in
         let z : _≡_ {A = ℕ} 0 1 = cc in let y : ⊥ = omega arith in absurd y
@@ -170,8 +171,8 @@ pub held-table : (t : Table) (s : Bytes) (b c : Book) → Held t b (rows t b) �
     (c ≡ with-rows t (rows t c) b) × Held t c (rows t c)
 unfolding tableRead lineAfter
 held-table t s b c h e =
-    held-read t (headerOf t s) 2 (rowLines (lines s)) b c h
-    (going-on (topFaults t s) (rowsRead t (headerOf t s) 2 (rowLines (lines s)) b) c e)
+    held-read t (headerOf Dino21 t s) 2 (rowLines (lines s)) b c h
+    (going-on (topFaults Dino21 t s) (rowsRead t (headerOf Dino21 t s) 2 (rowLines (lines s)) b) c e)
 
 -- what so stands is read back from its plain form ------------------------------------------------------------------------
 
@@ -240,12 +241,12 @@ table-back t b ys h =
 rows-append : (t : Table) (h : Header) (i : ℕ) (ls ms : List Bytes) (b : Book) → rowsRead t h i (ls ++ ms) b ≡ (rowsRead t h i ls b ▹ rowsRead t h (i + length ls) ms)
 unfolding rowsRead lineAfter
 rows-append t h i [] ms b = let m : i + 0 ≡ i = omega arith in rw m
-rows-append t h i (l ∷ ls) ms b = go (placed (number t) i (judged t h l b)) (rows-append t h (suc i) ls ms (entered t (rowRead t h l) b))
+rows-append t h i (l ∷ ls) ms b = go (placed (number t) i (judged t h l b)) (rows-append t h (suc i) ls ms (entered t (rowRead Dino21 t h l) b))
   where
     go : (v : Verdict) →
-        rowsRead t h (suc i) (ls ++ ms) (entered t (rowRead t h l) b) ≡ (rowsRead t h (suc i) ls (entered t (rowRead t h l) b) ▹ rowsRead t h (suc i + length ls) ms) →
-        unless v (rowsRead t h (suc i) (ls ++ ms) (entered t (rowRead t h l) b))
-        ≡ (unless v (rowsRead t h (suc i) ls (entered t (rowRead t h l) b)) ▹ rowsRead t h (i + suc (length ls)) ms)
+        rowsRead t h (suc i) (ls ++ ms) (entered t (rowRead Dino21 t h l) b) ≡ (rowsRead t h (suc i) ls (entered t (rowRead Dino21 t h l) b) ▹ rowsRead t h (suc i + length ls) ms) →
+        unless v (rowsRead t h (suc i) (ls ++ ms) (entered t (rowRead Dino21 t h l) b))
+        ≡ (unless v (rowsRead t h (suc i) ls (entered t (rowRead Dino21 t h l) b)) ▹ rowsRead t h (i + suc (length ls)) ms)
     go Accepted ih = let m : i + suc (length ls) ≡ suc i + length ls = omega arith in rw m ih
     go (Refused p) ih = refl
 
@@ -259,10 +260,10 @@ unfolding EachUnbroken
 unbroken-last [] l h n = (n, tt)
 unbroken-last (x ∷ xs) l h n = (h .0, unbroken-last xs l (h .1) n)
 
-pub table-more : (t : Table) (b : Book) (ys : List Row) (row : Row) → Held t b ys → Eleven row → ranged (columnsOf t) (take (keptWidth t) row) ≡ true →
+pub table-more : (t : Table) (b : Book) (ys : List Row) (row : Row) → Held t b ys → Eleven row → ranged (columnsOf Dino21 t) (take (keptWidth t) row) ≡ true →
     tableRead t (linesWritten (plainNames t ∷ (map (plainLine t) ys ++ (plainLine t row ∷ [])))) (with-rows t [] b)
     ≡ unless (placed (number t) (2 + length ys) (judged t (plainHeader t) (plainLine t row) (with-rows t ys b)))
-    (leaves (entered t (rowRead t (plainHeader t) (plainLine t row)) (with-rows t ys b)))
+    (leaves (entered t (rowRead Dino21 t (plainHeader t) (plainLine t row)) (with-rows t ys b)))
 unfolding rowsRead lineAfter
 table-more t b ys row h e r =
     let ls : List Bytes = map (plainLine t) ys in

@@ -22,6 +22,7 @@ use Rattle.cells.specs.declared.State.the-variants.{Fresh}
 use Rattle.fields.specs.Fields.{fields}
 use Rattle.numbers.specs.Numbers.{allDigits, valueFrom, value}
 use Rattle.numbers.proofs.Decimals.{digit-more, power-le}
+use Rattle.tables.specs.declared.Edition.the-variants.{Dino21}
 use Rattle.tables.specs.Columns.{Column, columnsOf, references, number, noColumn, columnNumber, columnAt, inRange}
 use Rattle.tables.specs.declared.Rules.{Rules}
 use Rattle.tables.specs.declared.Sort.{Sort}
@@ -125,8 +126,8 @@ given-placed xs table line (Fails n k) p h e =
 -- the checks of rows and of slip lines -------------------------------------------------------------------------------------
 
 -- the columns of a table, and the column of a block's end
-column-any : (t : Table) (j : ℕ) → 1 ≤ j → j < 1 + length (columnsOf t) → anyColumn t j ≡ true
-column-any t j l m = and-both (ltb 0 j) (leb j (length (columnsOf t))) (lt-ltb 0 j l) (le-leb j (length (columnsOf t)) (omega arith))
+column-any : (t : Table) (j : ℕ) → 1 ≤ j → j < 1 + length (columnsOf Dino21 t) → anyColumn t j ≡ true
+column-any t j l m = and-both (ltb 0 j) (leb j (length (columnsOf Dino21 t))) (lt-ltb 0 j l) (le-leb j (length (columnsOf Dino21 t)) (omega arith))
 
 -- digits are no more than their number of nines
 value-below : (s : Bytes) (n i : ℕ) → allDigits s ≡ true → n < 10 ^ i → valueFrom n s < 10 ^ (i + length s)
@@ -163,9 +164,9 @@ module _ (xs : List Numbered) (t : Table)
     (other : (k : ℕ) → numberColumn t k ≡ true → among xs 8 k ≡ true)
     (outside : (k : ℕ) → rangedColumn t k ≡ true → among xs 21 k ≡ true)
   where
-    module _ (i : ℕ) (l : i < length (columnsOf t)) (s : Bytes) where
+    module _ (i : ℕ) (l : i < length (columnsOf Dino21 t)) (s : Bytes) where
       abbrev x : Rules
-      x = columnAt t i .rules
+      x = columnAt Dino21 t i .rules
 
       this : 1 + i - 1 ≡ i
       this = omega arith
@@ -181,7 +182,7 @@ module _ (xs : List Numbered) (t : Table)
               → given xs (notDigits (1 + i) when not d ⊳ outOfRange (1 + i) when not r) ≡ true
           by-digits e w false d r q = other (1 + i) (number-column e)
           by-digits e w true d true q = refl
-          by-digits e w true d false q = outside (1 + i) (and-both (numberColumn t (1 + i)) (rangeNamed (columnAt t (1 + i - 1) .rules)) (number-column e) (rw this (range-named x s d w q)))
+          by-digits e w true d false q = outside (1 + i) (and-both (numberColumn t (1 + i)) (rangeNamed (columnAt Dino21 t (1 + i - 1) .rules)) (number-column e) (rw this (range-named x s d w q)))
 
           by-sort : length s ≤ x .width → (sort : Sort) → x .sort ≡ sort → given xs (saidCheck sort (1 + i) x s) ≡ true
           by-sort w Decimal e = by-digits e w (allDigits s) refl (inRange x (value s)) refl
@@ -193,8 +194,8 @@ module _ (xs : List Numbered) (t : Table)
           by-length false true f = long (1 + i) (column-any t (1 + i) (omega arith) (omega arith))
           by-length false false f = by-sort (ltb-false (x .width) (length s) f) (x .sort) refl
 
-    given-columns : (ss : List Bytes) → given xs (badCell 1 (columnsOf t) ss) ≡ true
-    given-columns ss = given-cells xs 1 (columnsOf t) ss (λ i l s. given-cell i l s)
+    given-columns : (ss : List Bytes) → given xs (badCell 1 (columnsOf Dino21 t) ss) ≡ true
+    given-columns ss = given-cells xs 1 (columnsOf Dino21 t) ss (λ i l s. given-cell i l s)
 
 end-timed : (t : Table) (row : Row) → timeFault t row ≡ true → endColumn t 11 ≡ true
 end-timed VehicleType row e = e
@@ -221,37 +222,37 @@ module _ (t : Table) where
   unfolding judged among
   given-row h l b n =
       let xs = rowNumbers t in
-      let cs = contents t h (cellsOf (cut l)) in
-      let row = rowRead t h l in
+      let cs = contents Dino21 t h (cellsOf (cut l)) in
+      let row = rowRead Dino21 t h l in
       let count = cellCount when not (eqb (length (cellsOf (cut l))) (length h)) in
-      given-chain xs (tooManyRows when full t b) (cutCheck h l ⊳ badCell 1 (columnsOf t) cs ⊳ ruled t row b) (given-when xs 5 0 (full t b) (λ e. refl))
-      (given-chain xs (cutCheck h l) (badCell 1 (columnsOf t) cs ⊳ ruled t row b)
+      given-chain xs (tooManyRows when full t b) (cutCheck h l ⊳ badCell 1 (columnsOf Dino21 t) cs ⊳ ruled t row b) (given-when xs 5 0 (full t b) (λ e. refl))
+      (given-chain xs (cutCheck h l) (badCell 1 (columnsOf Dino21 t) cs ⊳ ruled t row b)
       (given-chain xs (lineTooLong when longLine l) (badCut (cut l) ⊳ count) (given-when xs 17 0 (longLine l) (λ e. refl))
       (given-chain xs (badCut (cut l)) count (given-cut xs l n (λ k e. e))
       (given-when xs 7 0 (not (eqb (length (cellsOf (cut l))) (length h))) (λ e. refl))))
-      (given-chain xs (badCell 1 (columnsOf t) cs) (ruled t row b) (given-columns xs t (λ k e. e) (λ k e. e) (λ k e. e) (λ k e. e) cs)
+      (given-chain xs (badCell 1 (columnsOf Dino21 t) cs) (ruled t row b) (given-columns xs t (λ k e. e) (λ k e. e) (λ k e. e) (λ k e. e) cs)
       (given-ruled xs row b (λ e. e) refl (λ k e. e))))
 
   -- a column that comes twice is one of the table's
-  repeated-most : (seen : List ℕ) (cs : List Bytes) → repeated seen (header t cs) ≤ length (columnsOf t)
+  repeated-most : (seen : List ℕ) (cs : List Bytes) → repeated seen (header Dino21 t cs) ≤ length (columnsOf Dino21 t)
   unfolding repeated
   repeated-most seen [] = omega arith
   repeated-most seen (c ∷ cs) = go (not (eqb k 0) && member k seen) (repeated-most (k ∷ seen) cs)
     where
       k : ℕ
-      k = columnNumber t (content c)
+      k = columnNumber Dino21 t (content c)
 
-      go : (q : Bool) → repeated (k ∷ seen) (header t cs) ≤ length (columnsOf t) → (if q then k else repeated (k ∷ seen) (header t cs)) ≤ length (columnsOf t)
-      go true ih = column-number-most t (content c)
+      go : (q : Bool) → repeated (k ∷ seen) (header Dino21 t cs) ≤ length (columnsOf Dino21 t) → (if q then k else repeated (k ∷ seen) (header Dino21 t cs)) ≤ length (columnsOf Dino21 t)
+      go true ih = column-number-most Dino21 t (content c)
       go false ih = ih
 
-  pub given-header : (l : Bytes) → length l ≤ mostBytes → given (headerNumbers t) (headerCheck t l) ≡ true
+  pub given-header : (l : Bytes) → length l ≤ mostBytes → given (headerNumbers t) (headerCheck Dino21 t l) ≡ true
   unfolding headerCheck among
   given-header l n =
       let xs = headerNumbers t in
       let u = cut l in
-      let h = header t (cellsOf u) in
-      let c2 = columnMissing (missing t h) when ltb 0 (missing t h) in
+      let h = header Dino21 t (cellsOf u) in
+      let c2 = columnMissing (missing Dino21 t h) when ltb 0 (missing Dino21 t h) in
       let c3 = columnTwice (repeated [] h) when ltb 0 (repeated [] h) in
       let c4 = tooManyCells when ltb mostCells (length h) in
       given-chain xs (lineTooLong when longLine l) (badCut u ⊳ c4 ⊳ c3 ⊳ c2) (given-when xs 17 0 (longLine l) (λ e. refl))
@@ -259,7 +260,7 @@ module _ (t : Table) where
       (given-chain xs c4 (c3 ⊳ c2) (given-when xs 4 0 (ltb mostCells (length h)) (λ e. refl))
       (given-chain xs c3 c2
       (given-when xs 3 (repeated [] h) (ltb 0 (repeated [] h)) (λ e. column-any t (repeated [] h) (ltb-true 0 (repeated [] h) e) (omega (arith, repeated-most [] (cellsOf u)))))
-      (given-when xs 2 (missing t h) (ltb 0 (missing t h)) (λ e. rw e (missing-required 0 (columnsOf t) h (ltb-true 0 (missing t h) e) .1))))))
+      (given-when xs 2 (missing Dino21 t h) (ltb 0 (missing Dino21 t h)) (λ e. rw e (missing-required 0 (columnsOf Dino21 t) h (ltb-true 0 (missing Dino21 t h) e) .1))))))
 
 given-line : (w : Wish) (fs : List Bytes) (row : Row) (b : Book) → given slipNumbers (lineJudged w fs row b) ≡ true
 unfolding given among
@@ -291,7 +292,7 @@ module _ (t : Table) (p : Place) where
 
   -- the top of a text: 1 by itself, and else a text that is not too long
   abbrev topOf : Bytes → Bool → Verdict
-  topOf s long = inText (number t) (textTooLong when long) before inHeader (number t) (headerCheck t (headLine (lines s)))
+  topOf s long = inText (number t) (textTooLong when long) before inHeader (number t) (headerCheck Dino21 t (headLine (lines s)))
 
   top-given : (s : Bytes) (q : Bool) → overlong s ≡ q → topOf s q ≡ Refused p → givenIn t (paper (Refused p)) ≡ true
   unfolding among given
@@ -299,7 +300,7 @@ module _ (t : Table) (p : Place) where
   top-given s false f e =
       let short : length s ≤ mostBytes = ltb-false mostBytes (length s) f in
       on-paper (headerNumbers t) 1 (omega arith)
-      (given-placed (headerNumbers t) (number t) 1 (headerCheck t (headLine (lines s))) p (given-header t (headLine (lines s)) (omega (arith, head-within s))) e) refl
+      (given-placed (headerNumbers t) (number t) 1 (headerCheck Dino21 t (headLine (lines s))) p (given-header t (headLine (lines s)) (omega (arith, head-within s))) e) refl
 
   top-short : (s : Bytes) (q : Bool) → overlong s ≡ q → topOf s q ≡ Accepted → length s ≤ mostBytes
   top-short s true f e = let z : _≡_ {A = ℕ} 0 1 = cc in let y : ⊥ = omega arith in absurd y
@@ -314,7 +315,7 @@ module _ (t : Table) (p : Place) where
       let l : Bytes = getD (rowLinesOf s) (f .1 .at) [] in
       let x : Book = onward (rowStep t s) (take (f .1 .at) (rowLinesOf s)) b in
       on-paper (rowNumbers t) (2 + f .1 .at) (omega (arith, rows-few s))
-      (given-placed (rowNumbers t) (number t) (2 + f .1 .at) (judged t (headerOf t s) l x) p (given-row t (headerOf t s) l x (omega (arith, row-within s (f .1 .at)))) (f .1 .fault))
+      (given-placed (rowNumbers t) (number t) (2 + f .1 .at) (judged t (headerOf Dino21 t s) l x) p (given-row t (headerOf Dino21 t s) l x (omega (arith, row-within s (f .1 .at)))) (f .1 .fault))
       (row-line (f .1 .at)))
       (refused-at-first t s b p .0 e)
 
@@ -381,7 +382,7 @@ near-unnamed k e = omega (arith, eqb-true k 0 e)
 near-cell : (k : ℕ) → anyCell k ≡ true → k ≤ suc mostBytes
 near-cell k e = leb-true k (suc mostBytes) (and-right (ltb 0 k) (leb k (suc mostBytes)) e)
 
-columns-few : (t : Table) → length (columnsOf t) ≤ 11
+columns-few : (t : Table) → length (columnsOf Dino21 t) ≤ 11
 unfolding columnsOf
 columns-few VehicleType = omega arith
 columns-few Depot = omega arith
@@ -390,7 +391,7 @@ columns-few StopPoint = omega arith
 columns-few Block = omega arith
 
 near-column : (t : Table) (k : ℕ) → anyColumn t k ≡ true → k ≤ suc mostBytes
-near-column t k e = omega (arith, columns-few t, leb-true k (length (columnsOf t)) (and-right (ltb 0 k) (leb k (length (columnsOf t))) e))
+near-column t k e = omega (arith, columns-few t, leb-true k (length (columnsOf Dino21 t)) (and-right (ltb 0 k) (leb k (length (columnsOf Dino21 t))) e))
 
 -- behind the last column none is required, and none is of numbers
 column-inside : (f : Rules → Bool) → f (noColumn .rules) ≡ false → (cols : List Column) (i : ℕ) → f (getD cols i noColumn .rules) ≡ true → i < length cols
@@ -401,14 +402,14 @@ column-inside f none (x ∷ cols) (suc i) e = omega (arith, column-inside f none
 
 near-required : (t : Table) (k : ℕ) → requiredColumn t k ≡ true → k ≤ suc mostBytes
 near-required t k e =
-    omega (arith, columns-few t, column-inside (λ x. x .required) refl (columnsOf t) (k - 1) (and-right (ltb 0 k) (columnAt t (k - 1) .rules .required) e))
+    omega (arith, columns-few t, column-inside (λ x. x .required) refl (columnsOf Dino21 t) (k - 1) (and-right (ltb 0 k) (columnAt Dino21 t (k - 1) .rules .required) e))
 
 near-number : (t : Table) (k : ℕ) → numberColumn t k ≡ true → k ≤ suc mostBytes
 near-number t k e =
-    omega (arith, columns-few t, column-inside (λ x. ofNumbers (x .sort)) refl (columnsOf t) (k - 1) (and-right (ltb 0 k) (ofNumbers (columnAt t (k - 1) .rules .sort)) e))
+    omega (arith, columns-few t, column-inside (λ x. ofNumbers (x .sort)) refl (columnsOf Dino21 t) (k - 1) (and-right (ltb 0 k) (ofNumbers (columnAt Dino21 t (k - 1) .rules .sort)) e))
 
 near-ranged : (t : Table) (k : ℕ) → rangedColumn t k ≡ true → k ≤ suc mostBytes
-near-ranged t k e = near-number t k (and-left (numberColumn t k) (rangeNamed (columnAt t (k - 1) .rules)) e)
+near-ranged t k e = near-number t k (and-left (numberColumn t k) (rangeNamed (columnAt Dino21 t (k - 1) .rules)) e)
 
 near-member : (ks : List ℕ) (k : ℕ) → every (λ j. leb j 11) ks ≡ true → member k ks ≡ true → k ≤ 11
 unfolding member

@@ -19,6 +19,7 @@ use Rattle.cells.specs.Cells.{parted, content, cut, cells, cellsOf}
 use Rattle.numbers.specs.Numbers.{decimal, value}
 use Rattle.numbers.proofs.Writing.{decimal-digits, read-back, decimal-width}
 use Rattle.rows.specs.Rows.{wide}
+use Rattle.tables.specs.declared.Edition.the-variants.{Dino21}
 use Rattle.tables.specs.Columns.{Column, columnsOf, keptWidth, inRange}
 use Rattle.tables.specs.declared.Table.{Table}
 use Rattle.tables.specs.declared.Table.the-variants.{VehicleType, Depot, Stop, StopPoint, Block}
@@ -46,7 +47,7 @@ requiredOf [] = []
 requiredOf (x ∷ xs) = if x .rules .required then x ∷ requiredOf xs else requiredOf xs
 
 abbrev pub plainNames : Table → Bytes
-plainNames t = parted 59 (map (λ x. x .name) (requiredOf (columnsOf t)))
+plainNames t = parted 59 (map (λ x. x .name) (requiredOf (columnsOf Dino21 t)))
 
 abbrev pub plainHeader : Table → Header
 plainHeader VehicleType = 1 ∷ 2 ∷ []
@@ -112,7 +113,7 @@ Numeric (suc n) [] = Unit {0}
 Numeric (suc n) (x ∷ xs) =
     ((w : ℕ) × (x .rules .sort ≡ Decimal) × (x .rules .required ≡ true) × (x .rules .width ≡ suc w) × (x .rules .high < 10 ^ suc w)) × Numeric n xs
 
-pub kept-numeric : (t : Table) → Numeric (keptWidth t) (columnsOf t)
+pub kept-numeric : (t : Table) → Numeric (keptWidth t) (columnsOf Dino21 t)
 unfolding Numeric columnsOf
 kept-numeric VehicleType = ((1, refl, refl, refl, lit< tt), ((7, refl, refl, refl, lit< tt), tt))
 kept-numeric Depot = ((1, refl, refl, refl, lit< tt), ((4, refl, refl, refl, lit< tt), tt))
@@ -211,7 +212,7 @@ absent Stop = behind Stop
 absent StopPoint = []
 absent Block = []
 
-contents-cells : (t : Table) (row : Row) → Eleven row → contents t (plainHeader t) (plainCells t row) ≡ map content (map decimal (take (keptWidth t) row)) ++ absent t
+contents-cells : (t : Table) (row : Row) → Eleven row → contents Dino21 t (plainHeader t) (plainCells t row) ≡ map content (map decimal (take (keptWidth t) row)) ++ absent t
 unfolding contentsFrom under columnsOf
 contents-cells VehicleType row (eleven a b c d e f g h i j k) = refl
 contents-cells Depot row (eleven a b c d e f g h i j k) = refl
@@ -219,10 +220,10 @@ contents-cells Stop row (eleven a b c d e f g h i j k) = refl
 contents-cells StopPoint row (eleven a b c d e f g h i j k) = refl
 contents-cells Block row (eleven a b c d e f g h i j k) = refl
 
-contents-plain : (t : Table) (row : Row) → Eleven row → contents t (plainHeader t) (plainCells t row) ≡ map decimal (take (keptWidth t) row) ++ absent t
+contents-plain : (t : Table) (row : Row) → Eleven row → contents Dino21 t (plainHeader t) (plainCells t row) ≡ map decimal (take (keptWidth t) row) ++ absent t
 contents-plain t row e = contents-cells t row e ∙ ap (λ (l : List Bytes). l ++ absent t) (content-decimals (take (keptWidth t) row))
 
-absent-good : (t : Table) → badCell (1 + keptWidth t) (drop (keptWidth t) (columnsOf t)) (absent t) ≡ Passes
+absent-good : (t : Table) → badCell (1 + keptWidth t) (drop (keptWidth t) (columnsOf Dino21 t)) (absent t) ≡ Passes
 unfolding badCell columnsOf
 absent-good VehicleType = refl
 absent-good Depot = refl
@@ -235,7 +236,7 @@ kept-values t row e =
     let ns : Row = take (keptWidth t) row in
     ap (map value) (take-at (map decimal ns) (absent t) (keptWidth t) (length-map ns decimal ∙ kept-long t row e)) ∙ value-decimals ns
 
-pub row-read : (t : Table) (row : Row) → Eleven row → row ≡ wide (take (keptWidth t) row) → rowRead t (plainHeader t) (plainLine t row) ≡ row
+pub row-read : (t : Table) (row : Row) → Eleven row → row ≡ wide (take (keptWidth t) row) → rowRead Dino21 t (plainHeader t) (plainLine t row) ≡ row
 row-read t row e s = rw (cut-plain t row e, contents-plain t row e, kept-values t row e) (sym s)
 
 cut-counted : (t : Table) (row : Row) → Eleven row → length (plainCells t row) ≡ length (plainHeader t)
@@ -288,7 +289,7 @@ unbroken-plain t ys = (tested (plainNames t) (names-tested t), unbroken-rows t y
 
 -- the names ---------------------------------------------------------------------------------------------------------------
 
-pub names-good : (t : Table) → headerCheck t (plainNames t) ≡ Passes
+pub names-good : (t : Table) → headerCheck Dino21 t (plainNames t) ≡ Passes
 unfolding computed requiredOf
 names-good VehicleType = refl
 names-good Depot = refl
@@ -296,7 +297,7 @@ names-good Stop = refl
 names-good StopPoint = refl
 names-good Block = refl
 
-pub names-read : (t : Table) → header t (cellsOf (cut (plainNames t))) ≡ plainHeader t
+pub names-read : (t : Table) → header Dino21 t (cellsOf (cut (plainNames t))) ≡ plainHeader t
 unfolding computed requiredOf
 names-read VehicleType = refl
 names-read Depot = refl
@@ -334,7 +335,7 @@ row-short (x ∷ xs) (m ∷ ms) rest h r n =
     let on = row-short xs ms rest (h .1) (and-right (inRange (x .rules) m) (ranged xs ms) r) (omega arith) in
     omega (arith, decimal-width (h .0 .0) m within, h .0 .3, on)
 
-line-room : (t : Table) → room (keptWidth t) (columnsOf t) + cellRoom (behind t) ≤ 65
+line-room : (t : Table) → room (keptWidth t) (columnsOf Dino21 t) + cellRoom (behind t) ≤ 65
 unfolding room cellRoom columnsOf
 line-room VehicleType = omega arith
 line-room Depot = omega arith
@@ -342,11 +343,11 @@ line-room Stop = omega arith
 line-room StopPoint = omega arith
 line-room Block = omega arith
 
-pub line-short : (t : Table) (row : Row) → Eleven row → ranged (columnsOf t) (take (keptWidth t) row) ≡ true → length (plainLine t row) ≤ 65
+pub line-short : (t : Table) (row : Row) → Eleven row → ranged (columnsOf Dino21 t) (take (keptWidth t) row) ≡ true → length (plainLine t row) ≤ 65
 line-short t row e r =
     let n : length (take (keptWidth t) row) ≡ keptWidth t = kept-long t row e in
-    let short : cellRoom (plainCells t row) ≤ room (keptWidth t) (columnsOf t) + cellRoom (behind t) =
-    rw n at (row-short (columnsOf t) (take (keptWidth t) row) (behind t) (rw n (kept-numeric t)) r (rw n (kept-columns t))) in
+    let short : cellRoom (plainCells t row) ≤ room (keptWidth t) (columnsOf Dino21 t) + cellRoom (behind t) =
+    rw n at (row-short (columnsOf Dino21 t) (take (keptWidth t) row) (behind t) (rw n (kept-numeric t)) r (rw n (kept-columns Dino21 t))) in
     omega (arith, parted-short (plainCells t row), short, line-room t)
 
 pub names-short : (t : Table) → length (plainNames t) ≤ 144
@@ -358,12 +359,12 @@ names-short StopPoint = omega arith
 names-short Block = omega arith
 
 -- a plain line has no fault of its own: 17 is never given for it
-pub row-judged : (t : Table) (row : Row) (b : Book) → Eleven row → row ≡ wide (take (keptWidth t) row) → ranged (columnsOf t) (take (keptWidth t) row) ≡ true →
+pub row-judged : (t : Table) (row : Row) (b : Book) → Eleven row → row ≡ wide (take (keptWidth t) row) → ranged (columnsOf Dino21 t) (take (keptWidth t) row) ≡ true →
     judged t (plainHeader t) (plainLine t row) b ≡ tooManyRows when full t b ⊳ ruled t row b
 unfolding judged
 row-judged t row b e s r =
     let n : length (take (keptWidth t) row) ≡ keptWidth t = kept-long t row e in
-    let good : badCell 1 (columnsOf t) (map decimal (take (keptWidth t) row) ++ absent t) ≡ Passes =
-    good-cells 1 (columnsOf t) (take (keptWidth t) row) (absent t) (rw n (kept-numeric t)) r (rw n (absent-good t)) in
+    let good : badCell 1 (columnsOf Dino21 t) (map decimal (take (keptWidth t) row) ++ absent t) ≡ Passes =
+    good-cells 1 (columnsOf Dino21 t) (take (keptWidth t) row) (absent t) (rw n (kept-numeric t)) r (rw n (absent-good t)) in
     let short : length (plainLine t row) ≤ 65 = line-short t row e r in
     rw (le-ltb mostLine (length (plainLine t row)) (omega arith), cut-plain t row e, cut-counted t row e, eq-eqb (length (plainHeader t)) (length (plainHeader t)) refl, contents-plain t row e, good, kept-values t row e, ← s)

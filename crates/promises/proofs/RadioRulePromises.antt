@@ -15,6 +15,7 @@ use Rattle.refusals.specs.declared.Check.the-variants.{Passes, Fails}
 use Rattle.lines.specs.Lines.{mostBytes, mostLine}
 use Rattle.rows.specs.Rows.{stands, inserted, sameKey}
 use Rattle.rows.proofs.Changes.{stands-key, stands-inserted, other-stands-inserted}
+use Rattle.tables.specs.declared.Edition.the-variants.{Dino21}
 use Rattle.tables.specs.Columns.{number, keyWidth, references}
 use Rattle.tables.specs.Parts.{tables}
 use Rattle.tables.specs.declared.Table.{Table}
@@ -80,10 +81,10 @@ module _ (t : Table) (row : Row) (b : Book) where
       (rw rows-with at (held-entered t b row k (s t)))
       (λ u. record { rising = s u .rising; good = good-still u (rows u b) (s u .good); size = s u .size })
 
-pub lawful-entered : (t : Table) (h : Header) (l : Bytes) (b : Book) → lawfulBook b ≡ true → judged t h l b ≡ Passes → lawfulBook (entered t (rowRead t h l) b) ≡ true
+pub lawful-entered : (t : Table) (h : Header) (l : Bytes) (b : Book) → lawfulBook b ≡ true → judged t h l b ≡ Passes → lawfulBook (entered t (rowRead Dino21 t h l) b) ≡ true
 lawful-entered t h l b e p =
-    standing-lawful (entered t (rowRead t h l) b)
-    (standing-entered t (rowRead t h l) b (lawful-standing b e) (judged-taken t b h l p))
+    standing-lawful (entered t (rowRead Dino21 t h l) b)
+    (standing-entered t (rowRead Dino21 t h l) b (lawful-standing b e) (judged-taken t b h l p))
 
 -- a fault of a table that is read ------------------------------------------------------------------------------------------------
 
@@ -145,7 +146,7 @@ line-lawful t n b i head rest line l k = go (eqb i 1) refl
     no-header : (j : ℕ) → 1 ≤ j → (m : Bytes) → eqb (lineAfter j m) 1 ≡ false
     no-header j h m = ne-eqb (lineAfter j m) 1 (λ q. omega (arith, line-after j m))
 
-    head-kept : headerCheck t line ≡ Passes → lawfulHead t (lineAfter 1 line) line ≡ true
+    head-kept : headerCheck Dino21 t line ≡ Passes → lawfulHead t (lineAfter 1 line) line ≡ true
     head-kept e = rw (no-header 1 (omega arith) line, e)
 
     short : length line ≤ mostBytes
@@ -153,7 +154,7 @@ line-lawful t n b i head rest line l k = go (eqb i 1) refl
 
     top : lawfulCourse t (suc n) (headHeard t line b) ≡ true
     top =
-        onward-lawful t (suc n) 1 (headerNumbers t) (header-listed t) (headerCheck t line) (given-header t line short) (going b (lineAfter 1 line) line [])
+        onward-lawful t (suc n) 1 (headerNumbers t) (header-listed t) (headerCheck Dino21 t line) (given-header t line short) (going b (lineAfter 1 line) line [])
         (λ e. is-lawful t (suc n) b (lineAfter 1 line) line [] (record { book = k .book; some = omega (arith, line-after 1 line); few = omega (arith, line-before 1 line, k .some, k .few); top = head-kept e; short = omega arith }))
 
     same-head : eqb i 1 ≡ false → lawfulHead t (lineAfter i line) head ≡ true
@@ -164,9 +165,9 @@ line-lawful t n b i head rest line l k = go (eqb i 1) refl
     row : eqb i 1 ≡ false → lawfulCourse t (suc n) (rowHeard t line b i head) ≡ true
     row q =
         onward-lawful t (suc n) i (rowNumbers t) (row-listed t) (judged t (headerIn t head) line b) (given-row t (headerIn t head) line b short)
-        (going (entered t (rowRead t (headerIn t head) line) b) (lineAfter i line) head [])
+        (going (entered t (rowRead Dino21 t (headerIn t head) line) b) (lineAfter i line) head [])
         (λ e.
-        is-lawful t (suc n) (entered t (rowRead t (headerIn t head) line) b) (lineAfter i line) head []
+        is-lawful t (suc n) (entered t (rowRead Dino21 t (headerIn t head) line) b) (lineAfter i line) head []
         (record { book = lawful-entered t (headerIn t head) line b (k .book) e; some = omega (arith, line-after i line); few = omega (arith, line-before i line, k .few); top = same-head q; short = omega arith }))
 
     go : (q : Bool) → eqb i 1 ≡ q → lawfulCourse t (suc n) (if q then headHeard t line b else rowHeard t line b i head) ≡ true

@@ -15,6 +15,7 @@ use Rattle.rows.specs.declared.Order.the-variants.{Less, Same, More}
 use Rattle.rows.proofs.Changes.{stands-key, found-key, stands-inserted, found-inserted, other-stands-inserted, other-found-inserted, length-inserted}
 use Rattle.rows.proofs.Rising.{Above, Rising}
 use Rattle.rows.proofs.Keys.{order-refl, less-more}
+use Rattle.tables.specs.declared.Edition.the-variants.{Dino21}
 use Rattle.tables.specs.Columns.{keyWidth, number}
 use Rattle.tables.specs.declared.Table.{Table}
 use Rattle.tables.specs.declared.Table.the-variants.{Block, VehicleType}
@@ -75,7 +76,7 @@ pub record Gained (t : Table) (before after : Book) (xs : List Row) : Type 0 whe
   pub standing : (key : Row) → stands (keyWidth t) key (rows t after) ≡ both-stand (keyWidth t) key (rows t before) xs
   pub finding : (key : Row) → found (keyWidth t) key (rows t after) ≡ both-found (keyWidth t) key (rows t before) xs
 
-rows-gained : (t : Table) (h : Header) (i : ℕ) (ls : List Bytes) (b c : Book) → rowsRead t h i ls b ≡ leaves c → Gained t b c (map (rowRead t h) ls)
+rows-gained : (t : Table) (h : Header) (i : ℕ) (ls : List Bytes) (b c : Book) → rowsRead t h i ls b ≡ leaves c → Gained t b c (map (rowRead Dino21 t h) ls)
 unfolding rowsRead lineAfter copies total stands found
 rows-gained t h i [] b c e =
     let f : b ≡ c = cc in
@@ -100,27 +101,27 @@ rows-gained t h i [] b c e =
         go : (q : Bool) → sameKey k key x ≡ q → both-found k key xs [] ≡ found k key xs → both-found k key (x ∷ xs) [] ≡ found k key (x ∷ xs)
         go true q ih = rw q
         go false q ih = rw q ih
-rows-gained t h i (l ∷ ls) b c e = go (judged t h l b) refl (rows-gained t h (suc i) ls (entered t (rowRead t h l) b) c) e
+rows-gained t h i (l ∷ ls) b c e = go (judged t h l b) refl (rows-gained t h (suc i) ls (entered t (rowRead Dino21 t h l) b) c) e
   where
     go : (v : Check) → judged t h l b ≡ v →
-        (rowsRead t h (suc i) ls (entered t (rowRead t h l) b) ≡ leaves c → Gained t (entered t (rowRead t h l) b) c (map (rowRead t h) ls)) →
-        unless (placed (number t) i (judged t h l b)) (rowsRead t h (suc i) ls (entered t (rowRead t h l) b)) ≡ leaves c →
-        Gained t b c (map (rowRead t h) (l ∷ ls))
+        (rowsRead t h (suc i) ls (entered t (rowRead Dino21 t h l) b) ≡ leaves c → Gained t (entered t (rowRead Dino21 t h l) b) c (map (rowRead Dino21 t h) ls)) →
+        unless (placed (number t) i (judged t h l b)) (rowsRead t h (suc i) ls (entered t (rowRead Dino21 t h l) b)) ≡ leaves c →
+        Gained t b c (map (rowRead Dino21 t h) (l ∷ ls))
     go Passes v ih f =
-        let g : Gained t (entered t (rowRead t h l) b) c (map (rowRead t h) ls) = ih (rw v at f) in
-        let a : Taken t b (rowRead t h l) = judged-taken t b h l v in
-        let own : rows t (entered t (rowRead t h l) b) ≡ inserted (keyWidth t) (rowRead t h l) (rows t b) =
-        rows-with t (inserted (keyWidth t) (rowRead t h l) (rows t b)) b in
+        let g : Gained t (entered t (rowRead Dino21 t h l) b) c (map (rowRead Dino21 t h) ls) = ih (rw v at f) in
+        let a : Taken t b (rowRead Dino21 t h l) = judged-taken t b h l v in
+        let own : rows t (entered t (rowRead Dino21 t h l) b) ≡ inserted (keyWidth t) (rowRead Dino21 t h l) (rows t b) =
+        rows-with t (inserted (keyWidth t) (rowRead Dino21 t h l) (rows t b)) b in
         record {
-          many = omega (arith, g .many, ap length own, length-inserted (keyWidth t) (rowRead t h l) (rows t b) (a .fresh));
-          each = λ row. omega (arith, g .each row, ap (copies row) own, fresh (copies row) (copies-weighs row) (keyWidth t) (rowRead t h l) (rows t b) (a .fresh));
-          weighed = λ weight v n. omega (arith, g .weighed weight v n, ap (total weight v n) own, fresh (total weight v n) (total-weighs weight v n) (keyWidth t) (rowRead t h l) (rows t b) (a .fresh));
+          many = omega (arith, g .many, ap length own, length-inserted (keyWidth t) (rowRead Dino21 t h l) (rows t b) (a .fresh));
+          each = λ row. omega (arith, g .each row, ap (copies row) own, fresh (copies row) (copies-weighs row) (keyWidth t) (rowRead Dino21 t h l) (rows t b) (a .fresh));
+          weighed = λ weight v n. omega (arith, g .weighed weight v n, ap (total weight v n) own, fresh (total weight v n) (total-weighs weight v n) (keyWidth t) (rowRead Dino21 t h l) (rows t b) (a .fresh));
           standing = λ key.
-              g .standing key ∙ ap (λ (z : List Row). both-stand (keyWidth t) key z (map (rowRead t h) ls)) own
-              ∙ find-fresh (keyWidth t) key (rowRead t h l) (rows t b) (map (rowRead t h) ls) (a .fresh) .0;
+              g .standing key ∙ ap (λ (z : List Row). both-stand (keyWidth t) key z (map (rowRead Dino21 t h) ls)) own
+              ∙ find-fresh (keyWidth t) key (rowRead Dino21 t h l) (rows t b) (map (rowRead Dino21 t h) ls) (a .fresh) .0;
           finding = λ key.
-              g .finding key ∙ ap (λ (z : List Row). both-found (keyWidth t) key z (map (rowRead t h) ls)) own
-              ∙ find-fresh (keyWidth t) key (rowRead t h l) (rows t b) (map (rowRead t h) ls) (a .fresh) .1;
+              g .finding key ∙ ap (λ (z : List Row). both-found (keyWidth t) key z (map (rowRead Dino21 t h) ls)) own
+              ∙ find-fresh (keyWidth t) key (rowRead Dino21 t h l) (rows t b) (map (rowRead Dino21 t h) ls) (a .fresh) .1;
         }
     go (Fails n k) v ih f =
         let x : refused (place n (number t) i k) ≡ leaves c = rw v at f in
@@ -132,8 +133,8 @@ unfolding tableRead lineAfter
 table-gained d b t e =
     let r : ReadTo t (textOf t d) b = left-by d b e .tables t in
     let s : Bytes = textOf t d in
-    let h : Header = headerOf t s in
-    rows-gained t h 2 (rowLinesOf s) (r .before) (r .after) (going-on (topFaults t s) (rowsRead t h 2 (rowLinesOf s) (r .before)) (r .after) (r .read))
+    let h : Header = headerOf Dino21 t s in
+    rows-gained t h 2 (rowLinesOf s) (r .before) (r .after) (going-on (topFaults Dino21 t s) (rowsRead t h 2 (rowLinesOf s) (r .before)) (r .after) (r .read))
 
 pub rows-exactly : RowsExactly
 unfolding copies

@@ -14,6 +14,7 @@ use Rattle.refusals.specs.Verdicts.{passes, _when_, _before_, nowhere, notThere
 use Rattle.rows.specs.Rows.{wide, rising, column, stands, found}
 use Rattle.rows.specs.Room.{sameRows}
 use Rattle.rows.proofs.Room.{Versioned, sameRows-refl}
+use Rattle.tables.specs.declared.Edition.the-variants.{Dino21}
 use Rattle.tables.specs.Columns.{columnsOf, keyWidth, keptWidth, Column, noColumn, inRange, columnAt}
 use Rattle.tables.specs.Parts.{room}
 use Rattle.tables.specs.declared.Table.{Table}
@@ -41,7 +42,7 @@ use Rattle.promises.proofs.PlainLaws.{Eleven, kept-long}
 module _ (t : Table) (b : Book) where
   lawful-good : (row : Row) → lawful t b row ≡ true → Good t b row
   lawful-good row h =
-      let k = and-four (same row (wide (take (keptWidth t) row))) (ranged (columnsOf t) (take (keptWidth t) row)) (not (timeFault t row)) (passes (unknown t row b)) h in
+      let k = and-four (same row (wide (take (keptWidth t) row))) (ranged (columnsOf Dino21 t) (take (keptWidth t) row)) (not (timeFault t row)) (passes (unknown t row b)) h in
       record {
         shape = same-true row (wide (take (keptWidth t) row)) (k .0);
         inside = k .1;
@@ -88,14 +89,14 @@ first-inside [] ns l m r = absurd (omega arith)
 first-inside (x ∷ xs) [] l m r = absurd (omega arith)
 first-inside (x ∷ xs) (n ∷ ns) l m r = and-left (inRange (x .rules) n) (ranged xs ns) r
 
-first-versioned : (t : Table) (row : Row) → Eleven row → ranged (columnsOf t) (take (keptWidth t) row) ≡ true → 1 ≤ column 1 row
+first-versioned : (t : Table) (row : Row) → Eleven row → ranged (columnsOf Dino21 t) (take (keptWidth t) row) ≡ true → 1 ≤ column 1 row
 first-versioned t row e r =
-    let x : Rules = columnAt t 0 .rules in
+    let x : Rules = columnAt Dino21 t 0 .rules in
     let some : 1 ≤ keptWidth t = omega (arith, keys-some t, keys-kept t) in
     let inside : inRange x (getD (take (keptWidth t) row) 0 0) ≡ true =
-    first-inside (columnsOf t) (take (keptWidth t) row) (omega (arith, kept-columns t)) (omega (arith, kept-long t row e)) r in
+    first-inside (columnsOf Dino21 t) (take (keptWidth t) row) (omega (arith, kept-columns Dino21 t)) (omega (arith, kept-long t row e)) r in
     let low : x .low ≤ getD (take (keptWidth t) row) 0 0 = leb-true (x .low) (getD (take (keptWidth t) row) 0 0) (and-left (leb (x .low) (getD (take (keptWidth t) row) 0 0)) _ inside) in
-    omega (arith, version-low t, getD-take (keptWidth t) row 0 0 some)
+    omega (arith, version-low Dino21 t, getD-take (keptWidth t) row 0 0 some)
 
 versioned : (t : Table) (b : Book) (xs : List Row) → EachGood t b xs → Versioned xs
 unfolding Versioned EachGood

@@ -21,6 +21,7 @@ use Rattle.rows.specs.declared.Order.{Order}
 use Rattle.rows.specs.declared.Order.the-variants.{Less, Same, More}
 use Rattle.rows.proofs.Rising.{rising-removed, rising-replaced}
 use Rattle.rows.proofs.Changes.{length-removed-most, length-replaced}
+use Rattle.tables.specs.declared.Edition.the-variants.{Dino21}
 use Rattle.tables.specs.declared.Table.the-variants.{Block}
 use Rattle.tables.specs.Columns.{columnsOf}
 use Rattle.book.specs.Book.{Book, with-rows, full, knows}
@@ -93,7 +94,7 @@ wished w v e h = rw e h
 pub record Fielded (row : Row) : Type 0 where
   pub numbers : Eleven row
   pub shape : row ≡ wide (take 11 row)
-  pub inside : ranged (columnsOf Block) (take 11 row) ≡ true
+  pub inside : ranged (columnsOf Dino21 Block) (take 11 row) ≡ true
 
 eleven-wide : (row : Row) → Eleven row → row ≡ wide (take 11 row)
 eleven-wide row (eleven a b c d e f g h i j k) = refl
@@ -104,7 +105,7 @@ fielded fs n g =
     let e : Eleven (map value fs) = eleven-long (map value fs) long in
     let whole : take 11 fs ≡ fs = take-all 11 fs (omega arith) in
     let all : take 11 (map value fs) ≡ map value fs = take-all 11 (map value fs) (omega arith) in
-    let r : ranged (columnsOf Block) (map value (take 11 fs)) ≡ true = cells-ranged 11 1 (columnsOf Block) fs (kept-numeric Block) g in
+    let r : ranged (columnsOf Dino21 Block) (map value (take 11 fs)) ≡ true = cells-ranged 11 1 (columnsOf Dino21 Block) fs (kept-numeric Block) g in
     record { numbers = e; shape = eleven-wide (map value fs) e; inside = rw all (rw whole at r) }
 
 -- a line ---------------------------------------------------------------------------------------------------------------------

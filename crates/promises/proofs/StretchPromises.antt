@@ -14,6 +14,7 @@ use Rattle.refusals.specs.declared.Verdict.the-variants.{Accepted, Refused}
 use Rattle.refusals.specs.declared.Cell.{Cell}
 use Rattle.lines.specs.Lines.{lineStart}
 use Rattle.cells.specs.Cells.{once, quoted, stretch, content}
+use Rattle.tables.specs.declared.Edition.the-variants.{Dino21}
 use Rattle.tables.specs.declared.Sort.the-variants.{Text}
 use Rattle.tables.specs.declared.Table.{Table}
 use Rattle.tables.specs.Columns.{columnAt}
@@ -53,8 +54,8 @@ said-stretch s cell at b = go (eqb (length (content cell)) 0) refl (quoted cell)
 
 cell-begins : (t : Table) (s : Bytes) (line k : ℕ) → Begins (drop (cellStart t s line k) s) (cellAt t s line k)
 unfolding lineStart
-cell-begins t s zero k = cell-stands k 0 (headerOf t s) s
-cell-begins t s (suc i) k = let m : suc i - 1 ≡ i = omega arith in rw m (cell-stands k i (headerOf t s) s)
+cell-begins t s zero k = cell-stands k 0 (headerOf Dino21 t s) s
+cell-begins t s (suc i) k = let m : suc i - 1 ≡ i = omega arith in rw m (cell-stands k i (headerOf Dino21 t s) s)
 
 answered-cell : (v : Verdict) (c : Cell) → answered v c .verdict ≡ Accepted → answered v c .cell ≡ c
 answered-cell Accepted c h = refl
@@ -65,7 +66,7 @@ unfolding cellAsked tableCell
 stretches-agree t s line k e h =
     let asked = numbered-known t in
     let v : Verdict = cellVerdict t s line k in
-    let c : Cell = cellSaid (columnAt t (k - 1) .rules .sort) (cellStart t s line k) (cellAt t s line k) in
+    let c : Cell = cellSaid (columnAt Dino21 t (k - 1) .rules .sort) (cellStart t s line k) (cellAt t s line k) in
     let f : answered v c .verdict ≡ Accepted = sym (ap (λ (z : Named). askedOf z s line k .verdict) asked) ∙ h in
     ap (λ (z : Named). stretchOf s (askedOf z s line k .cell)) asked
     ∙ ap (λ (z : Cell). stretchOf s z) (answered-cell v c f)

@@ -18,6 +18,7 @@ use Rattle.cells.specs.Cells.{stretch}
 use Rattle.fields.specs.Fields.{fields}
 use Rattle.rows.specs.Room.{zeros}
 use Rattle.rows.specs.Rows.{rising, stands, found, column, removed, sameKey}
+use Rattle.tables.specs.declared.Edition.the-variants.{Dino21}
 use Rattle.tables.specs.Columns.{number, keyWidth, columnsOf, keptWidth, columnAt, references}
 use Rattle.tables.specs.Parts.{bookRows}
 use Rattle.tables.specs.declared.Table.{Table}
@@ -119,16 +120,16 @@ rangeNamed x = not (eqb (x .low) 0 && eqb (x .high) (10 ^ x .width - 1))
 
 -- a column of the table, a required one, one of numbers, one with a range, one that refers to another table
 abbrev pub anyColumn : Table → ℕ → Bool
-anyColumn t k = ltb 0 k && leb k (length (columnsOf t))
+anyColumn t k = ltb 0 k && leb k (length (columnsOf Dino21 t))
 
 abbrev pub requiredColumn : Table → ℕ → Bool
-requiredColumn t k = ltb 0 k && columnAt t (k - 1) .rules .required
+requiredColumn t k = ltb 0 k && columnAt Dino21 t (k - 1) .rules .required
 
 abbrev pub numberColumn : Table → ℕ → Bool
-numberColumn t k = ltb 0 k && ofNumbers (columnAt t (k - 1) .rules .sort)
+numberColumn t k = ltb 0 k && ofNumbers (columnAt Dino21 t (k - 1) .rules .sort)
 
 abbrev pub rangedColumn : Table → ℕ → Bool
-rangedColumn t k = numberColumn t k && rangeNamed (columnAt t (k - 1) .rules)
+rangedColumn t k = numberColumn t k && rangeNamed (columnAt Dino21 t (k - 1) .rules)
 
 abbrev pub referringColumn : Table → ℕ → Bool
 referringColumn t k = member k (map (λ x. x .column) (references t))
@@ -316,22 +317,22 @@ abbrev pub rowLinesOf : Bytes → List Bytes
 rowLinesOf s = rowLines (lines s)
 
 abbrev pub rowsOf : Table → Bytes → List Row
-rowsOf t s = map (rowRead t (headerOf t s)) (rowLinesOf s)
+rowsOf t s = map (rowRead Dino21 t (headerOf Dino21 t s)) (rowLinesOf s)
 
 -- what a row line leaves
 abbrev pub rowStep : Table → Bytes → Bytes → Book → Book
-rowStep t s l b = entered t (rowRead t (headerOf t s) l) b
+rowStep t s l b = entered t (rowRead Dino21 t (headerOf Dino21 t s) l) b
 
 -- a table is accepted exactly if nothing is wrong before its rows, and no row breaks a rule
 abbrev pub AcceptedExactly : Type 0
 AcceptedExactly = (t : Table) (s : Bytes) (b c : Book) →
-    (tableRead t s b ≡ leaves c) ↔ ((topFaults t s ≡ Accepted) × Faultless (judged t (headerOf t s)) (rowStep t s) (rowLinesOf s) b c)
+    (tableRead t s b ≡ leaves c) ↔ ((topFaults Dino21 t s ≡ Accepted) × Faultless (judged t (headerOf Dino21 t s)) (rowStep t s) (rowLinesOf s) b c)
 
 -- and refused exactly at the first fault
 abbrev pub RefusedAtFirst : Type 0
 RefusedAtFirst = (t : Table) (s : Bytes) (b : Book) (p : Place) →
     (tableRead t s b ≡ refused p)
-    ↔ ((topFaults t s ≡ Refused p) ⊎ ((topFaults t s ≡ Accepted) × FirstFault (judged t (headerOf t s)) (rowStep t s) (number t) 2 (rowLinesOf s) b p))
+    ↔ ((topFaults Dino21 t s ≡ Refused p) ⊎ ((topFaults Dino21 t s ≡ Accepted) × FirstFault (judged t (headerOf Dino21 t s)) (rowStep t s) (number t) 2 (rowLinesOf s) b p))
 
 -- a slip likewise, of at most 65,536 bytes
 abbrev pub SlipAcceptedExactly : Type 0
@@ -419,11 +420,11 @@ BlocksAnswered = (d : Delivery) (b : Book) (version day depot block : ℕ) → r
 
 -- the row of row line i, counted from 0
 abbrev pub rowAt : Table → Bytes → ℕ → Row
-rowAt t s i = rowRead t (headerOf t s) (getD (rowLinesOf s) i [])
+rowAt t s i = rowRead Dino21 t (headerOf Dino21 t s) (getD (rowLinesOf s) i [])
 
 -- "cells .. exactly those of document 01": no cell of an accepted table is refused, on any of its row lines and in any column
 abbrev pub CellsAccepted : Type 0
-CellsAccepted = (d : Delivery) (b : Book) (t : Table) (i k : ℕ) → reading d ≡ leaves b → i < length (rowLinesOf (textOf t d)) → 1 ≤ k → k ≤ length (columnsOf t) →
+CellsAccepted = (d : Delivery) (b : Book) (t : Table) (i k : ℕ) → reading d ≡ leaves b → i < length (rowLinesOf (textOf t d)) → 1 ≤ k → k ≤ length (columnsOf Dino21 t) →
     cellAsked (textOf t d) (number t) (2 + i) k .verdict ≡ Accepted
 
 -- and in a column that the book keeps the answer is the number in that line's row, which stands in the book
@@ -434,7 +435,7 @@ CellsAgree = (d : Delivery) (b : Book) (t : Table) (i k : ℕ) → reading d ≡
 
 -- "The stretch is the caller's own bytes between the quotes, or the whole cell where unquoted": it stands in the text where the answer says
 abbrev pub StretchesAgree : Type 0
-StretchesAgree = (t : Table) (s : Bytes) (line k : ℕ) → columnAt t (k - 1) .rules .sort ≡ sort-is.Text → cellAsked s (number t) line k .verdict ≡ Accepted →
+StretchesAgree = (t : Table) (s : Bytes) (line k : ℕ) → columnAt Dino21 t (k - 1) .rules .sort ≡ sort-is.Text → cellAsked s (number t) line k .verdict ≡ Accepted →
     stretchOf s (cellAsked s (number t) line k .cell) ≡ stretch (cellAt t s line k)
 
 -- the delivery with another text of blocks

@@ -15,6 +15,7 @@ use Rattle.refusals.specs.declared.Check.the-variants.{Passes, Fails}
 use Rattle.refusals.specs.declared.Verdict.{Verdict}
 use Rattle.refusals.specs.declared.Verdict.the-variants.{Accepted, Refused}
 use Rattle.lines.specs.Lines.{headLine, rowLines, mostLine, mostBytes}
+use Rattle.tables.specs.declared.Edition.the-variants.{Dino21}
 use Rattle.tables.specs.Columns.{number}
 use Rattle.tables.specs.declared.Table.{Table}
 use Rattle.book.specs.Book.{Book, entered, full}
@@ -50,7 +51,7 @@ pub long-judged : (t : Table) (h : Header) (l : Bytes) (b : Book) → mostLine <
 unfolding judged
 long-judged t h l b n = rw (lt-ltb mostLine (length l) n)
 
-pub long-headed : (t : Table) (l : Bytes) → mostLine < length l → headerCheck t l ≡ lineTooLong
+pub long-headed : (t : Table) (l : Bytes) → mostLine < length l → headerCheck Dino21 t l ≡ lineTooLong
 unfolding headerCheck
 long-headed t l n = rw (lt-ltb mostLine (length l) n)
 
@@ -101,8 +102,8 @@ module _ (t : Table) (head : Bytes) where
   long-row s l ls b i two n m k =
       rw (row-heard l b i two, long-judged t (headerIn t head) l b n, long-judged t (headerIn t head) m b k) (go (full t b))
     where
-      go : (q : Bool) → finished t (bytesHeard t s (onward (placed (number t) i (tooManyRows when q ⊳ lineTooLong)) (going (entered t (rowRead t (headerIn t head) l) b) (lineAfter i l) head [])))
-          ≡ unless (placed (number t) i (tooManyRows when q ⊳ lineTooLong)) (rowsRead t (headerIn t head) (lineAfter i m) ls (entered t (rowRead t (headerIn t head) m) b))
+      go : (q : Bool) → finished t (bytesHeard t s (onward (placed (number t) i (tooManyRows when q ⊳ lineTooLong)) (going (entered t (rowRead Dino21 t (headerIn t head) l) b) (lineAfter i l) head [])))
+          ≡ unless (placed (number t) i (tooManyRows when q ⊳ lineTooLong)) (rowsRead t (headerIn t head) (lineAfter i m) ls (entered t (rowRead Dino21 t (headerIn t head) m) b))
       go true = finished-stopped t s _
       go false = finished-stopped t s _
 
@@ -117,8 +118,8 @@ module _ (t : Table) (head : Bytes) where
       IH = (c : Book) (j : ℕ) → 2 ≤ j → finished t (bytesHeard t s (going c j head [])) ≡ rowsRead t (headerIn t head) j (linesFrom [] s) c
 
       row : (line : Bytes) (v : Verdict) → IH →
-          finished t (bytesHeard t s (onward v (going (entered t (rowRead t (headerIn t head) line) b) (lineAfter i line) head [])))
-          ≡ unless v (rowsRead t (headerIn t head) (lineAfter i line) (linesFrom [] s) (entered t (rowRead t (headerIn t head) line) b))
+          finished t (bytesHeard t s (onward v (going (entered t (rowRead Dino21 t (headerIn t head) line) b) (lineAfter i line) head [])))
+          ≡ unless v (rowsRead t (headerIn t head) (lineAfter i line) (linesFrom [] s) (entered t (rowRead Dino21 t (headerIn t head) line) b))
       row line Accepted ih = ih _ (lineAfter i line) (omega (arith, line-after i line))
       row line (Refused p) ih = finished-stopped t s p
 
@@ -137,7 +138,7 @@ module _ (t : Table) (head : Bytes) where
 
 -- what the lines of a text come to, below its length
 abbrev pub linesRead : Table → List Bytes → Book → Result
-linesRead t ls b = unless (inHeader (number t) (headerCheck t (headLine ls))) (rowsRead t (headerIn t (headLine ls)) (lineAfter 1 (headLine ls)) (rowLines ls) b)
+linesRead t ls b = unless (inHeader (number t) (headerCheck Dino21 t (headLine ls))) (rowsRead t (headerIn t (headLine ls)) (lineAfter 1 (headLine ls)) (rowLines ls) b)
 
 module _ (t : Table) (head : Bytes) where
   head-heard : (line : Bytes) (b : Book) → lineHeard t line b 1 head ≡ headHeard t line b
@@ -153,8 +154,8 @@ module _ (t : Table) (head : Bytes) where
 
   pub head-over : (s : Bytes) (b : Book) (rest : Bytes) → length rest ≤ keptLine → finished t (bytesHeard t s (going b 1 head rest)) ≡ linesRead t (linesFrom rest s) b
   unfolding bytesHeard linesFrom finished rowsRead byteHeard
-  head-over [] b [] few = rw head-heard (head-result (inHeader (number t) (headerCheck t [])) b [])
-  head-over [] b (x ∷ xs) few = rw head-heard (head-result (inHeader (number t) (headerCheck t (x ∷ xs))) b (x ∷ xs))
+  head-over [] b [] few = rw head-heard (head-result (inHeader (number t) (headerCheck Dino21 t [])) b [])
+  head-over [] b (x ∷ xs) few = rw head-heard (head-result (inHeader (number t) (headerCheck Dino21 t (x ∷ xs))) b (x ∷ xs))
   head-over (x ∷ s) b rest few = go (endsLine rest x) refl (ltb (length rest) keptLine) refl (head-over s b (rest ++ (x ∷ [])))
     where
       top : (line : Bytes) (v : Verdict) →
@@ -166,7 +167,7 @@ module _ (t : Table) (head : Bytes) where
           (length (rest ++ (x ∷ [])) ≤ keptLine → finished t (bytesHeard t s (going b 1 head (rest ++ (x ∷ [])))) ≡ linesRead t (linesFrom (rest ++ (x ∷ [])) s) b) →
           finished t (bytesHeard t s (byteHeard t x (going b 1 head rest)))
           ≡ linesRead t (if q then ended rest ∷ linesFrom [] s else linesFrom (rest ++ (x ∷ [])) s) b
-      go true e u f more = rw (e, head-heard (ended rest) b) (top (ended rest) (inHeader (number t) (headerCheck t (ended rest))))
+      go true e u f more = rw (e, head-heard (ended rest) b) (top (ended rest) (inHeader (number t) (headerCheck Dino21 t (ended rest))))
       go false e true f more = rw (e, f) (more (rw length-append (omega (arith, ltb-true (length rest) keptLine f))))
       go false e false f more =
           let long : (suc keptLine) ≤ length (rest ++ (x ∷ [])) = rw length-append (omega (arith, ltb-false (length rest) keptLine f)) in
@@ -190,7 +191,7 @@ unfolding lineHeard
 own-line t line b i head = go (eqb i 1)
   where
     go : (q : Bool) → faultBefore t (if q then headHeard t line b else rowHeard t line b i head) ≡ false
-    go true = own-onward t 1 (headerCheck t line) b (lineAfter 1 line) line []
+    go true = own-onward t 1 (headerCheck Dino21 t line) b (lineAfter 1 line) line []
     go false = own-onward t i (judged t (headerIn t head) line b) _ (lineAfter i line) head []
 
 own-byte : (t : Table) (x : ℕ) (c : Course) → faultBefore t c ≡ false → faultBefore t (byteHeard t x c) ≡ false

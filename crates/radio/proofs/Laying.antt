@@ -14,6 +14,7 @@ use Rattle.refusals.specs.Verdicts.{passes, lineTooLong}
 use Rattle.lines.specs.Lines.{mostLine}
 use Rattle.rows.specs.Room.{sameRows}
 use Rattle.rows.proofs.Room.{sameRows-refl, sameRows-true}
+use Rattle.tables.specs.declared.Edition.the-variants.{Dino21}
 use Rattle.tables.specs.Parts.{bookRows}
 use Rattle.tables.specs.declared.Table.{Table}
 use Rattle.tables.specs.declared.Table.the-variants.{VehicleType, Depot, Stop, StopPoint, Block}
@@ -60,15 +61,15 @@ head-short t i head e = go (eqb i 1) e
     none-short [] f = omega arith
     none-short (x ∷ xs) f = let z : _≡_ {A = ℕ} 0 1 = cc in let y : ⊥ = omega arith in absurd y
 
-    passed-short : (q : Bool) → ltb mostLine (length head) ≡ q → passes (headerCheck t head) ≡ true → length head ≤ mostLine
+    passed-short : (q : Bool) → ltb mostLine (length head) ≡ q → passes (headerCheck Dino21 t head) ≡ true → length head ≤ mostLine
     passed-short true f p =
-        let long : headerCheck t head ≡ lineTooLong = long-headed t head (ltb-true mostLine (length head) f) in
+        let long : headerCheck Dino21 t head ≡ lineTooLong = long-headed t head (ltb-true mostLine (length head) f) in
         let z : _≡_ {A = ℕ} 0 1 = cc in
         let y : ⊥ = omega arith in
         absurd y
     passed-short false f p = ltb-false mostLine (length head) f
 
-    go : (q : Bool) → (if q then none head else passes (headerCheck t head)) ≡ true → length head ≤ mostLine
+    go : (q : Bool) → (if q then none head else passes (headerCheck Dino21 t head)) ≡ true → length head ≤ mostLine
     go true f = none-short head f
     go false f = passed-short (ltb mostLine (length head)) refl f
 

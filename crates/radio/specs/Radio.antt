@@ -12,6 +12,7 @@ use Rattle.refusals.specs.declared.Verdict.{Verdict}
 use Rattle.refusals.specs.declared.Verdict.the-variants.{Accepted, Refused}
 use Rattle.lines.specs.Lines.{mostBytes, mostLine}
 use Rattle.cells.specs.Cells.{cut, cellsOf}
+use Rattle.tables.specs.declared.Edition.the-variants.{Dino21}
 use Rattle.tables.specs.Columns.{number}
 use Rattle.tables.specs.declared.Table.{Table}
 use Rattle.tables.specs.declared.Table.the-variants.{VehicleType, Depot, Stop, StopPoint, Block}
@@ -87,16 +88,16 @@ onward Accepted c = c
 onward (Refused p) c = stopped p
 
 abbrev pub headerIn : Table → Bytes → Header
-headerIn t head = header t (cellsOf (cut head))
+headerIn t head = header Dino21 t (cellsOf (cut head))
 
 -- a line that is whole. "Line 1 is the header."
 abbrev pub headHeard : Table → Bytes → Book → Course
-headHeard t line b = onward (inHeader (number t) (headerCheck t line)) (going b (lineAfter 1 line) line [])
+headHeard t line b = onward (inHeader (number t) (headerCheck Dino21 t line)) (going b (lineAfter 1 line) line [])
 
 -- and any other is a row, judged on the book as the earlier ones left it
 abbrev pub rowHeard : Table → Bytes → Book → ℕ → Bytes → Course
 rowHeard t line b i head =
-    onward (placed (number t) i (judged t (headerIn t head) line b)) (going (entered t (rowRead t (headerIn t head) line) b) (lineAfter i line) head [])
+    onward (placed (number t) i (judged t (headerIn t head) line b)) (going (entered t (rowRead Dino21 t (headerIn t head) line) b) (lineAfter i line) head [])
 
 unfoldable pub lineHeard : Table → Bytes → Book → ℕ → Bytes → Course
 lineHeard t line b i head = if eqb i 1 then headHeard t line b else rowHeard t line b i head

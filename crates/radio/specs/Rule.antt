@@ -7,6 +7,7 @@ use lib.ListN.{length}
 use Rattle.words.specs.Words.{Bytes, if_then_else_}
 use Rattle.refusals.specs.Verdicts.{passes}
 use Rattle.refusals.specs.declared.Place.{Place}
+use Rattle.tables.specs.declared.Edition.the-variants.{Dino21}
 use Rattle.tables.specs.Columns.{number}
 use Rattle.tables.specs.Parts.{tables}
 use Rattle.tables.specs.declared.Table.{Table}
@@ -31,7 +32,7 @@ lawfulResult (leaves b) = lawfulBook b
 
 -- a header line that is kept has passed its checks
 abbrev pub lawfulHead : Table → ℕ → Bytes → Bool
-lawfulHead t i head = if eqb i 1 then none head else passes (headerCheck t head)
+lawfulHead t i head = if eqb i 1 then none head else passes (headerCheck Dino21 t head)
 
 -- no more lines, and bytes behind them, than bytes came; and room for the unfinished line
 abbrev pub lawfulCourse : Table → ℕ → Course → Bool

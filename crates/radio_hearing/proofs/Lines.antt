@@ -16,6 +16,7 @@ use Rattle.lines.specs.Ends.{lineAt, slipLineAt, lineLength, slipLength}
 use Rattle.lines.specs.declared.Line.{Line}
 use Rattle.numbers.specs.Putting.{put}
 use Rattle.numbers.proofs.Putting.{rest, back, length-rest, length-back}
+use Rattle.tables.specs.declared.Edition.the-variants.{Dino21}
 use Rattle.tables.specs.Parts.{room}
 use Rattle.tables.specs.declared.Table.{Table}
 use Rattle.book.specs.Book.{Book}
@@ -68,7 +69,7 @@ module _ (t : Table) (from : Heard) (book : List Row) (lines : Bytes) (hold : Ho
           rests = omega arith;
           begun = hold .begun;
           first = hold .first;
-          headed = λ m. ap (headerCheck t) heads ∙ hold .headed m;
+          headed = λ m. ap (headerCheck Dino21 t) heads ∙ hold .headed m;
         };
       }
     where

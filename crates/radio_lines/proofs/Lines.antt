@@ -18,6 +18,7 @@ use Rattle.refusals.proofs.Placing.{placed-passes}
 use Rattle.lines.specs.Lines.{mostLine, lines as linesOf}
 use Rattle.numbers.specs.Putting.{put}
 use Rattle.numbers.proofs.Putting.{rest}
+use Rattle.tables.specs.declared.Edition.the-variants.{Dino21}
 use Rattle.tables.specs.Columns.{number}
 use Rattle.tables.specs.Parts.{room}
 use Rattle.tables.specs.declared.Table.{Table}
@@ -69,7 +70,7 @@ stopped-came t v c k book lines i head rest = record { is = rw (k .refused) (sym
 
 -- the header --------------------------------------------------------------------------------------------------------------------------
 
-pub head-short : (t : Table) (l : Bytes) → headerCheck t l ≡ Passes → length l ≤ mostLine
+pub head-short : (t : Table) (l : Bytes) → headerCheck Dino21 t l ≡ Passes → length l ≤ mostLine
 head-short t l p = go (ltb mostLine (length l)) refl
   where
     never : {A : Type 0} → lineTooLong ≡ Passes → A
@@ -79,7 +80,7 @@ head-short t l p = go (ltb mostLine (length l)) refl
     go true e = never (sym (long-headed t l (ltb-true mostLine (length l) e)) ∙ p)
     go false e = ltb-false mostLine (length l) e
 
-module _ (t : Table) (line : Bytes) (from : Heard) (book : List Row) (lines lines′ : Bytes) (hold : Holding t from book lines) (v : Verdict) (o : v ≡ inHeader (number t) (headerCheck t line))
+module _ (t : Table) (line : Bytes) (from : Heard) (book : List Row) (lines lines′ : Bytes) (hold : Holding t from book lines) (v : Verdict) (o : v ≡ inHeader (number t) (headerCheck Dino21 t line))
     (w : v ≡ Accepted → lines′ ≡ put line lines) (one : from .line ≡ 1) where
   abbrev behind : Heard
   behind = record { verdict = v; line = from .line + 1; head = length line; rest = 0 }
@@ -92,13 +93,13 @@ module _ (t : Table) (line : Bytes) (from : Heard) (book : List Row) (lines line
   line-kept a = ap (take (length line)) (w a) ∙ take-append-seam line (drop (length line) lines)
 
   pub head-came : CameTo t (lineHeard t line (bookOf book) (from .line) (take (from .head) lines)) book lines′ behind
-  head-came = record { is = go v refl ∙ sym head-is; holds = λ a. holds a (placed-passes (number t) 1 (headerCheck t line) (sym o ∙ a)) }
+  head-came = record { is = go v refl ∙ sym head-is; holds = λ a. holds a (placed-passes (number t) 1 (headerCheck Dino21 t line) (sym o ∙ a)) }
     where
       go : (u : Verdict) → v ≡ u → courseHeld u (from .line + 1) (length line) 0 book lines′ ≡ onward u (going (bookOf book) (from .line + 1) line [])
       go Accepted e = ap (λ (z : Bytes). going (bookOf book) (from .line + 1) z []) (line-kept e)
       go (Refused p) e = refl
 
-      holds : v ≡ Accepted → headerCheck t line ≡ Passes → Holding t behind book lines′
+      holds : v ≡ Accepted → headerCheck Dino21 t line ≡ Passes → Holding t behind book lines′
       holds a p =
           record {
             sound = hold .sound;
@@ -108,7 +109,7 @@ module _ (t : Table) (line : Bytes) (from : Heard) (book : List Row) (lines line
             rests = omega arith;
             begun = omega arith;
             first = λ e. absurd (omega arith);
-            headed = λ n. ap (headerCheck t) (line-kept a) ∙ p;
+            headed = λ n. ap (headerCheck Dino21 t) (line-kept a) ∙ p;
           }
 
 -- rows --------------------------------------------------------------------------------------------------------------------------------
@@ -142,7 +143,7 @@ module _ (t : Table) (from : Heard) (book book′ : List Row) (lines : Bytes) (h
 
   -- a line under the header that is kept, which is lent as `front`
   pub row-came : (line front : Bytes) → front ≡ head → (from .line ≡ 1 → ⊥)
-      → resultOf v book′ ≡ unless (placed (number t) (from .line) (judged t (headerIn t front) line (bookOf book))) (leaves (entered t (rowRead t (headerIn t front) line) (bookOf book)))
+      → resultOf v book′ ≡ unless (placed (number t) (from .line) (judged t (headerIn t front) line (bookOf book))) (leaves (entered t (rowRead Dino21 t (headerIn t front) line) (bookOf book)))
       → CameTo t (lineHeard t line (bookOf book) (from .line) head) book′ lines (record { verdict = v; line = from .line + 1; head = from .head; rest = 0 })
   row-came line front f n e =
       record {
@@ -157,7 +158,7 @@ module _ (t : Table) (from : Heard) (book book′ : List Row) (lines : Bytes) (h
       fault h = placed (number t) (from .line) (judged t (headerIn t h) line (bookOf book))
 
       new : Bytes → Book
-      new h = entered t (rowRead t (headerIn t h) line) (bookOf book)
+      new h = entered t (rowRead Dino21 t (headerIn t h) line) (bookOf book)
 
       after : Bytes → Result
       after h = unless (fault h) (leaves (new h))
@@ -187,23 +188,23 @@ none-came t from book lines hold (x ∷ xs) e none = absurd (omega arith)
 
 -- the header's verdict, and what rows are read by ----------------------------------------------------------------------------------------
 
-heading-check : (t : Table) (line : Bytes) → heading t line .check ≡ headerCheck t line
-heading-check t line = go (headerCheck t line)
+heading-check : (t : Table) (line : Bytes) → heading Dino21 t line .check ≡ headerCheck Dino21 t line
+heading-check t line = go (headerCheck Dino21 t line)
   where
     go : (c : Check) → headed c (headerIn t line) .check ≡ c
     go Passes = refl
     go (Fails n k) = refl
 
-pub head-verdict : (t : Table) (line : Bytes) (h : Heading) (n : ℕ) (v : Verdict) → h ≡ heading t line → n ≡ number t → v ≡ placed n 1 (h .check) → v ≡ inHeader (number t) (headerCheck t line)
+pub head-verdict : (t : Table) (line : Bytes) (h : Heading) (n : ℕ) (v : Verdict) → h ≡ heading Dino21 t line → n ≡ number t → v ≡ placed n 1 (h .check) → v ≡ inHeader (number t) (headerCheck Dino21 t line)
 head-verdict t line h n v e k o = o ∙ ap (λ (m : ℕ). placed m 1 (h .check)) k ∙ ap (placed (number t) 1) (ap (λ (x : Heading). x .check) e ∙ heading-check t line)
 
-pub head-places : (t : Table) (line : Bytes) (h : Heading) → h ≡ heading t line → headerCheck t line ≡ Passes → h .at ≡ places (headerIn t line)
-head-places t line h e p = ap (λ (x : Heading). x .at) e ∙ heading-kept t line p
+pub head-places : (t : Table) (line : Bytes) (h : Heading) → h ≡ heading Dino21 t line → headerCheck Dino21 t line ≡ Passes → h .at ≡ places (headerIn t line)
+head-places t line h e p = ap (λ (x : Heading). x .at) e ∙ heading-kept Dino21 t line p
 
-pub head-guides : (t : Table) (line : Bytes) (h : Heading) → h ≡ heading t line → headerCheck t line ≡ Passes → (columns : List (List ℕ)) → columns ≡ listed t → Guided t columns (h .at)
+pub head-guides : (t : Table) (line : Bytes) (h : Heading) → h ≡ heading Dino21 t line → headerCheck Dino21 t line ≡ Passes → (columns : List (List ℕ)) → columns ≡ listed Dino21 t → Guided Dino21 t columns (h .at)
 head-guides t line h e p columns k =
     let is : h .at ≡ places (headerIn t line) = head-places t line h e p in
-    record { rules = k; few = rw is (few (headerIn t line) (omega (arith, header-length t (cellsOf (cut line)), header-few t line p))); headed = (headerIn t line, is) }
+    record { rules = k; few = rw is (few (headerIn t line) (omega (arith, header-length Dino21 t (cellsOf (cut line)), header-few Dino21 t line p))); headed = (headerIn t line, is) }
   where
     few : (x : Header) → length x ≤ mostCells → cellsKept (places x) ≤ mostCells
     few x l = l

@@ -12,6 +12,7 @@ use Rattle.refusals.specs.Verdicts.{_⊳_, _when_, placed, tooManyRows, lineToo
 use Rattle.refusals.specs.declared.Verdict.{Verdict}
 use Rattle.refusals.specs.declared.Verdict.the-variants.{Accepted, Refused}
 use Rattle.lines.specs.Lines.{lines, mostLine}
+use Rattle.tables.specs.declared.Edition.the-variants.{Dino21}
 use Rattle.tables.specs.Columns.{number}
 use Rattle.tables.specs.declared.Table.{Table}
 use Rattle.book.specs.Book.{Book, entered, full}
@@ -57,8 +58,8 @@ module _ (t : Table) (head : Bytes) where
   long-row s l ls b i two n m k =
       rw (row-heard t l b i head (λ e. omega arith), long-judged t (headerIn t head) l b n, long-judged t (headerIn t head) m b k) (go (full t b))
     where
-      go : (q : Bool) → bytesHeard t s (onward (placed (number t) i (tooManyRows when q ⊳ lineTooLong)) (going (entered t (rowRead t (headerIn t head) l) b) (lineAfter i l) head []))
-          ≡ coursed (unless (placed (number t) i (tooManyRows when q ⊳ lineTooLong)) (rowsRead t (headerIn t head) (lineAfter i m) ls (entered t (rowRead t (headerIn t head) m) b))) (linesAfter i (m ∷ ls)) head
+      go : (q : Bool) → bytesHeard t s (onward (placed (number t) i (tooManyRows when q ⊳ lineTooLong)) (going (entered t (rowRead Dino21 t (headerIn t head) l) b) (lineAfter i l) head []))
+          ≡ coursed (unless (placed (number t) i (tooManyRows when q ⊳ lineTooLong)) (rowsRead t (headerIn t head) (lineAfter i m) ls (entered t (rowRead Dino21 t (headerIn t head) m) b))) (linesAfter i (m ∷ ls)) head
       go true = over-stopped t s _
       go false = over-stopped t s _
 
@@ -77,8 +78,8 @@ module _ (t : Table) (head : Bytes) where
       IH = (c : Book) (j : ℕ) → 2 ≤ j → Finished [] s → bytesHeard t s (going c j head []) ≡ came (linesFrom [] s) j c
 
       row : (line : Bytes) (v : Verdict) → IH → Finished [] s →
-          bytesHeard t s (onward v (going (entered t (rowRead t (headerIn t head) line) b) (lineAfter i line) head []))
-          ≡ coursed (unless v (rowsRead t (headerIn t head) (lineAfter i line) (linesFrom [] s) (entered t (rowRead t (headerIn t head) line) b))) (linesAfter (lineAfter i line) (linesFrom [] s)) head
+          bytesHeard t s (onward v (going (entered t (rowRead Dino21 t (headerIn t head) line) b) (lineAfter i line) head []))
+          ≡ coursed (unless v (rowsRead t (headerIn t head) (lineAfter i line) (linesFrom [] s) (entered t (rowRead Dino21 t (headerIn t head) line) b))) (linesAfter (lineAfter i line) (linesFrom [] s)) head
       row line Accepted ih f = ih _ (lineAfter i line) (omega (arith, line-after i line)) f
       row line (Refused p) ih f = over-stopped t s p
 

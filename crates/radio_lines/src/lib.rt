@@ -26,6 +26,7 @@ use refusals::Place;
 use refusals::Verdict;
 use rows::ROWS;
 use rows::Row;
+use tables::Edition;
 use tables::Table;
 
 // What is kept of a table while its parts come: the fault, or none; the number of the unfinished line; and how many bytes are kept of the
@@ -54,10 +55,10 @@ pub fn too_long(t: Table, line: u64, book: &[Row]) -> Verdict
 // The header line; where it passes it is kept at the begin of the lines.
 fn hear_head(line: &[u8], t: Table, lines: &mut [u8]) -> Verdict
     requires { ⌜ length (now lines) ≡ radioBytes ⌝ }
-    ensures { λ r. ⌜ (r ≡ inHeader (number t) (headerCheck t (now (line .entry)))) × (r ≡ Verdict.Accepted → now (lines .exit) ≡ put (now (line .entry)) (now (lines .entry))) ⌝ }
+    ensures { λ r. ⌜ (r ≡ inHeader (number t) (headerCheck Edition.Dino21 t (now (line .entry)))) × (r ≡ Verdict.Accepted → now (lines .exit) ≡ put (now (line .entry)) (now (lines .entry))) ⌝ }
 {
-    let columns = t.column_rules();
-    let heading = header::read_header(line, t, &columns);
+    let columns = t.column_rules(Edition::Dino21);
+    let heading = header::read_header(line, Edition::Dino21, t, &columns);
     let check = heading.check;
     let verdict = check.on(t.number(), Place::HEADER_LINE);
     match verdict {
@@ -71,11 +72,11 @@ fn hear_head(line: &[u8], t: Table, lines: &mut [u8]) -> Verdict
 
 // A row, under the header line that is kept.
 fn hear_row(line: &[u8], i: u64, t: Table, head: &[u8], book: &mut [Row]) -> Verdict
-    requires { ⌜ Sound (now book) × (pointsNamed (bookOf (now book)) ≡ true) × (headerCheck t (now head) ≡ Check.Passes) ⌝ }
-    ensures { λ r. ⌜ Sound (now (book .exit)) × NamedIn (resultOf r (now (book .exit))) × (resultOf r (now (book .exit)) ≡ unless (placed (number t) i (judged t (headerIn t (now (head .entry))) (now (line .entry)) (bookOf (now (book .entry))))) (leaves (entered t (rowRead t (headerIn t (now (head .entry))) (now (line .entry))) (bookOf (now (book .entry)))))) ⌝ }
+    requires { ⌜ Sound (now book) × (pointsNamed (bookOf (now book)) ≡ true) × (headerCheck Edition.Dino21 t (now head) ≡ Check.Passes) ⌝ }
+    ensures { λ r. ⌜ Sound (now (book .exit)) × NamedIn (resultOf r (now (book .exit))) × (resultOf r (now (book .exit)) ≡ unless (placed (number t) i (judged t (headerIn t (now (head .entry))) (now (line .entry)) (bookOf (now (book .entry))))) (leaves (entered t (rowRead Edition.Dino21 t (headerIn t (now (head .entry))) (now (line .entry))) (bookOf (now (book .entry)))))) ⌝ }
 {
-    let columns = t.column_rules();
-    let heading = header::read_header(head, t, &columns);
+    let columns = t.column_rules(Edition::Dino21);
+    let heading = header::read_header(head, Edition::Dino21, t, &columns);
     let at = heading.at;
     table_reading::take_line(line, i, t, &columns, &at, book)
 }
@@ -120,8 +121,8 @@ pub fn hear_rows(body: &[u8], t: Table, book: &mut [Row], lines: &[u8], from: He
             rest: 0,
         };
     }
-    let columns = t.column_rules();
-    let heading = header::read_header(&lines[0..head], t, &columns);
+    let columns = t.column_rules(Edition::Dino21);
+    let heading = header::read_header(&lines[0..head], Edition::Dino21, t, &columns);
     let at = heading.at;
     let taken = table_reading::take_rows(body, line, t, &columns, &at, book);
     let verdict = taken.verdict;

@@ -11,6 +11,7 @@ use Rattle.words.specs.Words.{Bytes, Row, if_then_else_, same}
 use Rattle.words.proofs.Lists.{and-left, and-right, same-refl, same-true}
 use Rattle.refusals.specs.Verdicts.{passes, place}
 use Rattle.rows.specs.Room.{sameRows}
+use Rattle.tables.specs.declared.Edition.the-variants.{Dino21}
 use Rattle.tables.specs.declared.Table.{Table}
 use Rattle.tables.specs.Parts.{partOf, bookRows}
 use Rattle.tables.proofs.Figures.{part-below}
@@ -76,15 +77,15 @@ first-head t i head e = go (eqb i 1) e
     no-bytes [] f = refl
     no-bytes (x ∷ xs) f = let z : _≡_ {A = ℕ} 0 1 = cc in let y : ⊥ = omega arith in absurd y
 
-    go : (q : Bool) → (if q then none head else passes (headerCheck t head)) ≡ true → (if q then eqb (length head) 0 else true) ≡ true
+    go : (q : Bool) → (if q then none head else passes (headerCheck Dino21 t head)) ≡ true → (if q then eqb (length head) 0 else true) ≡ true
     go true f = no-bytes head f
     go false f = refl
 
 -- and behind it it has passed
-later-head : (t : Table) (i : ℕ) (head : Bytes) → lawfulHead t i head ≡ true → (if ltb 1 i then passes (headerCheck t head) else true) ≡ true
+later-head : (t : Table) (i : ℕ) (head : Bytes) → lawfulHead t i head ≡ true → (if ltb 1 i then passes (headerCheck Dino21 t head) else true) ≡ true
 later-head t i head e = go (ltb 1 i) refl
   where
-    go : (q : Bool) → ltb 1 i ≡ q → (if q then passes (headerCheck t head) else true) ≡ true
+    go : (q : Bool) → ltb 1 i ≡ q → (if q then passes (headerCheck Dino21 t head) else true) ≡ true
     go true f = let h : 1 < i = ltb-true 1 i f in rw (ne-eqb i 1 (λ (z : i ≡ 1). omega arith)) at e
     go false f = refl
 
@@ -146,8 +147,8 @@ lines-laid (hears t a n (going b i head rest)) e l =
     let h = heard-of t a n (going b i head rest) e in
     let g : Going t n i head rest = going-of t a n i head rest (lawfulBook b) (h .2) l in
     lines-laid-as (laidNumbers (hears t a n (going b i head rest))) head rest refl refl (g .room) (g .fit)
-    (ap (λ (s : Bytes). if ltb 1 i then passes (headerCheck (tableAt ((6 + partOf t) - 6)) s) else true) (head-back 2048 2049 head rest (g .room))
-    ∙ ap (λ (u : Table). if ltb 1 i then passes (headerCheck u head) else true) (table-back t) ∙ later-head t i head (g .top))
+    (ap (λ (s : Bytes). if ltb 1 i then passes (headerCheck Dino21 (tableAt ((6 + partOf t) - 6)) s) else true) (head-back 2048 2049 head rest (g .room))
+    ∙ ap (λ (u : Table). if ltb 1 i then passes (headerCheck Dino21 u head) else true) (table-back t) ∙ later-head t i head (g .top))
 lines-laid (over r) e l = lines-none 5 r
 
 -- what is found again -----------------------------------------------------------------------------------------------------------
@@ -428,12 +429,12 @@ module _ (k : List ℕ) (l : Bytes) where
   pub header-none : line k ≤ 1 → headerKeeps k l ≡ true
   header-none h = rw (le-ltb 1 (line k) h)
 
-  pub header-some : 1 < line k → (t : Table) → t ≡ tableAt (turn k - 6) → (g : Heading) → g ≡ heading t (stretch 0 (headLength k) l) → headerKeeps k l ≡ passes (g .check)
+  pub header-some : 1 < line k → (t : Table) → t ≡ tableAt (turn k - 6) → (g : Heading) → g ≡ heading Dino21 t (stretch 0 (headLength k) l) → headerKeeps k l ≡ passes (g .check)
   header-some h t e g f =
       let z : headLength k - 0 ≡ headLength k = omega arith in
-      let c : g .check ≡ headerCheck t (take (headLength k) l) =
-      ap (λ (x : Heading). x .check) (f ∙ ap (λ (n : ℕ). heading t (take n l)) z) ∙ told (headerCheck t (take (headLength k) l)) (header t (cellsOf (cut (take (headLength k) l)))) in
-      rw (lt-ltb 1 (line k) h) (ap (λ (u : Table). passes (headerCheck u (take (headLength k) l))) (sym e) ∙ ap passes (sym c))
+      let c : g .check ≡ headerCheck Dino21 t (take (headLength k) l) =
+      ap (λ (x : Heading). x .check) (f ∙ ap (λ (n : ℕ). heading Dino21 t (take n l)) z) ∙ told (headerCheck Dino21 t (take (headLength k) l)) (header Dino21 t (cellsOf (cut (take (headLength k) l)))) in
+      rw (lt-ltb 1 (line k) h) (ap (λ (u : Table). passes (headerCheck Dino21 u (take (headLength k) l))) (sym e) ∙ ap passes (sym c))
     where
       told : (x : Check) (y : Header) → headed x y .check ≡ x
       told Passes y = refl

@@ -17,6 +17,7 @@ use Rattle.header.specs.Header.{headerCheck}
 use Rattle.radio.specs.Radio.{mostCounted, keptLine}
 use Rattle.radio.specs.Rule.{lawfulFault}
 use Rattle.radio.specs.Room.{radioNumbers, radioBytes, tableAt}
+use Rattle.tables.specs.declared.Edition.the-variants.{Dino21}
 
 -- from place a to before place e
 abbrev pub stretch : ℕ → ℕ → List ℕ → List ℕ
@@ -81,7 +82,7 @@ numbersKeep ns = leb (turn ns) 10 && faultKeeps ns && (if ltb (turn ns) 6 then z
 
 -- there is a header line where the unfinished line is not the first
 abbrev pub headerKeeps : List ℕ → Bytes → Bool
-headerKeeps ns l = if ltb 1 (line ns) then passes (headerCheck (tableAt (turn ns - 6)) (take (headLength ns) l)) else true
+headerKeeps ns l = if ltb 1 (line ns) then passes (headerCheck Dino21 (tableAt (turn ns - 6)) (take (headLength ns) l)) else true
 
 -- zeros behind each line, and the header line
 unfoldable pub linesKeep : List ℕ → Bytes → Bool

@@ -19,6 +19,7 @@ use refusals::Check;
 use refusals::Place;
 use rows::Row;
 use tables::BOOK_ROWS;
+use tables::Edition;
 use tables::Named;
 use tables::Table;
 
@@ -245,8 +246,13 @@ fn header_keeps(kept: &[u64], lines: &[u8]) -> bool
         return true;
     }
     let t = Table::in_order((kept[TURN] - HEARD) as usize);
-    let columns = t.column_rules();
-    let heading = header::read_header(&lines[0..kept[HEAD_LENGTH] as usize], t, &columns);
+    let columns = t.column_rules(Edition::Dino21);
+    let heading = header::read_header(
+        &lines[0..kept[HEAD_LENGTH] as usize],
+        Edition::Dino21,
+        t,
+        &columns,
+    );
     let check = heading.check;
     match check {
         Check::Passes => true,

@@ -9,6 +9,7 @@ use lib.Seq.{length-take-le}
 use borrow.Author.Tests.{eq-eqb, ne-eqb, eqb-true}
 use Rattle.words.specs.Words.{Bytes, Row}
 use Rattle.lines.specs.Lines.{mostLine}
+use Rattle.tables.specs.declared.Edition.the-variants.{Dino21}
 use Rattle.tables.specs.declared.Table.the-variants.{StopPoint}
 use Rattle.book.specs.Room.{bookOf}
 use Rattle.rules.proofs.Referring.{passed}
@@ -68,7 +69,7 @@ module _ (b : List Row) (k : List ℕ) (l : Bytes) (h : Hears b k l) where
           rests = lengths .rest;
           begun = lengths .some;
           first = λ f. eqb-true (headOf k) 0 (rw (eq-eqb (lineOf k) 1 f) at (lengths .first));
-          headed = λ n. passed (headerCheck (tableOf k) (take (headOf k) l)) (rw (ne-eqb (lineOf k) 1 n) at head-lawful);
+          headed = λ n. passed (headerCheck Dino21 (tableOf k) (take (headOf k) l)) (rw (ne-eqb (lineOf k) 1 n) at head-lawful);
         }
 
     pub rest-long : length (take (restOf k) (drop mostLine l)) ≡ restOf k

@@ -16,6 +16,7 @@ use Rattle.refusals.specs.declared.Check.the-variants.{Passes, Fails}
 use Rattle.lines.specs.Lines.{longLine}
 use Rattle.cells.specs.Numbered.{cellNumbered, MarksOf}
 use Rattle.cells.specs.Cells.{content, cut, cellsOf}
+use Rattle.tables.specs.declared.Edition.{Edition}
 use Rattle.tables.specs.Columns.{Column, columnsOf, noColumn}
 use Rattle.tables.specs.declared.Table.{Table}
 use Rattle.tables.proofs.Figures.{columns-few}
@@ -82,12 +83,12 @@ contents-at j (x ∷ xs) h cs zero l = let e : j + 0 ≡ j = omega arith in rw e
 contents-at j (x ∷ xs) h cs (suc k) l = let e : j + suc k ≡ suc j + k = omega arith in rw e (contents-at (suc j) xs h cs k (omega arith))
 
 -- the content of a column, by the cell that its place names
-pub content-found : (t : Table) (h : Header) (cs : List Bytes) (at : List ℕ) (k : ℕ) (cell : Bytes) → at ≡ places h → k < length (columnsOf t) → cell ≡ cellNumbered (getD at (k + 1) 0) cs → content cell ≡ getD (contents t h cs) k []
-content-found t h cs at k cell e l f =
+pub content-found : (ed : Edition) (t : Table) (h : Header) (cs : List Bytes) (at : List ℕ) (k : ℕ) (cell : Bytes) → at ≡ places h → k < length (columnsOf ed t) → cell ≡ cellNumbered (getD at (k + 1) 0) cs → content cell ≡ getD (contents ed t h cs) k []
+content-found ed t h cs at k cell e l f =
     let n : 1 + k ≡ k + 1 = omega arith in
-    let p : getD at (k + 1) 0 ≡ placeFrom 0 (k + 1) h = rw e (place-at h k (omega (arith, columns-few t))) in
+    let p : getD at (k + 1) 0 ≡ placeFrom 0 (k + 1) h = rw e (place-at h k (omega (arith, columns-few ed t))) in
     let u : cell ≡ under (k + 1) h cs = f ∙ rw p (sym (under-numbered (k + 1) h cs)) in
-    sym (contents-at 1 (columnsOf t) h cs k l ∙ rw (n, ← u))
+    sym (contents-at 1 (columnsOf ed t) h cs k l ∙ rw (n, ← u))
 
 -- 19, 20, 8 and 21, column by column ------------------------------------------------------------------------------------------------------------
 

@@ -1,16 +1,13 @@
 -- The row of a line, filled column by column, and what a row that passes tells. Assumes nothing.
 use mathlib.Core.Path.{_≡_, sym, _∙_, refl, ap}
 use mathlib.Core.List.{List, [], _∷_, _++_, append-assoc, map}
-use mathlib.Core.Bool.{Bool, true, false}
+use mathlib.Core.Bool.{false}
 use Prim.Native.Nat.{ℕ, suc, _-_, _<_, _≤_, _+_, zero}
 use native.Mathlib.Omega.{arith}
 use native.Mathlib.Numerals.{add-one}
-use lib.ListN.{length, set, replicate, length-append, getD, List·getD-eq-default, take, length-map, drop, List·getD-append}
-use lib.Seq.{set-at, set-getD, take-suc, take-all, take-append-le, length-take-le, take-nil, getD-take}
-use lib.Dec.{ltb}
-use borrow.Author.Tests.{ltb-true, ltb-false}
+use lib.ListN.{length, set, replicate, length-append, getD, take, length-map, drop, List·getD-append}
+use lib.Seq.{set-at, take-suc, take-all, take-append-le, length-take-le, take-nil, getD-take}
 use Rattle.words.specs.Words.{Bytes, Row}
-use Rattle.words.proofs.Lists.{getD-padded}
 use Rattle.refusals.proofs.Chaining.{both}
 use Rattle.refusals.specs.declared.Check.{Check}
 use Rattle.refusals.specs.declared.Check.the-variants.{Passes, Fails}
@@ -20,6 +17,7 @@ use Rattle.cells.specs.Numbered.{cellNumbered}
 use Rattle.numbers.specs.Numbers.{value}
 use Rattle.rows.specs.Rows.{wide, column}
 use Rattle.rows.specs.Room.{zeros}
+use Rattle.tables.specs.declared.Edition.{Edition}
 use Rattle.tables.specs.declared.Table.{Table}
 use Rattle.tables.specs.Columns.{keptWidth, columnsOf, columnAt}
 use Rattle.tables.proofs.Figures.{kept-few, kept-columns, keys-some, keys-kept, version-low, kept-decimal, kept-required}
@@ -42,25 +40,20 @@ wide-more ns k v e l =
     let a : 11 - length ns ≡ suc (11 - length (ns ++ (v ∷ []))) = rw length-append (omega arith) in
     rw a (set-at ns 0 rest v k e ∙ sym (append-assoc ns (v ∷ []) rest))
 
-wide-past : (ns : List ℕ) (k : ℕ) → length ns ≤ k → set (wide ns) k 0 ≡ wide ns
-wide-past ns k h =
-    let z : getD (wide ns) k 0 ≡ 0 = getD-padded ns (11 - length ns) k ∙ List·getD-eq-default ns 0 {n = k} h in
-    rw z at (set-getD (wide ns) k 0)
-
 map-last : (xs : List Bytes) (s : Bytes) → map value (xs ++ (s ∷ [])) ≡ map value xs ++ (value s ∷ [])
 map-last [] s = refl
 map-last (x ∷ xs) s = ap (λ (l : List ℕ). value x ∷ l) (map-last xs s)
 
 -- one column more
-module _ (t : Table) (ss : List Bytes) (k : ℕ) (row : Row) (v : ℕ) (e : row ≡ rowOf t (take k ss)) (l : k < length ss) where
+module _ (t : Table) (ss : List Bytes) (k : ℕ) (row : Row) (e : row ≡ rowOf t (take k ss)) (l : k < length ss) where
   one-more : take (k + 1) ss ≡ take k ss ++ (getD ss k [] ∷ [])
   one-more = rw add-one (take-suc ss k [] l)
 
   so-far : length (take k ss) ≡ k
   so-far = length-take-le k ss (omega arith)
 
-  pub row-more : k < keptWidth t → v ≡ value (getD ss k []) → set row k v ≡ rowOf t (take (k + 1) ss)
-  row-more h q =
+  pub row-more : (v : ℕ) → k < keptWidth t → v ≡ value (getD ss k []) → set row k v ≡ rowOf t (take (k + 1) ss)
+  row-more v h q =
       let a : take (keptWidth t) (take k ss) ≡ take k ss = take-all (keptWidth t) (take k ss) (omega (arith, so-far)) in
       let m : length (take k ss ++ (getD ss k [] ∷ [])) ≤ keptWidth t = rw length-append (omega (arith, so-far)) in
       let b : take (keptWidth t) (take k ss ++ (getD ss k [] ∷ [])) ≡ take k ss ++ (getD ss k [] ∷ []) = take-all (keptWidth t) (take k ss ++ (getD ss k [] ∷ [])) m in
@@ -68,58 +61,56 @@ module _ (t : Table) (ss : List Bytes) (k : ℕ) (row : Row) (v : ℕ) (e : row 
       let w : set (wide (map value (take k ss))) k v ≡ wide (map value (take k ss) ++ (v ∷ [])) = wide-more (map value (take k ss)) k v n (omega (arith, kept-few t)) in
       rw (e, one-more, a, b, map-last (take k ss) (getD ss k []), ← q) w
 
-  pub row-stays : keptWidth t ≤ k → v ≡ 0 → set row k v ≡ rowOf t (take (k + 1) ss)
-  row-stays h q =
+  pub row-stays : keptWidth t ≤ k → row ≡ rowOf t (take (k + 1) ss)
+  row-stays h =
       let a : take (keptWidth t) (take k ss ++ (getD ss k [] ∷ [])) ≡ take (keptWidth t) (take k ss) = take-append-le (keptWidth t) (take k ss) (getD ss k [] ∷ []) (omega (arith, so-far)) in
-      let n : length (map value (take (keptWidth t) (take k ss))) ≡ keptWidth t = length-map (take (keptWidth t) (take k ss)) value ∙ length-take-le (keptWidth t) (take k ss) (omega (arith, so-far)) in
-      rw (e, one-more, a, q) (wide-past (map value (take (keptWidth t) (take k ss))) k (omega arith))
+      rw (e, one-more, a)
 
 -- the columns of a line, walked from the first one on -------------------------------------------------------------------------------
 
 -- k columns are walked: none of them has a fault, and the row has their numbers
-pub record Columned (t : Table) (h : Header) (line : Bytes) (row : Row) (k : ℕ) : Type 0 where
-  pub filled : row ≡ rowOf t (take k (contents t h (cellsOf (cut line))))
-  pub ahead : cellsCheck t h line ≡ badCell (k + 1) (drop k (columnsOf t)) (drop k (contents t h (cellsOf (cut line))))
+pub record Columned (ed : Edition) (t : Table) (h : Header) (line : Bytes) (row : Row) (k : ℕ) : Type 0 where
+  pub filled : row ≡ rowOf t (take k (contents ed t h (cellsOf (cut line))))
+  pub ahead : cellsCheck ed t h line ≡ badCell (k + 1) (drop k (columnsOf ed t)) (drop k (contents ed t h (cellsOf (cut line))))
 
-pub columned-none : (t : Table) (h : Header) (line : Bytes) → Columned t h line (replicate 11 0) 0
-columned-none t h line = record { filled = rw (take-nil {A = Bytes} (keptWidth t)); ahead = refl }
+pub columned-none : (ed : Edition) (t : Table) (h : Header) (line : Bytes) → Columned ed t h line (replicate 11 0) 0
+columned-none ed t h line = record { filled = rw (take-nil {A = Bytes} (keptWidth t)); ahead = refl }
 
-module _ (t : Table) (h : Header) (line : Bytes) (row at : List ℕ) (k : ℕ) (w : Columned t h line row k) (e : at ≡ places h) (l : k < length (columnsOf t)) (cell : Bytes) (f : cell ≡ cellNumbered (getD at (k + 1) 0) (cellsOf (cut line))) (v : Value) (q : v ≡ valueOf (columnAt t k .rules) (content cell)) (check : Check) (d : check ≡ checkOf (k + 1) v) where
-  ours : content cell ≡ getD (contents t h (cellsOf (cut line))) k []
-  ours = content-found t h (cellsOf (cut line)) at k cell e l f
+module _ (ed : Edition) (t : Table) (h : Header) (line : Bytes) (row at : List ℕ) (k : ℕ) (w : Columned ed t h line row k) (e : at ≡ places h) (l : k < length (columnsOf ed t)) (cell : Bytes) (f : cell ≡ cellNumbered (getD at (k + 1) 0) (cellsOf (cut line))) (v : Value) (q : v ≡ valueOf (columnAt ed t k .rules) (content cell)) (check : Check) (d : check ≡ checkOf (k + 1) v) where
+  ours : content cell ≡ getD (contents ed t h (cellsOf (cut line))) k []
+  ours = content-found ed t h (cellsOf (cut line)) at k cell e l f
 
-  enough : k < length (contents t h (cellsOf (cut line)))
+  enough : k < length (contents ed t h (cellsOf (cut line)))
   enough = rw contents-length l
 
-  check-here : cellCheck (k + 1) (columnAt t k .rules) (getD (contents t h (cellsOf (cut line))) k []) ≡ check
-  check-here = sym (d ∙ rw (q, check-of-value (k + 1) (columnAt t k .rules) (content cell), ours))
+  check-here : cellCheck (k + 1) (columnAt ed t k .rules) (getD (contents ed t h (cellsOf (cut line))) k []) ≡ check
+  check-here = sym (d ∙ rw (q, check-of-value (k + 1) (columnAt ed t k .rules) (content cell), ours))
 
-  pub columned-fault : (n c : ℕ) → check ≡ Fails n c → cellsCheck t h line ≡ Fails n c
-  columned-fault n c p = w .ahead ∙ bad-here (columnsOf t) (contents t h (cellsOf (cut line))) k l enough n c (check-here ∙ p)
+  pub columned-fault : (n c : ℕ) → check ≡ Fails n c → cellsCheck ed t h line ≡ Fails n c
+  columned-fault n c p = w .ahead ∙ bad-here (columnsOf ed t) (contents ed t h (cellsOf (cut line))) k l enough n c (check-here ∙ p)
 
-  pub columned-next : check ≡ Passes → (x : ℕ) → ((n : ℕ) → v ≡ Number n → ltb k (keptWidth t) ≡ true → x ≡ n) → (ltb k (keptWidth t) ≡ false → x ≡ 0) → Columned t h line (set row k x) (k + 1)
-  columned-next p x some none =
-      record {
-        filled = go (ltb k (keptWidth t)) refl;
-        ahead = w .ahead ∙ bad-next (columnsOf t) (contents t h (cellsOf (cut line))) k l enough (check-here ∙ p);
-      }
-    where
-      go : (b : Bool) → ltb k (keptWidth t) ≡ b → set row k x ≡ rowOf t (take (k + 1) (contents t h (cellsOf (cut line))))
-      go true g =
-          let m : k < keptWidth t = ltb-true k (keptWidth t) g in
-          let b : breaks (columnAt t k .rules) (content cell) ≡ false = rw ours (check-kept (k + 1) (columnAt t k .rules) (getD (contents t h (cellsOf (cut line))) k []) (check-here ∙ p)) in
-          let n : x ≡ value (getD (contents t h (cellsOf (cut line))) k []) = some (value (content cell)) (q ∙ kept-value t k m (content cell) b) g ∙ ap value ours in
-          row-more t (contents t h (cellsOf (cut line))) k row x (w .filled) enough m n
-      go false g = row-stays t (contents t h (cellsOf (cut line))) k row x (w .filled) enough (ltb-false k (keptWidth t) g) (none g)
+  next-ahead : check ≡ Passes → cellsCheck ed t h line ≡ badCell (k + 1 + 1) (drop (k + 1) (columnsOf ed t)) (drop (k + 1) (contents ed t h (cellsOf (cut line))))
+  next-ahead p = w .ahead ∙ bad-next (columnsOf ed t) (contents ed t h (cellsOf (cut line))) k l enough (check-here ∙ p)
+
+  -- a column that the book keeps
+  pub columned-kept : check ≡ Passes → k < keptWidth t → (x : ℕ) → ((n : ℕ) → v ≡ Number n → x ≡ n) → Columned ed t h line (set row k x) (k + 1)
+  columned-kept p m x some =
+      let b : breaks (columnAt ed t k .rules) (content cell) ≡ false = rw ours (check-kept (k + 1) (columnAt ed t k .rules) (getD (contents ed t h (cellsOf (cut line))) k []) (check-here ∙ p)) in
+      let n : x ≡ value (getD (contents ed t h (cellsOf (cut line))) k []) = some (value (content cell)) (q ∙ kept-value ed t k m (content cell) b) ∙ ap value ours in
+      record { filled = row-more t (contents ed t h (cellsOf (cut line))) k row (w .filled) enough x m n; ahead = next-ahead p }
+
+  -- and one behind those
+  pub columned-past : check ≡ Passes → keptWidth t ≤ k → Columned ed t h line row (k + 1)
+  columned-past p m = record { filled = row-stays t (contents ed t h (cellsOf (cut line))) k row (w .filled) enough m; ahead = next-ahead p }
 
 -- a column that has a fault: nothing is kept of the line
-pub columned-bad : (t : Table) (h : Header) (line : Bytes) (n k : ℕ) → cellsCheck t h line ≡ Fails n k → _≡_ {A = Judged} (record { check = Fails n k; row = zeros }) (rowed (cellsCheck t h line) (rowRead t h line))
-columned-bad t h line n k e = rw e
+pub columned-bad : (ed : Edition) (t : Table) (h : Header) (line : Bytes) (n k : ℕ) → cellsCheck ed t h line ≡ Fails n k → _≡_ {A = Judged} (record { check = Fails n k; row = zeros }) (rowed (cellsCheck ed t h line) (rowRead ed t h line))
+columned-bad ed t h line n k e = rw e
 
-pub columned-all : (t : Table) (h : Header) (line : Bytes) (row : Row) (k : ℕ) → Columned t h line row k → length (columnsOf t) ≤ k → _≡_ {A = Judged} (record { check = Passes; row = row }) (rowed (cellsCheck t h line) (rowRead t h line))
-columned-all t h line row k w l =
-    let p : cellsCheck t h line ≡ Passes = w .ahead ∙ bad-end (columnsOf t) (drop k (contents t h (cellsOf (cut line)))) k l in
-    let a : take k (contents t h (cellsOf (cut line))) ≡ contents t h (cellsOf (cut line)) = take-all k (contents t h (cellsOf (cut line))) (rw contents-length l) in
+pub columned-all : (ed : Edition) (t : Table) (h : Header) (line : Bytes) (row : Row) (k : ℕ) → Columned ed t h line row k → length (columnsOf ed t) ≤ k → _≡_ {A = Judged} (record { check = Passes; row = row }) (rowed (cellsCheck ed t h line) (rowRead ed t h line))
+columned-all ed t h line row k w l =
+    let p : cellsCheck ed t h line ≡ Passes = w .ahead ∙ bad-end (columnsOf ed t) (drop k (contents ed t h (cellsOf (cut line)))) k l in
+    let a : take k (contents ed t h (cellsOf (cut line))) ≡ contents ed t h (cellsOf (cut line)) = take-all k (contents ed t h (cellsOf (cut line))) (rw contents-length l) in
     rw (p, w .filled, a)
 
 -- what a row that passes tells ------------------------------------------------------------------------------------------------------
@@ -135,35 +126,35 @@ row-number t ss i h l =
     values-at (x ∷ xs) zero g = refl
     values-at (x ∷ xs) (suc j) g = values-at xs j (omega arith)
 
-module _ (t : Table) (h : Header) (line : Bytes) (e : cellsCheck t h line ≡ Passes) where
+module _ (ed : Edition) (t : Table) (h : Header) (line : Bytes) (e : cellsCheck ed t h line ≡ Passes) where
   module _ (i : ℕ) (l : i < keptWidth t) where
     abbrev there : Bytes
-    there = getD (contents t h (cellsOf (cut line))) i []
+    there = getD (contents ed t h (cellsOf (cut line))) i []
 
-    number-there : getD (rowRead t h line) i 0 ≡ value there
-    number-there = row-number t (contents t h (cellsOf (cut line))) i l (omega (arith, contents-length 1 (columnsOf t) h (cellsOf (cut line)), kept-columns t))
+    number-there : getD (rowRead ed t h line) i 0 ≡ value there
+    number-there = row-number t (contents ed t h (cellsOf (cut line))) i l (omega (arith, contents-length 1 (columnsOf ed t) h (cellsOf (cut line)), kept-columns ed t))
 
-    keeps : breaks (columnAt t i .rules) there ≡ false
-    keeps = all-kept 1 (columnsOf t) (contents t h (cellsOf (cut line))) e i (omega (arith, kept-columns t)) (omega (arith, contents-length 1 (columnsOf t) h (cellsOf (cut line)), kept-columns t))
+    keeps : breaks (columnAt ed t i .rules) there ≡ false
+    keeps = all-kept 1 (columnsOf ed t) (contents ed t h (cellsOf (cut line))) e i (omega (arith, kept-columns ed t)) (omega (arith, contents-length 1 (columnsOf ed t) h (cellsOf (cut line)), kept-columns ed t))
 
-    row-low : columnAt t i .rules .low ≤ getD (rowRead t h line) i 0
-    row-low = rw number-there (number-from (columnAt t i .rules) there (kept-decimal t i l) (kept-required t i l) keeps)
+    row-low : columnAt ed t i .rules .low ≤ getD (rowRead ed t h line) i 0
+    row-low = rw number-there (number-from (columnAt ed t i .rules) there (kept-decimal ed t i l) (kept-required ed t i l) keeps)
 
   -- VERSION is at least 1
-  pub row-version : 1 ≤ column 1 (rowRead t h line)
-  row-version = rw (version-low t) at (row-low 0 (omega (arith, keys-some t, keys-kept t)))
+  pub row-version : 1 ≤ column 1 (rowRead ed t h line)
+  row-version = rw (version-low ed t) at (row-low 0 (omega (arith, keys-some t, keys-kept t)))
 
 -- what is read of a line that passes
 rowed-passes : (c : Check) (row : Row) → rowed c row .check ≡ Passes → c ≡ Passes
 rowed-passes Passes row e = refl
 rowed-passes (Fails n k) row e = e
 
-module _ (t : Table) (h : Header) (line : Bytes) (p : read t h line .check ≡ Passes) where
-  pub line-passes : (cutCheck h line ⊳ cellsCheck t h line) ≡ Passes
-  line-passes = rowed-passes (cutCheck h line ⊳ cellsCheck t h line) (rowRead t h line) p
+module _ (ed : Edition) (t : Table) (h : Header) (line : Bytes) (p : read ed t h line .check ≡ Passes) where
+  pub line-passes : (cutCheck h line ⊳ cellsCheck ed t h line) ≡ Passes
+  line-passes = rowed-passes (cutCheck h line ⊳ cellsCheck ed t h line) (rowRead ed t h line) p
 
-  pub read-passes : cellsCheck t h line ≡ Passes
-  read-passes = both (cutCheck h line) (cellsCheck t h line) line-passes .1
+  pub read-passes : cellsCheck ed t h line ≡ Passes
+  read-passes = both (cutCheck h line) (cellsCheck ed t h line) line-passes .1
 
-  pub read-row : read t h line .row ≡ rowRead t h line
+  pub read-row : read ed t h line .row ≡ rowRead ed t h line
   read-row = rw line-passes

@@ -10,6 +10,7 @@ use Rattle.refusals.specs.declared.Check.the-variants.{Passes}
 use Rattle.refusals.specs.Verdicts.{_⊳_}
 use Rattle.cells.specs.Cells.{cut, cellsOf}
 use Rattle.cells.specs.Numbered.{MarksOf}
+use Rattle.tables.specs.declared.Edition.{Edition}
 use Rattle.tables.specs.Columns.{columnsOf}
 use Rattle.tables.specs.declared.Table.{Table}
 use Rattle.tables.specs.Listing.{listed}
@@ -26,15 +27,15 @@ pub record CutOf (line : Bytes) (count : ℕ) (bounds : List ℕ) (c : Check) : 
   pub marks : c ≡ Passes → MarksOf line bounds count
 
 -- what is wrong with a line's cells
-abbrev pub cellsCheck : Table → Header → Bytes → Check
-cellsCheck t h line = badCell 1 (columnsOf t) (contents t h (cellsOf (cut line)))
+abbrev pub cellsCheck : Edition → Table → Header → Bytes → Check
+cellsCheck e t h line = badCell 1 (columnsOf e t) (contents e t h (cellsOf (cut line)))
 
 -- 17, 6, 7 and what is wrong with a cell, without a look at the book
-abbrev pub read : Table → Header → Bytes → Judged
-read t h line = rowed (cutCheck h line ⊳ cellsCheck t h line) (rowRead t h line)
+abbrev pub read : Edition → Table → Header → Bytes → Judged
+read e t h line = rowed (cutCheck h line ⊳ cellsCheck e t h line) (rowRead e t h line)
 
 -- rows are read by their table's columns and by the places of a header, which has few cells
-pub record Guided (t : Table) (columns : List (List ℕ)) (at : List ℕ) : Type 0 where
-  pub rules : columns ≡ listed t
+pub record Guided (e : Edition) (t : Table) (columns : List (List ℕ)) (at : List ℕ) : Type 0 where
+  pub rules : columns ≡ listed e t
   pub few : cellsKept at ≤ mostCells
   pub headed : (h : Header) × (at ≡ places h)

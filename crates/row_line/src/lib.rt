@@ -13,17 +13,25 @@ use header::Places;
 use refusals::Check;
 use rows::NO_ROW;
 use tables::Columns;
+use tables::Edition;
 use tables::Table;
 use values::Judged;
 use values::Value;
 
 // 19, 20, 8 or 21 by column number: the cells of a line, and its row.
-fn read_columns(line: &[u8], bounds: &[usize], t: Table, columns: &Columns, at: &Places) -> Judged
-    requires { ⌜ MarksOf (now line) (now bounds) (cellsKept (now at)) × (now columns ≡ listed t) ⌝ }
-    ensures { λ r. ⌜ ((h : List ℕ) → now (at .entry) ≡ places h → r ≡ rowed (cellsCheck t h (now (line .entry))) (rowRead t h (now (line .entry)))) ⌝ }
+fn read_columns(
+    line: &[u8],
+    bounds: &[usize],
+    edition: Edition,
+    t: Table,
+    columns: &Columns,
+    at: &Places,
+) -> Judged
+    requires { ⌜ MarksOf (now line) (now bounds) (cellsKept (now at)) × (now columns ≡ listed edition t) ⌝ }
+    ensures { λ r. ⌜ ((h : List ℕ) → now (at .entry) ≡ places h → r ≡ rowed (cellsCheck edition t h (now (line .entry))) (rowRead edition t h (now (line .entry)))) ⌝ }
 {
     let cells = at[0];
-    let count = t.columns();
+    let count = t.columns(edition);
     let kept = t.kept();
     let mut check = Check::Passes;
     let mut row = NO_ROW;
@@ -39,7 +47,9 @@ fn read_columns(line: &[u8], bounds: &[usize], t: Table, columns: &Columns, at: 
                 break 'columns;
             }
         }
-        row[k] = values::kept_number(value, k < kept);
+        if k < kept {
+            row[k] = values::kept_number(value);
+        }
         k += 1;
     }
     Judged { check, row }
@@ -67,17 +77,18 @@ pub fn cut_row(line: &[u8], cells: usize, bounds: &mut [usize]) -> Check
 // 17, 6, 7, what is wrong with a cell, and the row of a line, without looking at a book.
 pub fn read_row(
     line: &[u8],
+    edition: Edition,
     t: Table,
     columns: &Columns,
     at: &Places,
     bounds: &mut [usize],
 ) -> Judged
-    requires { ⌜ (now columns ≡ listed t) × (cellsKept (now at) < length (now bounds)) ⌝ }
-    ensures { λ r. ⌜ ((h : List ℕ) → now (at .entry) ≡ places h → r ≡ read t h (now (line .entry))) ⌝ }
+    requires { ⌜ (now columns ≡ listed edition t) × (cellsKept (now at) < length (now bounds)) ⌝ }
+    ensures { λ r. ⌜ ((h : List ℕ) → now (at .entry) ≡ places h → r ≡ read edition t h (now (line .entry))) ⌝ }
 {
     let check = cut_row(line, at[0], bounds);
     match check {
-        Check::Passes => read_columns(line, &bounds[..], t, columns, at),
+        Check::Passes => read_columns(line, &bounds[..], edition, t, columns, at),
         Check::Fails {
             number: _,
             column: _,

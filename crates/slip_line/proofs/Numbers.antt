@@ -21,6 +21,7 @@ use Rattle.fields.specs.declared.Fields.{Fields}
 use Rattle.fields.proofs.Cutting.{fields-some, field-stands}
 use Rattle.rows.specs.Rows.{wide, column}
 use Rattle.rows.specs.Room.{zeros}
+use Rattle.tables.specs.declared.Edition.the-variants.{Dino21}
 use Rattle.tables.specs.Columns.{columnsOf, Column, columnAt, noColumn}
 use Rattle.tables.specs.declared.Table.the-variants.{Block}
 use Rattle.tables.proofs.Figures.{version-low, kept-decimal, kept-required}
@@ -51,23 +52,23 @@ number-stands line marks n i m c few h =
 
 -- 8, column by column
 abbrev pub badFrom : ℕ → List Bytes → Check
-badFrom i fs = badCell (i + 1) (drop i (columnsOf Block)) (drop i fs)
+badFrom i fs = badCell (i + 1) (drop i (columnsOf Dino21 Block)) (drop i fs)
 
-block-columns : length (columnsOf Block) ≡ 11
+block-columns : length (columnsOf Dino21 Block) ≡ 11
 unfolding columnsOf
 block-columns = refl
 
 module _ (fs : List Bytes) (few : length fs ≤ 11) (i : ℕ) where
-  bad-here : i < length fs → badFrom i fs ≡ cellCheck (i + 1) (columnAt Block i .rules) (getD fs i []) ⊳ badFrom (i + 1) fs
+  bad-here : i < length fs → badFrom i fs ≡ cellCheck (i + 1) (columnAt Dino21 Block i .rules) (getD fs i []) ⊳ badFrom (i + 1) fs
   unfolding badCell
   bad-here h =
-      let g : i < length (columnsOf Block) = omega (arith, block-columns) in
-      rw (drop-step noColumn (columnsOf Block) i g, drop-step [] fs i h, add-one (i + 1))
+      let g : i < length (columnsOf Dino21 Block) = omega (arith, block-columns) in
+      rw (drop-step noColumn (columnsOf Dino21 Block) i g, drop-step [] fs i h, add-one (i + 1))
 
   -- what a value answers to its column
-  module _ (v : Value) (q : Check) (in-row : i < length fs) (is : v ≡ valueOf (columnAt Block i .rules) (getD fs i [])) (checked : q ≡ checkOf (i + 1) v) where
-    field-check : q ≡ cellCheck (i + 1) (columnAt Block i .rules) (getD fs i [])
-    field-check = checked ∙ ap (checkOf (i + 1)) is ∙ check-of-value (i + 1) (columnAt Block i .rules) (getD fs i [])
+  module _ (v : Value) (q : Check) (in-row : i < length fs) (is : v ≡ valueOf (columnAt Dino21 Block i .rules) (getD fs i [])) (checked : q ≡ checkOf (i + 1) v) where
+    field-check : q ≡ cellCheck (i + 1) (columnAt Dino21 Block i .rules) (getD fs i [])
+    field-check = checked ∙ ap (checkOf (i + 1)) is ∙ check-of-value (i + 1) (columnAt Dino21 Block i .rules) (getD fs i [])
 
     pub field-fault : (n k : ℕ) → q ≡ Fails n k → badFrom i fs ≡ Fails n k
     field-fault n k e = bad-here in-row ∙ ap (λ (c : Check). c ⊳ badFrom (i + 1) fs) (sym field-check ∙ e)
@@ -75,15 +76,15 @@ module _ (fs : List Bytes) (few : length fs ≤ 11) (i : ℕ) where
     pub field-passes : q ≡ Passes → badFrom i fs ≡ badFrom (i + 1) fs
     field-passes e = bad-here in-row ∙ ap (λ (c : Check). c ⊳ badFrom (i + 1) fs) (sym field-check ∙ e)
 
-    keeps : q ≡ Passes → breaks (columnAt Block i .rules) (getD fs i []) ≡ false
-    keeps e = check-kept (i + 1) (columnAt Block i .rules) (getD fs i []) (sym field-check ∙ e)
+    keeps : q ≡ Passes → breaks (columnAt Dino21 Block i .rules) (getD fs i []) ≡ false
+    keeps e = check-kept (i + 1) (columnAt Dino21 Block i .rules) (getD fs i []) (sym field-check ∙ e)
 
     pub field-number : q ≡ Passes → v ≡ value-is.Number (value (getD fs i []))
-    field-number e = is ∙ kept-value Block i (omega arith) (getD fs i []) (keeps e)
+    field-number e = is ∙ kept-value Dino21 Block i (omega arith) (getD fs i []) (keeps e)
 
   pub bad-end : length fs ≤ i → badFrom i fs ≡ Passes
   unfolding badCell
-  bad-end h = rw (drop-of-length-le fs {i = i} h) (none (drop i (columnsOf Block)))
+  bad-end h = rw (drop-of-length-le fs {i = i} h) (none (drop i (columnsOf Dino21 Block)))
     where
       none : (cs : List Column) → badCell (i + 1) cs [] ≡ Passes
       none [] = refl
@@ -113,6 +114,6 @@ module _ (q : Check) (row : Row) where
 pub version-some : (fs : List Bytes) → 1 ≤ length fs → length fs ≤ 11 → badField fs ≡ Passes → 1 ≤ column 1 (map value fs)
 version-some [] h few e = absurd (omega arith)
 version-some (f ∷ fs) h few e =
-    let p : cellCheck 1 (columnAt Block 0 .rules) f ≡ Passes = both (cellCheck 1 (columnAt Block 0 .rules) f) (badFrom 1 (f ∷ fs)) (sym (bad-here (f ∷ fs) few 0 (omega arith)) ∙ e) .0 in
-    let k : breaks (columnAt Block 0 .rules) f ≡ false = check-kept 1 (columnAt Block 0 .rules) f p in
-    omega (arith, version-low Block, number-from (columnAt Block 0 .rules) f (kept-decimal Block 0 (lit< tt)) (kept-required Block 0 (lit< tt)) k)
+    let p : cellCheck 1 (columnAt Dino21 Block 0 .rules) f ≡ Passes = both (cellCheck 1 (columnAt Dino21 Block 0 .rules) f) (badFrom 1 (f ∷ fs)) (sym (bad-here (f ∷ fs) few 0 (omega arith)) ∙ e) .0 in
+    let k : breaks (columnAt Dino21 Block 0 .rules) f ≡ false = check-kept 1 (columnAt Dino21 Block 0 .rules) f p in
+    omega (arith, version-low Dino21 Block, number-from (columnAt Dino21 Block 0 .rules) f (kept-decimal Dino21 Block 0 (lit< tt)) (kept-required Dino21 Block 0 (lit< tt)) k)

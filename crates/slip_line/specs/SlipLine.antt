@@ -7,6 +7,7 @@ use Rattle.words.specs.Words.{Bytes, if_then_else_, bytes, same, Row}
 use Rattle.refusals.specs.declared.Check.{Check}
 use Rattle.numbers.specs.Numbers.{value}
 use Rattle.fields.specs.Fields.{fields}
+use Rattle.tables.specs.declared.Edition.the-variants.{Dino21}
 use Rattle.tables.specs.Columns.{columnsOf, keyWidth, keptWidth}
 use Rattle.tables.specs.declared.Table.the-variants.{Block}
 use Rattle.values.specs.Values.{badCell}
@@ -36,7 +37,7 @@ wish (f ∷ fs) = counted (letter f) (length fs)
 
 -- "Numbers follow their column's rules, unquoted": 19, 20, 8 or 21. "Fields count as the vehicle_block columns."
 abbrev pub badField : List Bytes → Check
-badField fs = badCell 1 (columnsOf Block) fs
+badField fs = badCell 1 (columnsOf Dino21 Block) fs
 
 -- the numbers of a line
 abbrev pub rowIn : Bytes → Row

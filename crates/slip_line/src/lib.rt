@@ -14,6 +14,7 @@ use refusals::Check;
 use rows::NO_ROW;
 use rows::NUMBERS;
 use tables::Columns;
+use tables::Edition;
 use tables::Table;
 use values::Judged;
 use values::Value;
@@ -99,7 +100,7 @@ pub fn wish_of(line: &[u8], marks: Fields) -> Wish
 
 // 19, 20, 8 or 21, and the row of a line of n numbers.
 pub fn read_fields(line: &[u8], marks: Fields, columns: &Columns, n: usize) -> Judged
-    requires { ⌜ FieldsOf (now line) marks × (length (numbers (fields (now line))) ≡ n) × (n ≤ rowNumbers) × (now columns ≡ listed Table.Block) ⌝ }
+    requires { ⌜ FieldsOf (now line) marks × (length (numbers (fields (now line))) ≡ n) × (n ≤ rowNumbers) × (now columns ≡ listed Edition.Dino21 Table.Block) ⌝ }
     ensures { λ r. ⌜ r ≡ fieldsRead (numbers (fields (now (line .entry)))) ⌝ }
 {
     let bounds = marks.bounds;
@@ -118,7 +119,7 @@ pub fn read_fields(line: &[u8], marks: Fields, columns: &Columns, n: usize) -> J
                 break 'columns;
             }
         }
-        row[i] = values::kept_number(value, true);
+        row[i] = values::kept_number(value);
         i += 1;
     }
     Judged { check, row }

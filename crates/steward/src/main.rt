@@ -8,6 +8,7 @@ use rows::Row;
 use tables::BOOK_ROWS;
 use tables::COLUMN_ROOM;
 use tables::Columns;
+use tables::Edition;
 use tables::Named;
 use tables::Rules;
 use tables::Table;
@@ -91,8 +92,8 @@ fn unknown_row(column: u64) {
 fn columns_of(table: u64) -> Columns {
     let named = Table::numbered(table);
     match named {
-        Named::Known(t) => t.column_rules(),
-        Named::Unknown => Table::Block.column_rules(),
+        Named::Known(t) => t.column_rules(Edition::Dino21),
+        Named::Unknown => Table::Block.column_rules(Edition::Dino21),
     }
 }
 

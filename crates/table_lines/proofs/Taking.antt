@@ -17,6 +17,7 @@ use Rattle.lines.specs.Ends.{lineAt}
 use Rattle.lines.specs.declared.Line.{Line}
 use Rattle.lines.proofs.Lining.{line-from, lines-none}
 use Rattle.rows.specs.Rows.{column}
+use Rattle.tables.specs.declared.Edition.the-variants.{Dino21}
 use Rattle.tables.specs.declared.Table.{Table}
 use Rattle.tables.specs.Parts.{room}
 use Rattle.tables.specs.Columns.{number}
@@ -49,7 +50,7 @@ module _ (t : Table) (h : Header) (line : Bytes) (xs slots : List Row) (order : 
     pub line-room : n < room t
     line-room = omega (arith, shelf-most t xs slots order n on, less, room-alike t)
 
-    module _ (j : Judged) (is : j ≡ read t h line) where
+    module _ (j : Judged) (is : j ≡ read Dino21 t h line) where
       pub line-faulty : (d : Book) (m k : ℕ) → j .check ≡ Fails m k → Taken t h line (shelfBook t xs slots order n) d (Fails m k)
       line-faulty d m k e =
           record {
@@ -93,7 +94,7 @@ module _ (t : Table) (h : Header) (n : ℕ) (s : Bytes) (i : ℕ) (b : Book) whe
 
   module _ (r : Line) (e : r ≡ lineAt s i) (l : i < length s) (c : Check) (d : Book) (x : Taken t h (take (r .end - i) (drop i s)) b d c) (v : Verdict) (o : v ≡ placed (number t) n c) where
     step : rowsRead t h n (lines (drop i s)) b
-        ≡ unless (placed (number t) n (judged t h (take (r .end - i) (drop i s)) b)) (rowsRead t h (lineAfter n (take (r .end - i) (drop i s))) (lines (drop (r .next) s)) (entered t (rowRead t h (take (r .end - i) (drop i s))) b))
+        ≡ unless (placed (number t) n (judged t h (take (r .end - i) (drop i s)) b)) (rowsRead t h (lineAfter n (take (r .end - i) (drop i s))) (lines (drop (r .next) s)) (entered t (rowRead Dino21 t h (take (r .end - i) (drop i s))) b))
     unfolding rowsRead
     step = rw (line-from s i r l e .is)
 

@@ -5,6 +5,7 @@ use Rattle.words.specs.Words.{Bytes}
 use Rattle.refusals.specs.Verdicts.{_⊳_, _when_, tooManyRows, placed}
 use Rattle.refusals.specs.declared.Check.{Check}
 use Rattle.cells.specs.Cells.{cut, cellsOf}
+use Rattle.tables.specs.declared.Edition.the-variants.{Dino21}
 use Rattle.tables.specs.Columns.{columnsOf, number}
 use Rattle.tables.specs.declared.Table.{Table}
 use Rattle.values.specs.Values.{badCell}
@@ -19,8 +20,8 @@ unfoldable pub judged : Table → Header → Bytes → Book → Check
 judged t h line b =
     tooManyRows when full t b
     ⊳ cutCheck h line
-    ⊳ badCell 1 (columnsOf t) (contents t h (cellsOf (cut line)))
-    ⊳ ruled t (rowRead t h line) b
+    ⊳ badCell 1 (columnsOf Dino21 t) (contents Dino21 t h (cellsOf (cut line)))
+    ⊳ ruled t (rowRead Dino21 t h line) b
 
 -- the number of the line behind one that begins on line i
 unfoldable pub lineAfter : ℕ → Bytes → ℕ
@@ -30,4 +31,4 @@ lineAfter i line = suc i
 unfoldable pub rowsRead : Table → Header → ℕ → List Bytes → Book → Result
 rowsRead t h i [] b = leaves b
 rowsRead t h i (l ∷ ls) b =
-    unless (placed (number t) i (judged t h l b)) (rowsRead t h (lineAfter i l) ls (entered t (rowRead t h l) b))
+    unless (placed (number t) i (judged t h l b)) (rowsRead t h (lineAfter i l) ls (entered t (rowRead Dino21 t h l) b))

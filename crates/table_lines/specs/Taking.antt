@@ -8,6 +8,7 @@ use Rattle.refusals.specs.declared.Check.{Check}
 use Rattle.refusals.specs.declared.Check.the-variants.{Passes}
 use Rattle.refusals.specs.declared.Verdict.the-variants.{Accepted}
 use Rattle.lines.specs.Lines.{lines}
+use Rattle.tables.specs.declared.Edition.the-variants.{Dino21}
 use Rattle.tables.specs.declared.Table.{Table}
 use Rattle.book.specs.Book.{Book, entered}
 use Rattle.book.specs.Result.{leaves, unless}
@@ -24,16 +25,16 @@ use Rattle.table_lines.specs.declared.Filled.{Filled}
 -- a line taken into a book: what it is refused for, or the book with its row
 pub record Taken (t : Table) (h : Header) (line : Bytes) (old new : Book) (c : Check) : Type 0 where
   pub is : c ≡ judged t h line old
-  pub enters : c ≡ Passes → new ≡ entered t (rowRead t h line) old
+  pub enters : c ≡ Passes → new ≡ entered t (rowRead Dino21 t h line) old
 
 -- what was read of some line, under some header of the table
 abbrev pub ReadBy : Table → Judged → Type 0
-ReadBy t j = (h : Header) × ((line : Bytes) × (j ≡ read t h line))
+ReadBy t j = (h : Header) × ((line : Bytes) × (j ≡ read Dino21 t h line))
 
 -- a line that was read, on the n rows of a shelf: `slots` and `order` are what it held before, `slots′` and `order′` behind the line
 pub record RowTaken (t : Table) (j : Judged) (slice slots slots′ : List Row) (order order′ : List ℕ) (n : ℕ) (c : Check) : Type 0 where
   pub on : c ≡ Passes → OnShelf t slice slots′ order′ (suc n)
-  pub taken : (h : Header) (line : Bytes) → j ≡ read t h line → Taken t h line (shelfBook t slice slots order n) (shelfBook t slice slots′ order′ (suc n)) c
+  pub taken : (h : Header) (line : Bytes) → j ≡ read Dino21 t h line → Taken t h line (shelfBook t slice slots order n) (shelfBook t slice slots′ order′ (suc n)) c
 
 -- the number of the line behind some lines that begin on line i
 unfoldable pub linesAfter : ℕ → List Bytes → ℕ

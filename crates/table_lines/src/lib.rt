@@ -11,6 +11,7 @@ use refusals::Verdict;
 use rows::ROWS;
 use rows::Row;
 use tables::Columns;
+use tables::Edition;
 use tables::Table;
 use values::Judged;
 
@@ -61,7 +62,7 @@ pub fn take_lines(
     slots: &mut [Row],
     order: &mut [u16],
 ) -> Filled
-    requires { ⌜ Guided t (now columns) (now at) × OnShelf t (now book) (now slots) (now order) (from .count) × (from .line + length (now bytes) < 2 ^ 64) ⌝ }
+    requires { ⌜ Guided Edition.Dino21 t (now columns) (now at) × OnShelf t (now book) (now slots) (now order) (from .count) × (from .line + length (now bytes) < 2 ^ 64) ⌝ }
     ensures { λ r. ⌜ LinesTaken t (now (at .entry)) (now (bytes .entry)) from (now (book .entry)) (now (slots .entry)) (now (slots .exit)) (now (order .entry)) (now (order .exit)) r ⌝ }
 {
     let table = t.number();
@@ -74,7 +75,7 @@ pub fn take_lines(
         let l = lines::next_line(bytes, i);
         let end = l.end;
         let next = l.next;
-        let read = row_line::read_row(&bytes[i..end], t, columns, at, &mut bounds);
+        let read = row_line::read_row(&bytes[i..end], Edition::Dino21, t, columns, at, &mut bounds);
         let check = take_row(read, t, book, slots, order, count);
         let v = check.on(table, line);
         match v {

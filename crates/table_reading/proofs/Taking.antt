@@ -16,6 +16,7 @@ use Rattle.refusals.specs.declared.Verdict.{Verdict}
 use Rattle.refusals.specs.declared.Verdict.the-variants.{Accepted, Refused}
 use Rattle.refusals.proofs.Placing.{placed-passes}
 use Rattle.lines.specs.Lines.{lines}
+use Rattle.tables.specs.declared.Edition.the-variants.{Dino21}
 use Rattle.tables.specs.Columns.{number}
 use Rattle.tables.specs.declared.Table.{Table}
 use Rattle.book.specs.Room.{laid, bookOf}
@@ -73,7 +74,7 @@ module _ (t : Table) (at : List ℕ) (line : Bytes) (i : ℕ) (xs : List Row) (b
     (headed : (h : Header) × (at ≡ places h)) (named : pointsNamed (bookOf xs) ≡ true) (k : (h : Header) → at ≡ places h → Taken t h line b d c) where
   -- what the line comes to
   abbrev after : Header → Result
-  after h = unless (placed (number t) i (judged t h line (bookOf xs))) (leaves (entered t (rowRead t h line) (bookOf xs)))
+  after h = unless (placed (number t) i (judged t h line (bookOf xs))) (leaves (entered t (rowRead Dino21 t h line) (bookOf xs)))
 
   judged-so : (h : Header) → at ≡ places h → c ≡ judged t h line (bookOf xs)
   judged-so h e = k h e .is ∙ ap (judged t h line) same
@@ -86,7 +87,7 @@ module _ (t : Table) (at : List ℕ) (line : Bytes) (i : ℕ) (xs : List Row) (b
       is h e =
           let p : c ≡ Passes = check-passes (number t) i c v o a in
           let q : judged t h line (bookOf xs) ≡ Passes = sym (judged-so h e) ∙ p in
-          rw q (ap leaves (left .1 ∙ k h e .enters p ∙ ap (entered t (rowRead t h line)) same))
+          rw q (ap leaves (left .1 ∙ k h e .enters p ∙ ap (entered t (rowRead Dino21 t h line)) same))
 
   pub line-refused : (p : Place) → v ≡ Refused p → Sound xs → LineTaken t at line i xs xs (Refused p)
   line-refused p a sound = record { sound = sound; named = tt; taken = is }
@@ -104,16 +105,16 @@ rest-whole : (s : Bytes) (n : ℕ) → take (length s - n) (drop n s) ≡ drop n
 rest-whole s n = take-all (length s - n) (drop n s) (rw length-drop (omega arith))
 
 -- the rows below it
-module _ (t : Table) (s : Bytes) (top : Top) (o : TopOf t s top) where
+module _ (t : Table) (s : Bytes) (top : Top) (o : TopOf Dino21 t s top) where
   pub table-refused : (b : Book) (xs : List Row) (p : Place) → top .verdict ≡ Refused p → resultOf (Refused p) xs ≡ tableRead t s b
   unfolding tableRead
-  table-refused b xs p e = let z : topFaults t s ≡ Refused p = sym (o .is) ∙ e in rw z
+  table-refused b xs p e = let z : topFaults Dino21 t s ≡ Refused p = sym (o .is) ∙ e in rw z
 
   pub table-rows : (a : top .verdict ≡ Accepted) (xs ys : List Row) (r : Reached) → RowsTaken t (top .at) (take (length s - top .next) (drop (top .next) s)) 2 xs ys r → resultOf (r .verdict) ys ≡ tableRead t s (bookOf xs)
   unfolding tableRead lineAfter
   table-rows a xs ys r w =
-      let z : topFaults t s ≡ Accepted = sym (o .is) ∙ a in
-      w .taken (headerOf t s) (o .kept a .headed) ∙ rw (z, rest-whole s (top .next), o .kept a .rest)
+      let z : topFaults Dino21 t s ≡ Accepted = sym (o .is) ∙ a in
+      w .taken (headerOf Dino21 t s) (o .kept a .headed) ∙ rw (z, rest-whole s (top .next), o .kept a .rest)
 
 -- a delivery ------------------------------------------------------------------------------------------------------------------------
 

@@ -8,6 +8,7 @@ use Rattle.refusals.specs.Verdicts.{placed}
 use Rattle.refusals.specs.declared.Verdict.{Verdict}
 use Rattle.refusals.specs.declared.Verdict.the-variants.{Accepted}
 use Rattle.lines.specs.Lines.{lines}
+use Rattle.tables.specs.declared.Edition.the-variants.{Dino21}
 use Rattle.tables.specs.Columns.{number}
 use Rattle.tables.specs.declared.Table.{Table}
 use Rattle.book.specs.Book.{entered}
@@ -34,4 +35,4 @@ pub record LineTaken (t : Table) (at : List ℕ) (line : Bytes) (i : ℕ) (slice
   pub sound : Sound slice′
   pub named : NamedIn (resultOf v slice′)
   pub taken : (h : Header) → at ≡ places h →
-      resultOf v slice′ ≡ unless (placed (number t) i (judged t h line (bookOf slice))) (leaves (entered t (rowRead t h line) (bookOf slice)))
+      resultOf v slice′ ≡ unless (placed (number t) i (judged t h line (bookOf slice))) (leaves (entered t (rowRead Dino21 t h line) (bookOf slice)))

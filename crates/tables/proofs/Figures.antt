@@ -9,6 +9,8 @@ use lib.ListN.{length, getD, take}
 use lib.Seq.{getD-take}
 use borrow.Author.Tests.{leb-true}
 use Rattle.words.proofs.Lists.{every, every-at, and-left, and-right}
+use Rattle.tables.specs.declared.Edition.{Edition}
+use Rattle.tables.specs.declared.Edition.the-variants.{Dino21, Dino23}
 use Rattle.tables.specs.declared.Table.{Table}
 use Rattle.tables.specs.declared.Table.the-variants.{VehicleType, Depot, Stop, StopPoint, Block}
 use Rattle.tables.specs.Parts.{partOf}
@@ -36,13 +38,18 @@ reference-of-point Block i n h = absurd (n refl)
 
 -- bounds ----------------------------------------------------------------------------------------------------------------------
 
-pub columns-few : (t : Table) → length (columnsOf t) ≤ 11
+pub columns-few : (e : Edition) (t : Table) → length (columnsOf e t) ≤ 12
 unfolding columnsOf
-columns-few VehicleType = lit≤ tt
-columns-few Depot = lit≤ tt
-columns-few Stop = lit≤ tt
-columns-few StopPoint = lit≤ tt
-columns-few Block = lit≤ tt
+columns-few Dino21 VehicleType = lit≤ tt
+columns-few Dino23 VehicleType = lit≤ tt
+columns-few Dino21 Depot = lit≤ tt
+columns-few Dino23 Depot = lit≤ tt
+columns-few Dino21 Stop = lit≤ tt
+columns-few Dino23 Stop = lit≤ tt
+columns-few Dino21 StopPoint = lit≤ tt
+columns-few Dino23 StopPoint = lit≤ tt
+columns-few Dino21 Block = lit≤ tt
+columns-few Dino23 Block = lit≤ tt
 
 pub keys-some : (t : Table) → 1 ≤ keyWidth t
 keys-some VehicleType = lit≤ tt
@@ -58,48 +65,62 @@ keys-kept Stop = lit≤ tt
 keys-kept StopPoint = lit≤ tt
 keys-kept Block = lit≤ tt
 
-pub kept-columns : (t : Table) → keptWidth t ≤ length (columnsOf t)
+pub kept-columns : (e : Edition) (t : Table) → keptWidth t ≤ length (columnsOf e t)
 unfolding columnsOf
-kept-columns VehicleType = lit≤ tt
-kept-columns Depot = lit≤ tt
-kept-columns Stop = lit≤ tt
-kept-columns StopPoint = lit≤ tt
-kept-columns Block = lit≤ tt
+kept-columns Dino21 VehicleType = lit≤ tt
+kept-columns Dino23 VehicleType = lit≤ tt
+kept-columns Dino21 Depot = lit≤ tt
+kept-columns Dino23 Depot = lit≤ tt
+kept-columns Dino21 Stop = lit≤ tt
+kept-columns Dino23 Stop = lit≤ tt
+kept-columns Dino21 StopPoint = lit≤ tt
+kept-columns Dino23 StopPoint = lit≤ tt
+kept-columns Dino21 Block = lit≤ tt
+kept-columns Dino23 Block = lit≤ tt
 
 pub kept-few : (t : Table) → keptWidth t ≤ 11
-kept-few t = omega (arith, kept-columns t, columns-few t)
+kept-few VehicleType = lit≤ tt
+kept-few Depot = lit≤ tt
+kept-few Stop = lit≤ tt
+kept-few StopPoint = lit≤ tt
+kept-few Block = lit≤ tt
 
 -- the columns' rules ------------------------------------------------------------------------------------------------------------
 
 -- VERSION comes first, from 1 on
-pub first-version : (t : Table) → columnAt t 0 ≡ version
+pub first-version : (e : Edition) (t : Table) → columnAt e t 0 ≡ version
 unfolding columnsOf
-first-version VehicleType = refl
-first-version Depot = refl
-first-version Stop = refl
-first-version StopPoint = refl
-first-version Block = refl
+first-version e VehicleType = refl
+first-version e Depot = refl
+first-version e Stop = refl
+first-version e StopPoint = refl
+first-version e Block = refl
 
-pub version-low : (t : Table) → columnAt t 0 .rules .low ≡ 1
-version-low t = ap (λ (x : Column). x .rules .low) (first-version t)
+pub version-low : (e : Edition) (t : Table) → columnAt e t 0 .rules .low ≡ 1
+version-low e t = ap (λ (x : Column). x .rules .low) (first-version e t)
 
 -- a decimal column has at most nine digits
 abbrev narrow : Sort → ℕ → Bool
 narrow Decimal w = leb w 9
 narrow Text w = true
 
-all-narrow : (t : Table) → every (λ x. narrow (x .rules .sort) (x .rules .width)) (columnsOf t) ≡ true
+all-narrow : (e : Edition) (t : Table) → every (λ x. narrow (x .rules .sort) (x .rules .width)) (columnsOf e t) ≡ true
 unfolding columnsOf
-all-narrow VehicleType = refl
-all-narrow Depot = refl
-all-narrow Stop = refl
-all-narrow StopPoint = refl
-all-narrow Block = refl
+all-narrow Dino21 VehicleType = refl
+all-narrow Dino23 VehicleType = refl
+all-narrow Dino21 Depot = refl
+all-narrow Dino23 Depot = refl
+all-narrow Dino21 Stop = refl
+all-narrow Dino23 Stop = refl
+all-narrow Dino21 StopPoint = refl
+all-narrow Dino23 StopPoint = refl
+all-narrow Dino21 Block = refl
+all-narrow Dino23 Block = refl
 
-pub decimal-width : (t : Table) (i : ℕ) → columnAt t i .rules .sort ≡ Decimal → columnAt t i .rules .width ≤ 9
-decimal-width t i e =
-    let h : narrow (columnAt t i .rules .sort) (columnAt t i .rules .width) ≡ true = every-at (λ (x : Column). narrow (x .rules .sort) (x .rules .width)) noColumn (columnsOf t) refl (all-narrow t) i in
-    leb-true (columnAt t i .rules .width) 9 (rw e at h)
+pub decimal-width : (e : Edition) (t : Table) (i : ℕ) → columnAt e t i .rules .sort ≡ Decimal → columnAt e t i .rules .width ≤ 9
+decimal-width e t i d =
+    let h : narrow (columnAt e t i .rules .sort) (columnAt e t i .rules .width) ≡ true = every-at (λ (x : Column). narrow (x .rules .sort) (x .rules .width)) noColumn (columnsOf e t) refl (all-narrow e t) i in
+    leb-true (columnAt e t i .rules .width) 9 (rw d at h)
 
 -- what the book keeps of a row, its key first, are required numbers
 abbrev decimal : Sort → Bool
@@ -113,26 +134,31 @@ decimal-true Text e = cc
 abbrev asked : Column → Bool
 asked x = decimal (x .rules .sort) && x .rules .required
 
-all-asked : (t : Table) → every asked (take (keptWidth t) (columnsOf t)) ≡ true
+all-asked : (e : Edition) (t : Table) → every asked (take (keptWidth t) (columnsOf e t)) ≡ true
 unfolding columnsOf
-all-asked VehicleType = refl
-all-asked Depot = refl
-all-asked Stop = refl
-all-asked StopPoint = refl
-all-asked Block = refl
+all-asked Dino21 VehicleType = refl
+all-asked Dino23 VehicleType = refl
+all-asked Dino21 Depot = refl
+all-asked Dino23 Depot = refl
+all-asked Dino21 Stop = refl
+all-asked Dino23 Stop = refl
+all-asked Dino21 StopPoint = refl
+all-asked Dino23 StopPoint = refl
+all-asked Dino21 Block = refl
+all-asked Dino23 Block = refl
 
-kept-asked : (t : Table) (i : ℕ) → i < keptWidth t → asked (columnAt t i) ≡ true
-kept-asked t i h =
-    let e : getD (take (keptWidth t) (columnsOf t)) i version ≡ getD (columnsOf t) i version = getD-take (keptWidth t) (columnsOf t) i version h in
-    ap asked (sym (e ∙ past (columnsOf t) i (omega (arith, kept-columns t)))) ∙ every-at asked version (take (keptWidth t) (columnsOf t)) refl (all-asked t) i
+kept-asked : (e : Edition) (t : Table) (i : ℕ) → i < keptWidth t → asked (columnAt e t i) ≡ true
+kept-asked e t i h =
+    let f : getD (take (keptWidth t) (columnsOf e t)) i version ≡ getD (columnsOf e t) i version = getD-take (keptWidth t) (columnsOf e t) i version h in
+    ap asked (sym (f ∙ past (columnsOf e t) i (omega (arith, kept-columns e t)))) ∙ every-at asked version (take (keptWidth t) (columnsOf e t)) refl (all-asked e t) i
   where
     past : (xs : List Column) (k : ℕ) → k < length xs → getD xs k version ≡ getD xs k noColumn
     past [] k l = absurd (omega arith)
     past (x ∷ xs) zero l = refl
     past (x ∷ xs) (suc k) l = past xs k (omega arith)
 
-pub kept-decimal : (t : Table) (i : ℕ) → i < keptWidth t → columnAt t i .rules .sort ≡ Decimal
-kept-decimal t i h = decimal-true (columnAt t i .rules .sort) (and-left (decimal (columnAt t i .rules .sort)) (columnAt t i .rules .required) (kept-asked t i h))
+pub kept-decimal : (e : Edition) (t : Table) (i : ℕ) → i < keptWidth t → columnAt e t i .rules .sort ≡ Decimal
+kept-decimal e t i h = decimal-true (columnAt e t i .rules .sort) (and-left (decimal (columnAt e t i .rules .sort)) (columnAt e t i .rules .required) (kept-asked e t i h))
 
-pub kept-required : (t : Table) (i : ℕ) → i < keptWidth t → columnAt t i .rules .required ≡ true
-kept-required t i h = and-right (decimal (columnAt t i .rules .sort)) (columnAt t i .rules .required) (kept-asked t i h)
+pub kept-required : (e : Edition) (t : Table) (i : ℕ) → i < keptWidth t → columnAt e t i .rules .required ≡ true
+kept-required e t i h = and-right (decimal (columnAt e t i .rules .sort)) (columnAt e t i .rules .required) (kept-asked e t i h)

@@ -10,8 +10,10 @@ use Rattle.words.specs.Words.{if_then_else_}
 use Rattle.tables.specs.declared.Sort.the-variants.{Decimal, Text}
 use Rattle.tables.specs.declared.Rules.{Rules}
 use Rattle.tables.specs.declared.Sort.{Sort}
-use Rattle.tables.specs.Listing.{six, listing, listed}
+use Rattle.tables.specs.Listing.{six, listing, listed, chosen}
 use Rattle.tables.specs.Columns.{Column, noColumn, columnsOf, columnAt}
+use Rattle.tables.specs.declared.Edition.{Edition}
+use Rattle.tables.specs.declared.Edition.the-variants.{Dino21, Dino23}
 use Rattle.tables.specs.declared.Table.{Table}
 
 -- a column read back from its six numbers
@@ -41,7 +43,12 @@ listing-at (suc n) [] (suc i) h = listing-at n [] i (omega (arith, h))
 listing-at (suc n) (x ∷ xs) (suc i) h = listing-at n xs i (omega (arith, h))
 
 -- a table's column, read from what the table hands out
-pub listed-back : (t : Table) (ns : List (List ℕ)) (i : ℕ) → i < 12 → ns ≡ listed t → rulesOf (getD ns i []) ≡ columnAt t i .rules
+pub listed-back : (e : Edition) (t : Table) (ns : List (List ℕ)) (i : ℕ) → i < 12 → ns ≡ listed e t → rulesOf (getD ns i []) ≡ columnAt e t i .rules
 unfolding listed
-listed-back t ns i h e =
-    ap (λ (l : List (List ℕ)). rulesOf (getD l i [])) e ∙ (ap rulesOf (listing-at 12 (columnsOf t) i h) ∙ six-back (columnAt t i .rules))
+listed-back e t ns i h q =
+    ap (λ (l : List (List ℕ)). rulesOf (getD l i [])) q ∙ (ap rulesOf (listing-at 12 (columnsOf e t) i h) ∙ six-back (columnAt e t i .rules))
+
+-- what differs by edition
+pub chosen-listed : (e : Edition) (t : Table) → chosen e (listed Dino21 t) (listed Dino23 t) ≡ listed e t
+chosen-listed Dino21 t = refl
+chosen-listed Dino23 t = refl

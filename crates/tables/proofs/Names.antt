@@ -9,6 +9,8 @@ use lib.Dec.{eqb}
 use Rattle.words.specs.Words.{Bytes, if_then_else_, same, bytes}
 use Rattle.words.proofs.Lists.{every}
 use Rattle.tables.specs.Columns.{Column, columnFrom, columnsOf, columnNumber}
+use Rattle.tables.specs.declared.Edition.{Edition}
+use Rattle.tables.specs.declared.Edition.the-variants.{Dino21, Dino23}
 use Rattle.tables.specs.declared.Table.{Table}
 use Rattle.tables.specs.declared.Table.the-variants.{VehicleType, Depot, Stop, StopPoint, Block}
 
@@ -22,9 +24,9 @@ number-from k (x ∷ xs) name = go (same name (x .name) || same name (x .other))
     go true h = omega arith
     go false h = omega arith
 
-pub column-number-most : (t : Table) (name : Bytes) → columnNumber t name ≤ length (columnsOf t)
+pub column-number-most : (e : Edition) (t : Table) (name : Bytes) → columnNumber e t name ≤ length (columnsOf e t)
 unfolding columnNumber
-column-number-most t name = omega (arith, number-from 0 (columnsOf t) name)
+column-number-most e t name = omega (arith, number-from 0 (columnsOf e t) name)
 
 -- a name without a quote is found in a text whether its doubled quotes are counted once or twice
 abbrev pub quoteless : Bytes → Bool
@@ -34,10 +36,15 @@ quoteless (b ∷ bs) = not (eqb b 34) && quoteless bs
 abbrev pub unquoted : Column → Bool
 unquoted x = quoteless (x .name) && quoteless (x .other)
 
-pub all-unquoted : (t : Table) → every unquoted (columnsOf t) ≡ true
+pub all-unquoted : (e : Edition) (t : Table) → every unquoted (columnsOf e t) ≡ true
 unfolding columnsOf bytes
-all-unquoted VehicleType = refl
-all-unquoted Depot = refl
-all-unquoted Stop = refl
-all-unquoted StopPoint = refl
-all-unquoted Block = refl
+all-unquoted Dino21 VehicleType = refl
+all-unquoted Dino23 VehicleType = refl
+all-unquoted Dino21 Depot = refl
+all-unquoted Dino23 Depot = refl
+all-unquoted Dino21 Stop = refl
+all-unquoted Dino23 Stop = refl
+all-unquoted Dino21 StopPoint = refl
+all-unquoted Dino23 StopPoint = refl
+all-unquoted Dino21 Block = refl
+all-unquoted Dino23 Block = refl

@@ -9,6 +9,8 @@ use Rattle.words.specs.Words.{Bytes, bytes, if_then_else_, same}
 use Rattle.rows.specs.Rows.{rowNumbers}
 use Rattle.tables.specs.declared.Rules.{Rules}
 use Rattle.tables.specs.declared.Sort.the-variants.{Decimal, Text}
+use Rattle.tables.specs.declared.Edition.{Edition}
+use Rattle.tables.specs.declared.Edition.the-variants.{Dino21, Dino23}
 use Rattle.tables.specs.declared.Table.{Table}
 use Rattle.tables.specs.declared.Table.the-variants.{VehicleType, Depot, Stop, StopPoint, Block}
 use Rattle.tables.specs.declared.Named.{Named}
@@ -52,8 +54,32 @@ version = K (range 1 99 (d 2 "VERSION"))
 abbrev pub stopNumber : Column
 stopNumber = K (range 1 99999 (d 5 "STOP_NR"))
 
-unfoldable pub columnsOf : Table → List Column
-columnsOf VehicleType =
+-- what differs between the editions -------------------------------------------------------------------------------------------
+
+-- 2.3: "STOP_NAME is up to 255 bytes"
+abbrev pub nameWidth : Edition → ℕ
+nameWidth Dino21 = 50
+nameWidth Dino23 = 255
+
+-- "VEH_TYPE_ACCESS_EQUIP is a set of flags 1 lift, 2 ramp, 4 multi-purpose space, so 0 to 7"
+abbrev pub equipHigh : Edition → ℕ
+equipHigh Dino21 = 2
+equipHigh Dino23 = 7
+
+-- "VEH_DELFI_TYPE c10 is an optional column 12 of vehicle_type"
+abbrev pub delfiType : Edition → List Column
+delfiType Dino21 = []
+delfiType Dino23 = c 10 "VEH_DELFI_TYPE" ∷ []
+
+-- "a block's two stop numbers are d5, 1 to 99999"
+abbrev pub blockStop : Edition → String → Column
+blockStop Dino21 name = r (d 6 name)
+blockStop Dino23 name = r (range 1 99999 (d 5 name))
+
+-- the columns ------------------------------------------------------------------------------------------------------------------
+
+unfoldable pub columnsOf : Edition → Table → List Column
+columnsOf e VehicleType =
     version ∷
     K (d 8 "VEH_TYPE_NR") ∷
     d 3 "VEH_TYPE_SEATS" ∷
@@ -64,28 +90,29 @@ columnsOf VehicleType =
     d 4 "VEH_TYPE_DOOR_WIDTH" ∷
     d 4 "VEH_TYPE_WIDTH" ∷
     d 4 "VEH_TYPE_HEIGHT" ∷
-    range 0 2 (d 1 "VEH_TYPE_ACCESS_EQUIP") ∷ []
-columnsOf Depot =
+    range 0 (equipHigh e) (d 1 "VEH_TYPE_ACCESS_EQUIP") ∷
+    delfiType e
+columnsOf e Depot =
     version ∷
     K (d 5 "DEPOT_NR") ∷ []
-columnsOf Stop =
+columnsOf e Stop =
     version ∷
     stopNumber ∷
-    r (c 50 "STOP_NAME") ∷ []
-columnsOf StopPoint =
+    r (c (nameWidth e) "STOP_NAME") ∷ []
+columnsOf e StopPoint =
     version ∷
     stopNumber ∷
     K (d 2 "STOPPING_POINT_NR") ∷ []
-columnsOf Block =
+columnsOf e Block =
     version ∷
     K (d 9 "DAY_TYPE_NR") ∷
     K (d 5 "DEPOT_NR") ∷
     K (d 8 "BLOCK_NR") ∷
     also "VEH_TYPE_NR" (r (d 2 "VEH_TYP_NR")) ∷
-    r (d 6 "DEP_STOP_NR") ∷
+    blockStop e "DEP_STOP_NR" ∷
     r (d 2 "DEP_STOPPING_POINT_NR") ∷
     r (d 6 "BEGIN_OF_BLOCK") ∷
-    r (d 6 "ARR_STOP_NR") ∷
+    blockStop e "ARR_STOP_NR" ∷
     r (d 2 "ARR_STOPPING_POINT_NR") ∷
     r (d 6 "END_OF_BLOCK") ∷ []
 
@@ -144,8 +171,8 @@ columnFrom k [] name = 0
 columnFrom k (x ∷ xs) name = if same name (x .name) || same name (x .other) then k else columnFrom (suc k) xs name
 
 -- "Header names are compared byte for byte, in any column order. Unknown columns, unnamed ones too, are passed over"
-unfoldable pub columnNumber : Table → Bytes → ℕ
-columnNumber t name = columnFrom 1 (columnsOf t) name
+unfoldable pub columnNumber : Edition → Table → Bytes → ℕ
+columnNumber e t name = columnFrom 1 (columnsOf e t) name
 
 -- contents -----------------------------------------------------------------------------------------------------------------
 
@@ -158,5 +185,5 @@ inRange x n = leb (x .low) n && leb n (x .high)
 abbrev pub noColumn : Column
 noColumn = c 0 ""
 
-abbrev pub columnAt : Table → ℕ → Column
-columnAt t i = getD (columnsOf t) i noColumn
+abbrev pub columnAt : Edition → Table → ℕ → Column
+columnAt e t i = getD (columnsOf e t) i noColumn

@@ -8,6 +8,8 @@ use Rattle.tables.specs.declared.Sort.{Sort}
 use Rattle.tables.specs.declared.Sort.the-variants.{Decimal, Text}
 use Rattle.tables.specs.declared.Rules.{Rules}
 use Rattle.tables.specs.Columns.{Column, noColumn, columnsOf, number, keyWidth, keptWidth, references}
+use Rattle.tables.specs.declared.Edition.{Edition}
+use Rattle.tables.specs.declared.Edition.the-variants.{Dino21, Dino23}
 use Rattle.tables.specs.declared.Table.{Table}
 use Rattle.tables.specs.declared.TableFigures.{TableFigures}
 
@@ -34,10 +36,15 @@ abbrev pub columnRoom : ℕ
 columnRoom = 12
 
 -- the columns of a table
-unfoldable pub listed : Table → List (List ℕ)
-listed t = listing columnRoom (columnsOf t)
+unfoldable pub listed : Edition → Table → List (List ℕ)
+listed e t = listing columnRoom (columnsOf e t)
+
+-- those that differ by edition
+abbrev pub chosen : Edition → List (List ℕ) → List (List ℕ) → List (List ℕ)
+chosen Dino21 by21 by23 = by21
+chosen Dino23 by21 by23 = by23
 
 -- what a table is counted by
 abbrev pub figuresOf : Table → TableFigures
 figuresOf t =
-    record { number = number t; columns = length (columnsOf t); keys = keyWidth t; kept = keptWidth t; references = length (references t) }
+    record { number = number t; columns21 = length (columnsOf Dino21 t); columns23 = length (columnsOf Dino23 t); keys = keyWidth t; kept = keptWidth t; references = length (references t) }

@@ -5,7 +5,7 @@ ghost use lib.ListN.{getD, length};
 ghost use lib.Dec.{eqb};
 ghost use Rattle.words.specs.Words.{if_then_else_};
 ghost use Rattle.tables.specs.Columns.{columnAt, references, ref, columnsOf, number, keyWidth, keptWidth, numbered};
-ghost use Rattle.tables.specs.Listing.{columnRoom, listed, figuresOf};
+ghost use Rattle.tables.specs.Listing.{columnRoom, listed, figuresOf, chosen};
 ghost use Rattle.tables.specs.Parts.{tables, room, begin};
 use refusals::Place;
 use rows::NUMBERS;
@@ -18,6 +18,12 @@ pub type Column = [u64; 6];
 pub const COLUMN_ROOM: usize = 12;
 
 pub type Columns = [Column; COLUMN_ROOM];
+
+// Whose tables they are: DINO 2.1 or 2.3, one for a whole delivery.
+pub enum Edition {
+    Dino21,
+    Dino23,
+}
 
 pub enum Table {
     VehicleType,
@@ -49,11 +55,12 @@ pub struct Rules {
     pub required: bool,
 }
 
-// What a table is counted by: its number in places, how many columns it has, how many of them are its key, how many numbers of a row the book
+// What a table is counted by: its number in places, how many columns it has by 2.1 and by 2.3, how many of them are its key, how many numbers of a row the book
 // keeps, and how many references a row has.
 pub struct TableFigures {
     pub number: u64,
-    pub columns: usize,
+    pub columns21: usize,
+    pub columns23: usize,
     pub keys: usize,
     pub kept: usize,
     pub references: usize,
@@ -91,6 +98,22 @@ const VEHICLE_TYPE_COLUMNS: Columns = [
     NO_COLUMN,
 ];
 
+// By 2.3 "VEH_TYPE_ACCESS_EQUIP is a set of flags 1 lift, 2 ramp, 4 multi-purpose space, so 0 to 7; VEH_DELFI_TYPE c10 is an optional column 12".
+const VEHICLE_TYPE_COLUMNS_23: Columns = [
+    VERSION,
+    [0, 8, 0, 99999999, 1, 1], // VEH_TYPE_NR
+    [0, 3, 0, 999, 0, 0], // VEH_TYPE_SEATS
+    [0, 3, 0, 999, 0, 0], // VEH_TYPE_STRAPS
+    [0, 3, 0, 999, 0, 0], // PLACES_FOR_DISABLED_PERSONS
+    [1, 40, 0, 0, 0, 0], // VEH_TYPE_TEXT
+    [1, 4, 0, 0, 0, 0], // STR_VEH_TYPE
+    [0, 4, 0, 9999, 0, 0], // VEH_TYPE_DOOR_WIDTH
+    [0, 4, 0, 9999, 0, 0], // VEH_TYPE_WIDTH
+    [0, 4, 0, 9999, 0, 0], // VEH_TYPE_HEIGHT
+    [0, 1, 0, 7, 0, 0], // VEH_TYPE_ACCESS_EQUIP
+    [1, 10, 0, 0, 0, 0], // VEH_DELFI_TYPE
+];
+
 const DEPOT_COLUMNS: Columns = [
     VERSION,
     [0, 5, 0, 99999, 1, 1], // DEPOT_NR
@@ -110,6 +133,22 @@ const STOP_COLUMNS: Columns = [
     VERSION,
     STOP_NR,
     [1, 50, 0, 0, 0, 1], // STOP_NAME
+    NO_COLUMN,
+    NO_COLUMN,
+    NO_COLUMN,
+    NO_COLUMN,
+    NO_COLUMN,
+    NO_COLUMN,
+    NO_COLUMN,
+    NO_COLUMN,
+    NO_COLUMN,
+];
+
+// By 2.3 "STOP_NAME is up to 255 bytes".
+const STOP_COLUMNS_23: Columns = [
+    VERSION,
+    STOP_NR,
+    [1, 255, 0, 0, 0, 1], // STOP_NAME
     NO_COLUMN,
     NO_COLUMN,
     NO_COLUMN,
@@ -146,6 +185,22 @@ const BLOCK_COLUMNS: Columns = [
     [0, 2, 0, 99, 0, 1], // DEP_STOPPING_POINT_NR
     [0, 6, 0, 999999, 0, 1], // BEGIN_OF_BLOCK
     [0, 6, 0, 999999, 0, 1], // ARR_STOP_NR
+    [0, 2, 0, 99, 0, 1], // ARR_STOPPING_POINT_NR
+    [0, 6, 0, 999999, 0, 1], // END_OF_BLOCK
+    NO_COLUMN,
+];
+
+// By 2.3 "a block's two stop numbers are d5, 1 to 99999".
+const BLOCK_COLUMNS_23: Columns = [
+    VERSION,
+    [0, 9, 0, 999999999, 1, 1], // DAY_TYPE_NR
+    [0, 5, 0, 99999, 1, 1], // DEPOT_NR
+    [0, 8, 0, 99999999, 1, 1], // BLOCK_NR
+    [0, 2, 0, 99, 0, 1], // VEH_TYP_NR
+    [0, 5, 1, 99999, 0, 1], // DEP_STOP_NR
+    [0, 2, 0, 99, 0, 1], // DEP_STOPPING_POINT_NR
+    [0, 6, 0, 999999, 0, 1], // BEGIN_OF_BLOCK
+    [0, 5, 1, 99999, 0, 1], // ARR_STOP_NR
     [0, 2, 0, 99, 0, 1], // ARR_STOPPING_POINT_NR
     [0, 6, 0, 999999, 0, 1], // END_OF_BLOCK
     NO_COLUMN,
@@ -193,7 +248,7 @@ pub const BOOK_ROWS: usize = Table::COUNT * ROWS;
 // What the cells of the column at place i, counted from 0, must keep to, of the columns that a table handed out.
 pub fn rules_at(columns: &Columns, i: usize) -> Rules
     requires { ⌜ i < columnRoom ⌝ }
-    ensures { λ r. ⌜ ((t : Table) → now (columns .entry) ≡ listed t → r ≡ columnAt t i .rules) ⌝ }
+    ensures { λ r. ⌜ ((e : Edition) (t : Table) → now (columns .entry) ≡ listed e t → r ≡ columnAt e t i .rules) ⌝ }
 {
     let column = columns[i];
     Rules {
@@ -230,7 +285,8 @@ impl Table {
 
     pub const VEHICLE_TYPE: TableFigures = TableFigures {
         number: Place::VEHICLE_TYPE,
-        columns: 11,
+        columns21: 11,
+        columns23: 12,
         keys: Table::PAIR_KEY,
         kept: Table::PAIR_KEY,
         references: 0,
@@ -238,7 +294,8 @@ impl Table {
 
     pub const DEPOT: TableFigures = TableFigures {
         number: Place::DEPOT,
-        columns: 2,
+        columns21: 2,
+        columns23: 2,
         keys: Table::PAIR_KEY,
         kept: Table::PAIR_KEY,
         references: 0,
@@ -246,7 +303,8 @@ impl Table {
 
     pub const STOP: TableFigures = TableFigures {
         number: Place::STOP,
-        columns: 3,
+        columns21: 3,
+        columns23: 3,
         keys: Table::PAIR_KEY,
         kept: Table::PAIR_KEY,
         references: 0,
@@ -254,7 +312,8 @@ impl Table {
 
     pub const STOP_POINT: TableFigures = TableFigures {
         number: Place::STOP_POINT,
-        columns: 3,
+        columns21: 3,
+        columns23: 3,
         keys: Table::POINT_KEY,
         kept: Table::POINT_KEY,
         references: 1,
@@ -262,7 +321,8 @@ impl Table {
 
     pub const BLOCK: TableFigures = TableFigures {
         number: Place::VEHICLE_BLOCK,
-        columns: NUMBERS,
+        columns21: NUMBERS,
+        columns23: NUMBERS,
         keys: Table::BLOCK_KEY,
         kept: NUMBERS,
         references: 6,
@@ -300,10 +360,14 @@ impl Table {
         self.figures().number
     }
 
-    pub fn columns(self) -> usize
-        ensures { λ r. ⌜ r ≡ length (columnsOf self) ⌝ }
+    pub fn columns(self, edition: Edition) -> usize
+        ensures { λ r. ⌜ r ≡ length (columnsOf edition self) ⌝ }
     {
-        self.figures().columns
+        let figures = self.figures();
+        match edition {
+            Edition::Dino21 => figures.columns21,
+            Edition::Dino23 => figures.columns23,
+        }
     }
 
     pub fn keys(self) -> usize
@@ -325,15 +389,15 @@ impl Table {
     }
 
     // What the cells of each column must keep to. A constant is laid out where it is named: this is asked once for a table.
-    pub fn column_rules(self) -> Columns
-        ensures { λ r. ⌜ r ≡ listed self ⌝ }
+    pub fn column_rules(self, edition: Edition) -> Columns
+        ensures { λ r. ⌜ r ≡ listed edition self ⌝ }
     {
         match self {
-            Table::VehicleType => VEHICLE_TYPE_COLUMNS,
+            Table::VehicleType => edition.choose(VEHICLE_TYPE_COLUMNS, VEHICLE_TYPE_COLUMNS_23),
             Table::Depot => DEPOT_COLUMNS,
-            Table::Stop => STOP_COLUMNS,
+            Table::Stop => edition.choose(STOP_COLUMNS, STOP_COLUMNS_23),
             Table::StopPoint => STOP_POINT_COLUMNS,
-            Table::Block => BLOCK_COLUMNS,
+            Table::Block => edition.choose(BLOCK_COLUMNS, BLOCK_COLUMNS_23),
         }
     }
 
@@ -344,6 +408,18 @@ impl Table {
         match self {
             Table::Block => block_reference(i),
             _ => STOP_OF_POINT,
+        }
+    }
+}
+
+impl Edition {
+    // The columns of a table that differ by edition.
+    fn choose(self, by21: Columns, by23: Columns) -> Columns
+        ensures { λ r. ⌜ r ≡ chosen self by21 by23 ⌝ }
+    {
+        match self {
+            Edition::Dino21 => by21,
+            Edition::Dino23 => by23,
         }
     }
 }

@@ -18,10 +18,11 @@ use Rattle.tables.specs.declared.Sort.{Sort}
 use Rattle.tables.specs.declared.Sort.the-variants.{Decimal, Text}
 use Rattle.tables.specs.declared.Rules.{Rules}
 use Rattle.tables.specs.Columns.{inRange, columnAt, keptWidth}
+use Rattle.tables.specs.declared.Edition.{Edition}
 use Rattle.tables.specs.declared.Table.{Table}
 use Rattle.tables.proofs.Figures.{kept-decimal, kept-required, decimal-width}
 use Rattle.values.specs.Values.{cellCheck, saidCheck}
-use Rattle.values.specs.Judged.{breaks, byLength, byDigits, bySort, valueOf, checkOf, keptNumber}
+use Rattle.values.specs.Judged.{breaks, byLength, byDigits, bySort, valueOf, checkOf}
 use Rattle.values.specs.declared.Value.{Value}
 use Rattle.values.specs.declared.Value.the-variants as value-is
 
@@ -72,13 +73,6 @@ kept-check k x s e = sym (check-of-value k x s) ∙ go (valueOf x s) (rw (check-
     go value-is.Text p = refl
     go value-is.Empty p = refl
     go (value-is.Bad n) p = cc
-
--- a column that is not kept has no number
-pub kept-none : (v : Value) (b : Bool) → b ≡ false → keptNumber v b ≡ 0
-kept-none (value-is.Number n) b e = rw e
-kept-none value-is.Text b e = refl
-kept-none value-is.Empty b e = refl
-kept-none (value-is.Bad n) b e = refl
 
 -- the range, asked at its two ends
 pub range-low : (x : Rules) (n : ℕ) → n < x .low → inRange x n ≡ false
@@ -138,9 +132,9 @@ module _ (x : Rules) (s : Bytes) (e : x .sort ≡ Decimal) (q : x .required ≡ 
   number-from = leb-true (x .low) (value s) (and-left (leb (x .low) (value s)) (leb (value s) (x .high)) (number-kept .1))
 
 -- what the book keeps of a row
-pub kept-value : (t : Table) (i : ℕ) → i < keptWidth t → (s : Bytes) → breaks (columnAt t i .rules) s ≡ false → valueOf (columnAt t i .rules) s ≡ value-is.Number (value s)
-kept-value t i h s b = number-value (columnAt t i .rules) s (kept-decimal t i h) (kept-required t i h) b
+pub kept-value : (e : Edition) (t : Table) (i : ℕ) → i < keptWidth t → (s : Bytes) → breaks (columnAt e t i .rules) s ≡ false → valueOf (columnAt e t i .rules) s ≡ value-is.Number (value s)
+kept-value e t i h s b = number-value (columnAt e t i .rules) s (kept-decimal e t i h) (kept-required e t i h) b
 
 -- of_cell and of_field ask that a decimal column is no wider than 64 bits
-pub column-narrow : (t : Table) (i : ℕ) → columnAt t i .rules .sort ≡ Decimal → columnAt t i .rules .width ≤ 19
-column-narrow t i e = omega (arith, decimal-width t i e)
+pub column-narrow : (e : Edition) (t : Table) (i : ℕ) → columnAt e t i .rules .sort ≡ Decimal → columnAt e t i .rules .width ≤ 19
+column-narrow e t i d = omega (arith, decimal-width e t i d)

@@ -56,12 +56,12 @@ checkOf k value-is.Text = Passes
 checkOf k value-is.Empty = Passes
 checkOf k (value-is.Bad n) = Fails n k
 
--- the number that a row keeps of a value; `b` is whether the book keeps its column
-abbrev pub keptNumber : Value → Bool → ℕ
-keptNumber (value-is.Number n) b = if b then n else 0
-keptNumber value-is.Text b = 0
-keptNumber value-is.Empty b = 0
-keptNumber (value-is.Bad n) b = 0
+-- the number that a row keeps of a value
+abbrev pub keptNumber : Value → ℕ
+keptNumber (value-is.Number n) = n
+keptNumber value-is.Text = 0
+keptNumber value-is.Empty = 0
+keptNumber (value-is.Bad n) = 0
 
 -- what a line with a fault comes to
 abbrev pub unkept : Check → Judged

@@ -141,12 +141,12 @@ pub fn no_row(fault: Check) -> Judged
     }
 }
 
-// The number that a row keeps of a value; 0 where it is no number, and in a column that the book does not keep.
-pub fn kept_number(value: Value, kept: bool) -> u64
-    ensures { λ r. ⌜ r ≡ keptNumber value kept ⌝ }
+// The number that a row keeps of a value; 0 where it is no number.
+pub fn kept_number(value: Value) -> u64
+    ensures { λ r. ⌜ r ≡ keptNumber value ⌝ }
 {
     match value {
-        Value::Number(n) => if kept { n } else { 0 },
+        Value::Number(n) => n,
         Value::Text => 0,
         Value::Empty => 0,
         Value::Bad(_) => 0,

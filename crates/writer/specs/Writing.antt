@@ -3,6 +3,7 @@ use mathlib.Core.List.{List, [], _∷_, _++_, map}
 use Rattle.words.specs.Words.{Bytes, Row}
 use Rattle.cells.specs.Cells.{parted}
 use Rattle.numbers.specs.Numbers.{decimal}
+use Rattle.tables.specs.declared.Edition.the-variants.{Dino21}
 use Rattle.tables.specs.Columns.{columnsOf}
 use Rattle.tables.specs.declared.Table.the-variants.{Block}
 use Rattle.book.specs.Book.{Book}
@@ -14,7 +15,7 @@ linesWritten (l ∷ ls) = l ++ (10 ∷ linesWritten ls)
 
 -- "The written table has the 11 names above in order"
 abbrev pub namesLine : Bytes
-namesLine = parted 59 (map (λ x. x .name) (columnsOf Block))
+namesLine = parted 59 (map (λ x. x .name) (columnsOf Dino21 Block))
 
 -- "no quotes, no leading zeros"
 abbrev pub rowLine : Row → Bytes

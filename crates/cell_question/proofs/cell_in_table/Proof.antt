@@ -5,6 +5,7 @@ use native.Mathlib.Omega.{arith}
 use lib.ListN.{length}
 use borrow.Author.Needs.{needs}
 use Rattle.refusals.specs.declared.Cell.the-variants.{Empty}
+use Rattle.tables.specs.declared.Edition.the-variants.{Dino21}
 use Rattle.tables.specs.Columns.{columnsOf}
 use Rattle.cell_question.proofs.Asking.{column-zero, column-past, top-refused}
 use Rattle.cell_question.proofs.cell_in_table.Statement.{statement}
@@ -47,7 +48,7 @@ enum-told c = search needs
 cell-on-line-requires : tie.Need-cell-on-line-requires
 cell-on-line-requires c κs =
     let a = c .before .before .before .before .before .before .before .before .before .before .before .before .before .args in
-    let known : a .column ≤ length (columnsOf (a .t)) = omega (arith, c .before .before .before .before .before .before .before .before .if2 .left, c .before .before .before .before .before .before .before .before .before .wide .ensures, c .before .before .before .before .before .before .before .before .before .before .columns .ensures) in
+    let known : a .column ≤ length (columnsOf Dino21 (a .t)) = omega (arith, c .before .before .before .before .before .before .before .before .if2 .left, c .before .before .before .before .before .before .before .before .before .wide .ensures, c .before .before .before .before .before .before .before .before .before .before .columns .ensures) in
     let top = c .before .before .before .before .before .read-top in
     let accepted = c .before .before .enum-told .given .1 in
     let kept = top .ensures .kept accepted in
@@ -56,7 +57,7 @@ cell-on-line-requires c κs =
 returns-3 : tie.Need-returns-3
 returns-3 c =
     let a = c .before .before .before .before .before .before .before .before .before .before .before .before .args in
-    let known : a .column ≤ length (columnsOf (a .t)) = omega (arith, c .before .before .before .before .before .before .before .if2 .left, c .before .before .before .before .before .before .before .before .wide .ensures, c .before .before .before .before .before .before .before .before .before .columns .ensures) in
+    let known : a .column ≤ length (columnsOf Dino21 (a .t)) = omega (arith, c .before .before .before .before .before .before .before .if2 .left, c .before .before .before .before .before .before .before .before .wide .ensures, c .before .before .before .before .before .before .before .before .before .columns .ensures) in
     top-refused (a .t) (a .bytes .now) (a .line) (a .column) (c .before .before .before .before .before .before .before .before .before .before .if1 .left) known _ (sym (c .before .before .before .before .read-top .ensures .is) ∙ c .before .verdict .given .1)
 
 returns-4 : tie.Need-returns-4

@@ -11,6 +11,7 @@ use Rattle.refusals.specs.declared.Cell.the-variants.{Empty}
 use Rattle.lines.specs.Lines.{lines, lineStart}
 use Rattle.lines.proofs.Lining.{line-from}
 use Rattle.lines.proofs.Starting.{line-row}
+use Rattle.tables.specs.declared.Edition.the-variants.{Dino21}
 use Rattle.tables.proofs.Figures.{columns-few}
 use Rattle.header.specs.Header.{headerOf}
 use Rattle.cell_question.specs.Asking.{rowAnswer}
@@ -77,7 +78,7 @@ cell-in-row-requires c κs =
     let r = c .before .next-line in
     let l = line-from s begin (r .result) (omega (arith, c .before .before .if2 .left)) (r .ensures) in
     let p = c .before .before .before .before .before .before .pre in
-    (omega (arith, part-length s begin (r .result .end) (l .high), l .low, l .high, p .0), p .1, omega (arith, p .2, columns-few (a .t)), p .3, p .6)
+    (omega (arith, part-length s begin (r .result .end) (l .high), l .low, l .high, p .0), p .1, omega (arith, p .2, columns-few Dino21 (a .t)), p .3, p .6)
 
 returns-3 : tie.Need-returns-3
 returns-3 c =
@@ -89,9 +90,9 @@ returns-3 c =
     let low : 2 ≤ a .line = c .before .before .before .before .before .if1 .left in
     let e : n .result ≡ lineStart (a .line) s = n .ensures in
     let l : lineStart (a .line) s < length s = omega (arith, e, c .before .before .before .if2 .left) in
-    c .cell-in-row .ensures (headerOf (a .t) s) (p .5)
-    ∙ ap (λ (row : Bytes). rowAnswer (a .t) (headerOf (a .t) s) (a .line) (a .column) (n .result) row) (line-row (a .line) s (n .result) (r .result) (omega (arith, low)) e (r .ensures))
-    ∙ ap (λ (at : ℕ). rowAnswer (a .t) (headerOf (a .t) s) (a .line) (a .column) at (getD (lines s) (a .line - 1) [])) e
+    c .cell-in-row .ensures (headerOf Dino21 (a .t) s) (p .5)
+    ∙ ap (λ (row : Bytes). rowAnswer (a .t) (headerOf Dino21 (a .t) s) (a .line) (a .column) (n .result) row) (line-row (a .line) s (n .result) (r .result) (omega (arith, low)) e (r .ensures))
+    ∙ ap (λ (at : ℕ). rowAnswer (a .t) (headerOf Dino21 (a .t) s) (a .line) (a .column) at (getD (lines s) (a .line - 1) [])) e
     ∙ line-here (a .t) s (a .line) (a .column) (λ z. omega (arith, p .1)) (p .2) (p .4) low l
 
 pub cell-on-line-spec : {M : Type 1} → statement M

@@ -3,6 +3,7 @@ use mathlib.Core.Path.{ap, _∙_}
 use Prim.Native.Nat.{_-_}
 use borrow.Author.Needs.{needs}
 use Rattle.refusals.specs.declared.Verdict.the-variants.{Accepted}
+use Rattle.tables.specs.declared.Edition.the-variants.{Dino21}
 use Rattle.tables.specs.Columns.{number}
 use Rattle.values.specs.declared.Value.the-variants as value-is
 use Rattle.cell_question.specs.CellQuestion.{answered}
@@ -20,7 +21,7 @@ of-cell-requires : tie.Need-of-cell-requires
 of-cell-requires c κs =
     let st = c .before .before in
     let a = st .args in
-    λ e. narrow-rules (a .t) (a .column - 1) (c .rules-at .result) (c .rules-at .ensures (a .t) (st .pre .3)) e
+    λ e. narrow-rules (a .t) (a .column - 1) (c .rules-at .result) (c .rules-at .ensures Dino21 (a .t) (st .pre .3)) e
 
 enum-known-value : tie.Need-enum-known-value
 enum-known-value c = search needs
@@ -62,19 +63,19 @@ returns : tie.Need-returns
 returns c =
     let st = c .before .before .before .before .before .before .before in
     let a = st .args in
-    c .accepted .ensures ∙ judged-by (a .t) (a .line) (a .column) (a .at) (a .cell .now) (c .before .before .before .before .before .rules-at .result) (c .before .before .before .before .of-cell .result) (value-is.Number (c .before .before .value .given .0 .0)) (c .before .before .before .before .before .rules-at .ensures (a .t) (st .pre .3)) (c .before .before .before .before .of-cell .ensures) (c .before .before .value .given .1)
+    c .accepted .ensures ∙ judged-by (a .t) (a .line) (a .column) (a .at) (a .cell .now) (c .before .before .before .before .before .rules-at .result) (c .before .before .before .before .of-cell .result) (value-is.Number (c .before .before .value .given .0 .0)) (c .before .before .before .before .before .rules-at .ensures Dino21 (a .t) (st .pre .3)) (c .before .before .before .before .of-cell .ensures) (c .before .before .value .given .1)
 
 returns-2 : tie.Need-returns-2
 returns-2 c =
     let st = c .before .before .before .before .before .before .before in
     let a = st .args in
-    c .accepted2 .ensures ∙ ap (answered Accepted) (c .before .text-said .ensures) ∙ judged-by (a .t) (a .line) (a .column) (a .at) (a .cell .now) (c .before .before .before .before .before .rules-at .result) (c .before .before .before .before .of-cell .result) (value-is.Text) (c .before .before .before .before .before .rules-at .ensures (a .t) (st .pre .3)) (c .before .before .before .before .of-cell .ensures) (c .before .before .enum-told .given .1)
+    c .accepted2 .ensures ∙ ap (answered Accepted) (c .before .text-said .ensures) ∙ judged-by (a .t) (a .line) (a .column) (a .at) (a .cell .now) (c .before .before .before .before .before .rules-at .result) (c .before .before .before .before .of-cell .result) (value-is.Text) (c .before .before .before .before .before .rules-at .ensures Dino21 (a .t) (st .pre .3)) (c .before .before .before .before .of-cell .ensures) (c .before .before .enum-told .given .1)
 
 returns-3 : tie.Need-returns-3
 returns-3 c =
     let st = c .before .before .before .before .before .before in
     let a = st .args in
-    c .accepted3 .ensures ∙ judged-by (a .t) (a .line) (a .column) (a .at) (a .cell .now) (c .before .before .before .before .rules-at .result) (c .before .before .before .of-cell .result) (value-is.Empty) (c .before .before .before .before .rules-at .ensures (a .t) (st .pre .3)) (c .before .before .before .of-cell .ensures) (c .before .enum-told2 .given .1)
+    c .accepted3 .ensures ∙ judged-by (a .t) (a .line) (a .column) (a .at) (a .cell .now) (c .before .before .before .before .rules-at .result) (c .before .before .before .of-cell .result) (value-is.Empty) (c .before .before .before .before .rules-at .ensures Dino21 (a .t) (st .pre .3)) (c .before .before .before .of-cell .ensures) (c .before .enum-told2 .given .1)
 
 returns-4 : tie.Need-returns-4
 returns-4 c =
@@ -82,7 +83,7 @@ returns-4 c =
     let of = v .before .before in
     let st = of .before .before .before in
     let a = st .args in
-    fault-answer (a .line) (c .refused .result) (c .before .before .fails .result) (c .before .number .result) (number (a .t)) (v .value2 .given .0 .0) (c .before .before .before .wide .result) (a .column) (c .refused .ensures) (c .before .before .fails .ensures) (c .before .before .before .wide .ensures) (c .before .number .ensures) ∙ judged-by (a .t) (a .line) (a .column) (a .at) (a .cell .now) (of .before .rules-at .result) (of .of-cell .result) (value-is.Bad (v .value2 .given .0 .0)) (of .before .rules-at .ensures (a .t) (st .pre .3)) (of .of-cell .ensures) (v .value2 .given .1)
+    fault-answer (a .line) (c .refused .result) (c .before .before .fails .result) (c .before .number .result) (number (a .t)) (v .value2 .given .0 .0) (c .before .before .before .wide .result) (a .column) (c .refused .ensures) (c .before .before .fails .ensures) (c .before .before .before .wide .ensures) (c .before .number .ensures) ∙ judged-by (a .t) (a .line) (a .column) (a .at) (a .cell .now) (of .before .rules-at .result) (of .of-cell .result) (value-is.Bad (v .value2 .given .0 .0)) (of .before .rules-at .ensures Dino21 (a .t) (st .pre .3)) (of .of-cell .ensures) (v .value2 .given .1)
 
 pub judged-cell-spec : {M : Type 1} → statement M
 judged-cell-spec =

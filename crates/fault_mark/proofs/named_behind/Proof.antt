@@ -10,9 +10,10 @@ use Rattle.header.proofs.Names.{header-length, name-read}
 use Rattle.fault_mark.proofs.Marking.{place-here, place-on, place-end}
 use Rattle.fault_mark.proofs.named_behind.Statement.{statement}
 use Rattle.fault_mark.proofs.named_behind.Tie as tie
+use Rattle.tables.specs.declared.Edition.the-variants.{Dino21}
 
 abbrev Inv-names : tie.InvT-names
-Inv-names head bounds cells t column behind i₀ i = placeFrom i column (drop i (header t (cellsOf (cut head)))) ≡ placeFrom behind column (drop behind (header t (cellsOf (cut head))))
+Inv-names head bounds cells t column behind i₀ i = placeFrom i column (drop i (header Dino21 t (cellsOf (cut head)))) ≡ placeFrom behind column (drop behind (header Dino21 t (cellsOf (cut head))))
 
 abbrev μ-names : tie.MeasureT-names
 μ-names head bounds cells t column behind i₀ i = cells - i
@@ -44,9 +45,9 @@ returns c =
     let w = c .before .before .before .before .before .before .names in
     let cs = cellsOf (cut (a .head .now)) in
     let l : w .i < length cs = omega (arith, c .before .before .before .before .before .before .before .before .before .pre .counted, c .before .before .before .before .before .names-test .taken) in
-    let n : w .i < length (header (a .t) cs) = omega (arith, header-length (a .t) cs) in
-    let e : getD (header (a .t) cs) (w .i) 0 ≡ c .before .before .column-of .result = name-read (a .t) cs (w .i) (c .before .before .before .before .cell-of .result .now) (c .before .before .before .stretch-of .result .now) (c .before .before .column-of .result) l (c .before .before .before .before .cell-of .ensures) (c .before .before .before .stretch-of .ensures) (c .before .before .column-of .ensures) in
-    sym (place-here (a .column) (w .i) (header (a .t) cs) n (e ∙ sym (c .before .wide .ensures) ∙ c .if1 .taken)) ∙ w .inv
+    let n : w .i < length (header Dino21 (a .t) cs) = omega (arith, header-length Dino21 (a .t) cs) in
+    let e : getD (header Dino21 (a .t) cs) (w .i) 0 ≡ c .before .before .column-of .result = name-read Dino21 (a .t) cs (w .i) (c .before .before .before .before .cell-of .result .now) (c .before .before .before .stretch-of .result .now) (c .before .before .column-of .result) l (c .before .before .before .before .cell-of .ensures) (c .before .before .before .stretch-of .ensures) (c .before .before .column-of .ensures) in
+    sym (place-here (a .column) (w .i) (header Dino21 (a .t) cs) n (e ∙ sym (c .before .wide .ensures) ∙ c .if1 .taken)) ∙ w .inv
 
 add-i : tie.Need-add-i Inv-names μ-names
 add-i c = search needs
@@ -60,17 +61,17 @@ names-again c =
     let w = c .before .before .before .before .before .before .names in
     let cs = cellsOf (cut (a .head .now)) in
     let l : w .i < length cs = omega (arith, c .before .before .before .before .before .before .before .before .before .pre .counted, c .before .before .before .before .before .names-test .taken) in
-    let n : w .i < length (header (a .t) cs) = omega (arith, header-length (a .t) cs) in
-    let e : getD (header (a .t) cs) (w .i) 0 ≡ c .before .before .column-of .result = name-read (a .t) cs (w .i) (c .before .before .before .before .cell-of .result .now) (c .before .before .before .stretch-of .result .now) (c .before .before .column-of .result) l (c .before .before .before .before .cell-of .ensures) (c .before .before .before .stretch-of .ensures) (c .before .before .column-of .ensures) in
-    sym (place-on (a .column) (w .i) (header (a .t) cs) n (λ z. c .if1 .left (c .before .wide .ensures ∙ sym e ∙ z))) ∙ w .inv
+    let n : w .i < length (header Dino21 (a .t) cs) = omega (arith, header-length Dino21 (a .t) cs) in
+    let e : getD (header Dino21 (a .t) cs) (w .i) 0 ≡ c .before .before .column-of .result = name-read Dino21 (a .t) cs (w .i) (c .before .before .before .before .cell-of .result .now) (c .before .before .before .stretch-of .result .now) (c .before .before .column-of .result) l (c .before .before .before .before .cell-of .ensures) (c .before .before .before .stretch-of .ensures) (c .before .before .column-of .ensures) in
+    sym (place-on (a .column) (w .i) (header Dino21 (a .t) cs) n (λ z. c .if1 .left (c .before .wide .ensures ∙ sym e ∙ z))) ∙ w .inv
 
 returns-2 : tie.Need-returns-2 Inv-names μ-names
 returns-2 c =
     let a = c .before .before .before .before .args in
     let w = c .before .names in
     let cs = cellsOf (cut (a .head .now)) in
-    let l : length (header (a .t) cs) ≤ w .i = omega (arith, header-length (a .t) cs, c .before .before .before .before .pre .counted, c .names-test .left) in
-    sym (place-end (a .column) (w .i) (header (a .t) cs) l) ∙ w .inv
+    let l : length (header Dino21 (a .t) cs) ≤ w .i = omega (arith, header-length Dino21 (a .t) cs, c .before .before .before .before .pre .counted, c .names-test .left) in
+    sym (place-end (a .column) (w .i) (header Dino21 (a .t) cs) l) ∙ w .inv
 
 pub named-behind-spec : {M : Type 1} → statement M
 named-behind-spec =

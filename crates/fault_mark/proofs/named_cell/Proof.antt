@@ -11,6 +11,7 @@ use Rattle.fault_mark.specs.Marks.{columnsNamed}
 use Rattle.fault_mark.proofs.Marking.{named-faulty, named-wide, named-few, none-found, second-found, first-found}
 use Rattle.fault_mark.proofs.named_cell.Statement.{statement}
 use Rattle.fault_mark.proofs.named_cell.Tie as tie
+use Rattle.tables.specs.declared.Edition.the-variants.{Dino21}
 
 slice-aggregate-cells-of : tie.Need-slice-aggregate-cells-of
 slice-aggregate-cells-of c = search needs
@@ -58,7 +59,7 @@ returns-2 c =
     let r = c .before .before .before .before .before .before .before .before .before .before .cells-of in
     let g = c .before .before .before .before .before .before .before .answer .given in
     let l : length (cellsOf (cut head)) ≤ 32 = omega (arith, good-count (cut head) (r .result) (g .0 .0) (r .ensures .0) (g .1), c .before .before .before .before .before .if1 .left) in
-    second-found (a .second) (a .column) (columnsNamed (a .t) head) (header (a .t) (cellsOf (cut head))) (named-few (a .t) head l) (c .before .before .if2 .taken) (c .before .before .before .named-behind .result) (c .named-behind2 .result) (c .before .before .before .named-behind .ensures) (c .named-behind2 .ensures)
+    second-found (a .second) (a .column) (columnsNamed (a .t) head) (header Dino21 (a .t) (cellsOf (cut head))) (named-few (a .t) head l) (c .before .before .if2 .taken) (c .before .before .before .named-behind .result) (c .named-behind2 .result) (c .before .before .before .named-behind .ensures) (c .named-behind2 .ensures)
 
 returns-3 : tie.Need-returns-3
 returns-3 c =
@@ -75,7 +76,7 @@ returns-4 c =
     let r = c .before .before .before .before .before .before .before .before .cells-of in
     let g = c .before .before .before .before .before .answer .given in
     let l : length (cellsOf (cut head)) ≤ 32 = omega (arith, good-count (cut head) (r .result) (g .0 .0) (r .ensures .0) (g .1), c .before .before .before .if1 .left) in
-    first-found (a .second) (a .column) (columnsNamed (a .t) head) (header (a .t) (cellsOf (cut head))) (named-few (a .t) head l) (c .if2 .left) (c .before .named-behind .result) (c .before .named-behind .ensures)
+    first-found (a .second) (a .column) (columnsNamed (a .t) head) (header Dino21 (a .t) (cellsOf (cut head))) (named-few (a .t) head l) (c .if2 .left) (c .before .named-behind .result) (c .before .named-behind .ensures)
 
 pub named-cell-spec : {M : Type 1} → statement M
 named-cell-spec =

@@ -28,9 +28,9 @@ no-heading-requires c κs = search needs
 returns : tie.Need-returns
 returns c =
     let a = c .before .before .before .before .before .before .before .before .args in
-    let h = header (a .t) (cellsOf (cut (a .line .now))) in
+    let h = header (a .edition) (a .t) (cellsOf (cut (a .line .now))) in
     let n = c .before .before .before .before .before .note-names in
-    c .no-heading .ensures 3 (c .before .before .wide .result) h (c .before .column-twice .ensures) ∙ ap (λ (q : Check). headed q h) (ap (λ (m : ℕ). Fails 3 m) (c .before .before .wide .ensures) ∙ sym (names-twice (a .t) h (n .result .twice) (sym (n .ensures .twice)) (omega (arith, c .before .before .before .if1 .taken))))
+    c .no-heading .ensures 3 (c .before .before .wide .result) h (c .before .column-twice .ensures) ∙ ap (λ (q : Check). headed q h) (ap (λ (m : ℕ). Fails 3 m) (c .before .before .wide .ensures) ∙ sym (names-twice (a .edition) (a .t) h (n .result .twice) (sym (n .ensures .twice)) (omega (arith, c .before .before .before .if1 .taken))))
 
 lowest-missing-requires : tie.Need-lowest-missing-requires
 lowest-missing-requires c κs = c .before .before .before .before .before .before .pre .1
@@ -47,21 +47,21 @@ no-heading-requires-2 c κs = search needs
 returns-2 : tie.Need-returns-2
 returns-2 c =
     let a = c .before .before .before .before .before .before .before .before .before .before .before .args in
-    let h = header (a .t) (cellsOf (cut (a .line .now))) in
+    let h = header (a .edition) (a .t) (cellsOf (cut (a .line .now))) in
     let n = c .before .before .before .before .before .before .before .before .note-names in
     let low = c .before .before .before .before .lowest-missing in
     let o : repeated [] h ≡ 0 = sym (n .ensures .twice) ∙ c .before .before .before .before .before .before .if1 .left in
     let p : n .result .at ≡ places h = n .ensures .noted (c .before .before .before .before .before .before .if1 .left) in
-    c .no-heading2 .ensures 2 (c .before .before .wide2 .result) h (c .before .column-missing .ensures) ∙ ap (λ (q : Check). headed q h) (ap (λ (j : ℕ). Fails 2 j) (c .before .before .wide2 .ensures) ∙ sym (names-missing (a .t) h o (low .result) (sym (low .ensures h p)) (c .before .before .before .if2 .taken)))
+    c .no-heading2 .ensures 2 (c .before .before .wide2 .result) h (c .before .column-missing .ensures) ∙ ap (λ (q : Check). headed q h) (ap (λ (j : ℕ). Fails 2 j) (c .before .before .wide2 .ensures) ∙ sym (names-missing (a .edition) (a .t) h o (low .result) (sym (low .ensures h p)) (c .before .before .before .if2 .taken)))
 
 returns-3 : tie.Need-returns-3
 returns-3 c =
     let a = c .before .before .before .before .before .before .before .before .args in
-    let h = header (a .t) (cellsOf (cut (a .line .now))) in
+    let h = header (a .edition) (a .t) (cellsOf (cut (a .line .now))) in
     let n = c .before .before .before .before .before .note-names in
     let o : repeated [] h ≡ 0 = sym (n .ensures .twice) ∙ c .before .before .before .if1 .left in
     let p : n .result .at ≡ places h = n .ensures .noted (c .before .before .before .if1 .left) in
-    names-kept (a .t) h (n .result .at) o (sym (c .before .lowest-missing .ensures h p) ∙ c .if2 .left) p
+    names-kept (a .edition) (a .t) h (n .result .at) o (sym (c .before .lowest-missing .ensures h p) ∙ c .if2 .left) p
 
 pub map-names-spec : {M : Type 1} → statement M
 map-names-spec =

@@ -38,12 +38,12 @@ returns : tie.Need-returns
 returns c =
     let a = c .before .before .before .before .before .before .before .before .before .args in
     let line = a .line .now in
-    let h = header (a .t) (cellsOf (cut line)) in
+    let h = header (a .edition) (a .t) (cellsOf (cut line)) in
     let r = c .before .before .before .before .before .before .cut-line in
     let passes = c .before .before .before .enum-told2 .given .1 in
     let e : lineCheck line ≡ Passes = sym (r .ensures .is) ∙ passes in
     let l : mostCells < length (cellsOf (cut line)) = omega (arith, r .ensures .counted passes, c .before .before .if1 .taken) in
-    c .no-heading2 .ensures 4 0 h (c .before .too-many-cells .ensures) ∙ ap (λ (q : Check). headed q h) (sym (header-wide (a .t) line e l))
+    c .no-heading2 .ensures 4 0 h (c .before .too-many-cells .ensures) ∙ ap (λ (q : Check). headed q h) (sym (header-wide (a .edition) (a .t) line e l))
 
 slice-aggregate-map-names : tie.Need-slice-aggregate-map-names
 slice-aggregate-map-names c = search needs
@@ -57,20 +57,20 @@ returns-2 : tie.Need-returns-2
 returns-2 c =
     let a = c .before .before .before .before .before .before .before .args in
     let line = a .line .now in
-    let h = header (a .t) (cellsOf (cut line)) in
+    let h = header (a .edition) (a .t) (cellsOf (cut line)) in
     let g = c .before .enum-told .given in
-    c .no-heading .ensures (g .0 .0) (g .0 .1 .0) h (g .1) ∙ ap (λ (q : Check). headed q h) (sym (header-refused (a .t) line (g .0 .0) (g .0 .1 .0) (sym (c .before .before .before .before .cut-line .ensures .is) ∙ g .1)))
+    c .no-heading .ensures (g .0 .0) (g .0 .1 .0) h (g .1) ∙ ap (λ (q : Check). headed q h) (sym (header-refused (a .edition) (a .t) line (g .0 .0) (g .0 .1 .0) (sym (c .before .before .before .before .cut-line .ensures .is) ∙ g .1)))
 
 returns-3 : tie.Need-returns-3
 returns-3 c =
     let a = c .before .before .before .before .before .before .before .before .before .args in
     let line = a .line .now in
-    let h = header (a .t) (cellsOf (cut line)) in
+    let h = header (a .edition) (a .t) (cellsOf (cut line)) in
     let r = c .before .before .before .before .before .before .cut-line in
     let passes = c .before .before .before .enum-told2 .given .1 in
     let e : lineCheck line ≡ Passes = sym (r .ensures .is) ∙ passes in
     let l : length (cellsOf (cut line)) ≤ mostCells = omega (arith, r .ensures .counted passes, c .before .before .if1 .left) in
-    c .map-names .ensures ∙ ap (λ (q : Check). headed q h) (sym (header-names (a .t) line e l))
+    c .map-names .ensures ∙ ap (λ (q : Check). headed q h) (sym (header-names (a .edition) (a .t) line e l))
 
 pub read-header-spec : {M : Type 1} → statement M
 read-header-spec =

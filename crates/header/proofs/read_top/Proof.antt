@@ -21,7 +21,7 @@ on-requires c κs = search needs
 returns : tie.Need-returns
 returns c =
     let st = c .before .before .before .before .before in
-    top-long (st .args .t) (st .args .bytes .now) (c .before .before .before .if1 .taken) _
+    top-long (st .args .edition) (st .args .t) (st .args .bytes .now) (c .before .before .before .if1 .taken) _
     (c .on .ensures ∙ ap (λ (n : ℕ). placed n 0 (c .before .before .text-too-long .result)) (c .before .number .ensures) ∙ rw (c .before .before .text-too-long .ensures))
 
 next-line-requires : tie.Need-next-line-requires
@@ -50,7 +50,7 @@ returns-2 c =
     let st = c .before .before .before .before .before .before .before .before in
     let next = c .before .before .before .before .before .next-line in
     let g = c .before .before .before .read-header in
-    top-headed (st .args .t) (st .args .bytes .now) (c .before .before .before .before .before .before .if1 .left) (next .result) (next .ensures) (g .result) (g .ensures) (c .on2 .result)
+    top-headed (st .args .edition) (st .args .t) (st .args .bytes .now) (c .before .before .before .before .before .before .if1 .left) (next .result) (next .ensures) (g .result) (g .ensures) (c .on2 .result)
     (c .on2 .ensures ∙ ap (λ (n : ℕ). placed n 1 (g .result .check)) (c .before .number2 .ensures))
 
 pub read-top-spec : {M : Type 1} → statement M

@@ -6,6 +6,7 @@ use native.Mathlib.Omega.{arith}
 use lib.ListN.{take, getD}
 use borrow.Author.Tests.{not-true, not-false}
 use borrow.Author.Needs.{needs}
+use Rattle.tables.specs.declared.Edition.the-variants.{Dino21}
 use Rattle.tables.specs.declared.Rules.{Rules}
 use Rattle.tables.specs.declared.Table.{Table}
 use Rattle.tables.specs.Listing.{listed}
@@ -19,7 +20,7 @@ use Rattle.keeping.proofs.in_ranges.Tie as tie
 abbrev Inv-columns : tie.InvT-columns
 Inv-columns columns row n within₀ i₀ within i =
     (i ≤ n) × (n ≤ 11) × (within ≡ true)
-    × ((t : Table) → columns ≡ listed t → n ≡ keptWidth t → ranged (columnsOf t) (take (keptWidth t) row) ≡ keeping.rangedFrom i t row)
+    × ((t : Table) → columns ≡ listed Dino21 t → n ≡ keptWidth t → ranged (columnsOf Dino21 t) (take (keptWidth t) row) ≡ keeping.rangedFrom i t row)
 
 abbrev μ-columns : tie.MeasureT-columns
 μ-columns columns row n within₀ i₀ within i = n - i
@@ -59,7 +60,7 @@ columns-again c =
       at .columns .inv .2,
       λ t e k.
           let more : i < keptWidth t = omega (arith, k, c .before .before .before .columns-test .taken) in
-          let here : inRange (columnAt t i .rules) (getD row i 0) ≡ true = ap (λ (x : Rules). inRange x (getD row i 0)) (sym (c .before .before .rules-at .ensures t e)) ∙ sym (c .before .in-range .ensures) ∙ not-false _ (c .if1 .left) in
+          let here : inRange (columnAt Dino21 t i .rules) (getD row i 0) ≡ true = ap (λ (x : Rules). inRange x (getD row i 0)) (sym (c .before .before .rules-at .ensures Dino21 t e)) ∙ sym (c .before .in-range .ensures) ∙ not-false _ (c .if1 .left) in
           at .columns .inv .3 t e k ∙ keeping.ranged-next t row (search needs) i more here,
     )
 
@@ -78,7 +79,7 @@ returns-2 c =
     let row = st .args .t3 in
     let all : at .before .kept .result ≡ keptWidth (st .args .t) = at .before .kept .ensures in
     let more : i < keptWidth (st .args .t) = omega (arith, all, c .before .before .before .columns-test .taken) in
-    let here : inRange (columnAt (st .args .t) i .rules) (getD row i 0) ≡ false = ap (λ (x : Rules). inRange x (getD row i 0)) (sym (c .before .before .rules-at .ensures (st .args .t) (st .pre))) ∙ sym (c .before .in-range .ensures) ∙ not-true _ (c .if1 .taken) in
+    let here : inRange (columnAt Dino21 (st .args .t) i .rules) (getD row i 0) ≡ false = ap (λ (x : Rules). inRange x (getD row i 0)) (sym (c .before .before .rules-at .ensures Dino21 (st .args .t) (st .pre))) ∙ sym (c .before .in-range .ensures) ∙ not-true _ (c .if1 .taken) in
     sym (at .columns .inv .3 (st .args .t) (st .pre) all ∙ keeping.ranged-not (st .args .t) row (search needs) i more here)
 
 pub in-ranges-spec : {M : Type 1} → statement M

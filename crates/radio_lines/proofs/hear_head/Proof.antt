@@ -2,6 +2,7 @@
 use mathlib.Core.Path.{sym, _∙_}
 use native.Mathlib.Omega.{arith}
 use Rattle.refusals.proofs.Placing.{placed-passes}
+use Rattle.tables.specs.declared.Edition.the-variants.{Dino21}
 use Rattle.tables.specs.Columns.{number}
 use Rattle.header.specs.Header.{headerCheck}
 use Rattle.table_reading.proofs.Taking.{not-accepted}
@@ -29,7 +30,7 @@ write-bytes-requires : tie.Need-write-bytes-requires
 write-bytes-requires c κs =
     let st = c .before .before .before .before .before .before .before .before .before .before in
     let so = head-verdict (st .args .t) (st .args .line .now) (c .before .before .before .before .before .read-header .result) (c .before .before .before .before .number .result) (c .before .before .before .on .result) (c .before .before .before .before .before .read-header .ensures) (c .before .before .before .before .number .ensures) (c .before .before .before .on .ensures) in
-    omega (arith, head-short (st .args .t) (st .args .line .now) (placed-passes (number (st .args .t)) 1 (headerCheck (st .args .t) (st .args .line .now)) (sym so ∙ c .before .enum-told .given .1)), st .pre)
+    omega (arith, head-short (st .args .t) (st .args .line .now) (placed-passes (number (st .args .t)) 1 (headerCheck Dino21 (st .args .t) (st .args .line .now)) (sym so ∙ c .before .enum-told .given .1)), st .pre)
 
 enum-known-verdict : tie.Need-enum-known-verdict
 enum-known-verdict c = search needs

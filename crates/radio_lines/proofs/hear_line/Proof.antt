@@ -6,6 +6,7 @@ use Rattle.radio_lines.proofs.Lines.{head-came, row-came}
 use borrow.Author.Needs.{needs}
 use Rattle.radio_lines.proofs.hear_line.Statement.{statement}
 use Rattle.radio_lines.proofs.hear_line.Tie as tie
+use Rattle.tables.specs.declared.Edition.the-variants.{Dino21}
 
 hear-head-requires : tie.Need-hear-head-requires
 hear-head-requires c κs = search needs
@@ -35,7 +36,7 @@ hear-row-requires : tie.Need-hear-row-requires
 hear-row-requires c κs =
     let st = c .before .before .before .before .before .before in
     let hold = st .pre .0 in
-    (hold .sound, hold .named, ap (headerCheck (st .args .t)) (from-begin (st .args .lines .now) (st .args .from .head)) ∙ hold .headed (c .before .before .before .if1 .left))
+    (hold .sound, hold .named, ap (headerCheck Dino21 (st .args .t)) (from-begin (st .args .lines .now) (st .args .from .head)) ∙ hold .headed (c .before .before .before .if1 .left))
 
 add-t21 : tie.Need-add-t21
 add-t21 c = search needs

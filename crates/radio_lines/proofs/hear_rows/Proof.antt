@@ -7,6 +7,7 @@ use Rattle.radio_lines.proofs.Lines.{head-guides, head-places, body-cam
 use borrow.Author.Needs.{needs}
 use Rattle.radio_lines.proofs.hear_rows.Statement.{statement}
 use Rattle.radio_lines.proofs.hear_rows.Tie as tie
+use Rattle.tables.specs.declared.Edition.the-variants.{Dino21}
 
 returns : tie.Need-returns
 returns c =
@@ -33,7 +34,7 @@ take-rows-requires c κs =
     let st = c .before .before .before .before .before .before .before .before .before .before .before in
     let hold = st .pre .0 in
     let read = c .before .before .before .before .read-header in
-    let passes = ap (headerCheck (st .args .t)) (from-begin (st .args .lines .now) (st .args .from .head)) ∙ hold .headed (λ e. omega (arith, st .pre .1)) in
+    let passes = ap (headerCheck Dino21 (st .args .t)) (from-begin (st .args .lines .now) (st .args .from .head)) ∙ hold .headed (λ e. omega (arith, st .pre .1)) in
     (head-guides (st .args .t) _ (read .result) (read .ensures) passes (c .before .before .before .before .before .before .before .column-rules .result) (c .before .before .before .before .before .before .before .column-rules .ensures), hold .sound, hold .named, st .pre .2)
 
 same-length : tie.Need-same-length
@@ -46,7 +47,7 @@ returns-2 c =
     let read = c .before .before .before .before .before .before .read-header in
     let taken = c .before .take-rows in
     let same = from-begin (st .args .lines .now) (st .args .from .head) in
-    let passes = ap (headerCheck (st .args .t)) same ∙ hold .headed (λ e. omega (arith, st .pre .1)) in
+    let passes = ap (headerCheck Dino21 (st .args .t)) same ∙ hold .headed (λ e. omega (arith, st .pre .1)) in
     body-came (st .args .t) (st .args .from) (st .args .book .now) _ (st .args .lines .now) hold (taken .result .verdict) (taken .ensures .sound) (taken .ensures .named) (st .args .body .now) _ same (st .pre .1) (st .pre .3) (st .pre .4) (taken .result .line) (taken .ensures .next)
     (taken .ensures .taken _ (head-places (st .args .t) _ (read .result) (read .ensures) passes))
 

@@ -9,6 +9,7 @@ use Rattle.words.specs.Words.{Row}
 use Rattle.refusals.specs.declared.Check.the-variants.{Passes}
 use Rattle.cells.proofs.Marking.{Stands}
 use Rattle.fields.specs.Fields.{fields}
+use Rattle.tables.specs.declared.Edition.the-variants.{Dino21}
 use Rattle.tables.specs.Columns.{columnAt}
 use Rattle.tables.specs.declared.Table.the-variants.{Block}
 use Rattle.values.specs.Judged.{valueOf}
@@ -37,8 +38,8 @@ few c = omega (arith, c .before .before .before .before .before .before .before 
 inside : (c : tie.After-check Inv-columns μ-columns) → c .before .before .before .before .before .columns .i < length (numbers (fields (c .before .before .before .before .before .before .before .before .args .line .now)))
 inside c = omega (arith, c .before .before .before .before .before .before .before .before .pre .1, c .before .before .before .before .columns-test .taken)
 
-value-is : (c : tie.After-check Inv-columns μ-columns) → c .before .of-field .result ≡ valueOf (columnAt Block (c .before .before .before .before .before .columns .i) .rules) (getD (numbers (fields (c .before .before .before .before .before .before .before .before .args .line .now))) (c .before .before .before .before .before .columns .i) [])
-value-is c = c .before .of-field .ensures ∙ rw (c .before .before .before .rules-at .ensures Block (c .before .before .before .before .before .before .before .before .pre .3), stands (c .before .before .before .before) .there)
+value-is : (c : tie.After-check Inv-columns μ-columns) → c .before .of-field .result ≡ valueOf (columnAt Dino21 Block (c .before .before .before .before .before .columns .i) .rules) (getD (numbers (fields (c .before .before .before .before .before .before .before .before .args .line .now))) (c .before .before .before .before .before .columns .i) [])
+value-is c = c .before .of-field .ensures ∙ rw (c .before .before .before .rules-at .ensures Dino21 Block (c .before .before .before .before .before .before .before .before .pre .3), stands (c .before .before .before .before) .there)
 
 columns-holds : tie.Need-columns-holds Inv-columns μ-columns
 columns-holds c = (search needs, refl, refl, refl)
@@ -77,7 +78,7 @@ part-of-field-end : tie.Need-part-of-field-end Inv-columns μ-columns
 part-of-field-end c = omega (arith, stands (c .before) .inside)
 
 of-field-requires : tie.Need-of-field-requires Inv-columns μ-columns
-of-field-requires c κs = rw (c .before .rules-at .ensures Block (c .before .before .before .before .before .before .pre .3)) (column-narrow Block (c .before .before .before .columns .i))
+of-field-requires c κs = rw (c .before .rules-at .ensures Dino21 Block (c .before .before .before .before .before .before .pre .3)) (column-narrow Dino21 Block (c .before .before .before .columns .i))
 
 add-check : tie.Need-add-check Inv-columns μ-columns
 add-check c = search needs

@@ -7,6 +7,7 @@ use Rattle.table_reading.proofs.Pointing.{table-left}
 use Rattle.table_reading.proofs.Taking.{rest-length, table-refused, table-rows}
 use Rattle.table_reading.proofs.take_table.Statement.{statement}
 use Rattle.table_reading.proofs.take_table.Tie as tie
+use Rattle.tables.specs.declared.Edition.the-variants.{Dino21}
 
 column-rules-requires : tie.Need-column-rules-requires
 column-rules-requires c κs = search needs
@@ -34,7 +35,7 @@ take-rows-requires c κs =
     let st = c .before .before .before .before .before .before .before .before .before .before .before in
     let top = c .before .before .before .before .before .before .before .read-top in
     let kept = top .ensures .kept (c .before .before .before .before .enum-told .given .1) in (
-      record { rules = c .before .before .before .before .before .before .before .before .before .column-rules .ensures; few = kept .few; headed = (headerOf (st .args .t) (st .args .bytes .now), kept .headed) },
+      record { rules = c .before .before .before .before .before .before .before .before .before .column-rules .ensures; few = kept .few; headed = (headerOf Dino21 (st .args .t) (st .args .bytes .now), kept .headed) },
       st .pre .0,
       st .pre .1,
       omega (arith, rest-length (st .args .bytes .now) (top .result .next), kept .short),

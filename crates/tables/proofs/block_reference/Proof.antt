@@ -1,7 +1,6 @@
 -- `tables::block_reference` meets its contract. Each arm is the definition's reference of that number. Assumes nothing.
 use mathlib.Core.Path.{_≡_}
 use native.Mathlib.Omega.{arith}
-use borrow.Author.Needs.{needs}
 use Rattle.tables.proofs.block_reference.Statement.{statement}
 use Rattle.tables.proofs.block_reference.Tie as tie
 

@@ -34,7 +34,7 @@ array-read-t27 c = search needs
 returns : tie.Need-returns
 returns c =
     let st = c .before .before in
-    λ t e. rw (c .of .ensures) (listed-back t (st .args .columns .now) (st .args .i) (st .pre) e)
+    λ e t q. rw (c .of .ensures) (listed-back e t (st .args .columns .now) (st .args .i) (st .pre) q)
 
 pub rules-at-spec : {M : Type 1} → statement M
 rules-at-spec =
