@@ -30,4 +30,3 @@ pub mod StretchPromises
 pub mod HeardPromises
 pub mod RadioRulePromises
 pub mod RadioCallPromises
-pub mod RadioCasePromises

@@ -6,4 +6,3 @@ pub mod Radio
 pub mod Edges
 pub mod WholeCase
 pub mod RuledOut
-pub mod RadioCases
