@@ -51,7 +51,10 @@ struct growing {
     size_t length;
 };
 
-enum order { RISING, FALLING, SHUFFLED, ORDERS };
+/* The last is in key order too, with line breaks inside quotes: texts for 2.3. */
+enum order { RISING, FALLING, SHUFFLED, BROKEN_UP, ORDERS };
+
+enum { BY_21 = 21, BY_23 = 23 };
 
 static struct {
     size_t rows;
@@ -143,14 +146,6 @@ static void make_order(size_t *order, size_t n, enum order way)
     }
 }
 
-static void print_type(struct growing *text, const row numbers)
-{
-    put_number(text, numbers[0]);
-    put(text, ";");
-    put_number(text, numbers[1]);
-    put(text, ";44;61;2;\"articulated; low floor\";ART;1250;2550;3020;2\n");
-}
-
 static void print_key(struct growing *text, const row numbers, const char *rest)
 {
     put_number(text, numbers[0]);
@@ -174,10 +169,16 @@ static void print_numbers(struct growing *text, const row numbers, size_t count,
 static void make_texts(enum order way)
 {
     struct growing *texts = work_load.texts[way];
+    const char *type_rest = ";44;61;2;\"articulated; low floor\";ART;1250;2550;3020;2\n";
+    const char *stop_rest = ";Market place, town hall\n";
     size_t order[TABLE_ROWS];
     size_t n = work_load.rows;
     size_t t, i;
 
+    if (way == BROKEN_UP) {
+        type_rest = ";44;61;2;\"articulated;\nlow floor\";ART;1250;2550;3020;2\n";
+        stop_rest = ";\"Market place,\ntown hall\"\n";
+    }
     for (t = 0; t < TABLES; t++)
         texts[t].length = 0;
     put(&texts[0], "VERSION;VEH_TYPE_NR;VEH_TYPE_SEATS;VEH_TYPE_STRAPS;PLACES_FOR_DISABLED_PERSONS;VEH_TYPE_TEXT;STR_VEH_TYPE;"
@@ -189,9 +190,9 @@ static void make_texts(enum order way)
                    "ARR_STOP_NR;ARR_STOPPING_POINT_NR;END_OF_BLOCK\n");
     make_order(order, n, way);
     for (i = 0; i < n; i++) {
-        print_type(&texts[0], work_load.types[order[i]]);
+        print_key(&texts[0], work_load.types[order[i]], type_rest);
         print_key(&texts[1], work_load.depots[order[i]], "\n");
-        print_key(&texts[2], work_load.stops[order[i]], ";Market place, town hall\n");
+        print_key(&texts[2], work_load.stops[order[i]], stop_rest);
         print_numbers(&texts[3], work_load.points[order[i]], 3, ";");
         print_numbers(&texts[4], work_load.blocks[order[i]], NUMBERS, ";");
     }
@@ -240,7 +241,7 @@ static void make_load(size_t n)
         texts[t].bytes = work_load.texts[RISING][t].bytes;
         texts[t].length = work_load.texts[RISING][t].length;
     }
-    if (side_read(&plain_side, texts, work_load.book, BOOK_ROWS, place) != 0) {
+    if (side_read(&plain_side, BY_21, texts, work_load.book, BOOK_ROWS, place) != 0) {
         puts("the benchmark's own delivery is refused");
         exit(2);
     }
@@ -260,6 +261,7 @@ struct operation {
     const char *words;
     void (*turn)(int s, const struct operation *operation);
     enum order order;
+    uint64_t edition; /* of a reading; all else goes by the book's, which is 2.1 */
     size_t calls; /* in one turn: the short ones are called some times, so that the clock's steps do not matter */
     size_t (*bytes)(const struct operation *operation);
 };
@@ -268,8 +270,8 @@ static void turn_read(int s, const struct operation *operation)
 {
     const struct growing *t = work_load.texts[operation->order];
 
-    held[s].returned = sides[s]->read(t[0].bytes, t[0].length, t[1].bytes, t[1].length, t[2].bytes, t[2].length, t[3].bytes,
-        t[3].length, t[4].bytes, t[4].length, held[s].book, BOOK_ROWS, held[s].place);
+    held[s].returned = sides[s]->read(operation->edition, t[0].bytes, t[0].length, t[1].bytes, t[1].length, t[2].bytes,
+        t[2].length, t[3].bytes, t[3].length, t[4].bytes, t[4].length, held[s].book, BOOK_ROWS, held[s].place);
 }
 
 static size_t bytes_read(const struct operation *operation)
@@ -340,13 +342,14 @@ static size_t bytes_written(const struct operation *operation)
 }
 
 static const struct operation operations[] = {
-    {"read, in key order", turn_read, RISING, 1, bytes_read},
-    {"read, reversed", turn_read, FALLING, 1, bytes_read},
-    {"read, shuffled", turn_read, SHUFFLED, 1, bytes_read},
-    {"slip, replace all", turn_replace, RISING, 1, bytes_replaced},
-    {"slip, delete and add all", turn_renew, RISING, 1, bytes_renewed},
-    {"type question", turn_type, RISING, 8, bytes_of_book},
-    {"write", turn_write, RISING, 8, bytes_written},
+    {"read, in key order", turn_read, RISING, BY_21, 1, bytes_read},
+    {"read, reversed", turn_read, FALLING, BY_21, 1, bytes_read},
+    {"read, shuffled", turn_read, SHUFFLED, BY_21, 1, bytes_read},
+    {"read by 2.3, with breaks", turn_read, BROKEN_UP, BY_23, 1, bytes_read},
+    {"slip, replace all", turn_replace, RISING, BY_21, 1, bytes_replaced},
+    {"slip, delete and add all", turn_renew, RISING, BY_21, 1, bytes_renewed},
+    {"type question", turn_type, RISING, BY_21, 8, bytes_of_book},
+    {"write", turn_write, RISING, BY_21, 8, bytes_written},
 };
 
 enum { OPERATIONS = sizeof operations / sizeof operations[0] };
@@ -477,7 +480,7 @@ static void send_delivery(size_t bytes)
     struct radio radio = {held[LIBRARY].book, kept_by_radio.kept, kept_by_radio.lines, &kept_by_radio.own, right_lengths};
     size_t t;
 
-    sides[LIBRARY]->radio_open(&radio, held[LIBRARY].place);
+    sides[LIBRARY]->radio_open(BY_21, &radio, held[LIBRARY].place);
     for (t = 0; t < TABLES; t++)
         send_table(&radio, &work_load.texts[RISING][t], bytes);
 }
@@ -558,10 +561,10 @@ int main(int words, char **word)
         for (size = 0; size < SIZES; size++)
             print_result(&operations[o], size);
     printf("worst ratio at %d rows:\n", SMALLEST << (SIZES - 1));
-    print_worst("reading", 0, 2);
-    print_worst("slip", 3, 4);
-    print_worst("question", 5, 5);
-    print_worst("writing", 6, 6);
+    print_worst("reading", 0, 3);
+    print_worst("slip", 4, 5);
+    print_worst("question", 6, 6);
+    print_worst("writing", 7, 7);
     measure_radio(samples); /* on the load of the full size, which was made last */
     return 0;
 }

@@ -5,13 +5,16 @@
 
 #include <string.h>
 
-enum { ROWS = 512, BOOK_ROWS = 2560, TEXT_BYTES = 65536, LINE_BYTES = 2048, HEADER_CELLS = 32, DAY = 86400 };
+enum { ROWS = 512, BOOK_ROWS = 2561, TEXT_BYTES = 65536, LINE_BYTES = 2048, HEADER_CELLS = 32, DAY = 86400 };
 
 /* The tables' numbers, and the slip's in places. */
 enum { TYPES = 1, DEPOTS = 2, STOPS = 3, BLOCKS = 4, SLIP = 5, POINTS = 6 };
 
-/* Where their rows begin in a book. */
-enum { TYPES_AT = 0, DEPOTS_AT = 512, STOPS_AT = 1024, POINTS_AT = 1536, BLOCKS_AT = 2048 };
+/* Where their rows begin in a book, and its row of marks. */
+enum { TYPES_AT = 0, DEPOTS_AT = 512, STOPS_AT = 1024, POINTS_AT = 1536, BLOCKS_AT = 2048, MARKS_AT = 2560 };
+
+/* The editions, as the row of marks has them. */
+enum { DINO_21, DINO_23, EDITIONS };
 
 typedef uint64_t row[11];
 
@@ -28,30 +31,33 @@ struct col {
 #define TEXT_OF(width, required) width, required, 1, 0
 #define NUMBER(width, required, least, most) width, required, least, most
 
-static const struct col types_cols[] = {
-    {NAME("VERSION"), NUMBER(2, 1, 1, 99)},
-    {NAME("VEH_TYPE_NR"), NUMBER(8, 1, 0, 99999999)},
-    {NAME("VEH_TYPE_SEATS"), NUMBER(3, 0, 0, 999)},
-    {NAME("VEH_TYPE_STRAPS"), NUMBER(3, 0, 0, 999)},
-    {NAME("PLACES_FOR_DISABLED_PERSONS"), NUMBER(3, 0, 0, 999)},
-    {NAME("VEH_TYPE_TEXT"), TEXT_OF(40, 0)},
-    {NAME("STR_VEH_TYPE"), TEXT_OF(4, 0)},
-    {NAME("VEH_TYPE_DOOR_WIDTH"), NUMBER(4, 0, 0, 9999)},
-    {NAME("VEH_TYPE_WIDTH"), NUMBER(4, 0, 0, 9999)},
-    {NAME("VEH_TYPE_HEIGHT"), NUMBER(4, 0, 0, 9999)},
-    {NAME("VEH_TYPE_ACCESS_EQUIP"), NUMBER(1, 0, 0, 2)},
-};
+/* By edition; the last one is a column by 2.3 alone. */
+enum { MOST_COLS = 12, ACCESS_EQUIP = 11 };
+
+#define TYPES_COLS(most_equipment)                                                                                            \
+    {                                                                                                                         \
+        {NAME("VERSION"), NUMBER(2, 1, 1, 99)}, {NAME("VEH_TYPE_NR"), NUMBER(8, 1, 0, 99999999)},                             \
+        {NAME("VEH_TYPE_SEATS"), NUMBER(3, 0, 0, 999)}, {NAME("VEH_TYPE_STRAPS"), NUMBER(3, 0, 0, 999)},                      \
+        {NAME("PLACES_FOR_DISABLED_PERSONS"), NUMBER(3, 0, 0, 999)}, {NAME("VEH_TYPE_TEXT"), TEXT_OF(40, 0)},                 \
+        {NAME("STR_VEH_TYPE"), TEXT_OF(4, 0)}, {NAME("VEH_TYPE_DOOR_WIDTH"), NUMBER(4, 0, 0, 9999)},                          \
+        {NAME("VEH_TYPE_WIDTH"), NUMBER(4, 0, 0, 9999)}, {NAME("VEH_TYPE_HEIGHT"), NUMBER(4, 0, 0, 9999)},                    \
+        {NAME("VEH_TYPE_ACCESS_EQUIP"), NUMBER(1, 0, 0, most_equipment)}, {NAME("VEH_DELFI_TYPE"), TEXT_OF(10, 0)},           \
+    }
+
+static const struct col types_cols[EDITIONS][MOST_COLS] = {TYPES_COLS(2), TYPES_COLS(7)};
 
 static const struct col depots_cols[] = {
     {NAME("VERSION"), NUMBER(2, 1, 1, 99)},
     {NAME("DEPOT_NR"), NUMBER(5, 1, 0, 99999)},
 };
 
-static const struct col stops_cols[] = {
-    {NAME("VERSION"), NUMBER(2, 1, 1, 99)},
-    {NAME("STOP_NR"), NUMBER(5, 1, 1, 99999)},
-    {NAME("STOP_NAME"), TEXT_OF(50, 1)},
-};
+#define STOPS_COLS(name_width)                                                                                                \
+    {                                                                                                                         \
+        {NAME("VERSION"), NUMBER(2, 1, 1, 99)}, {NAME("STOP_NR"), NUMBER(5, 1, 1, 99999)},                                    \
+        {NAME("STOP_NAME"), TEXT_OF(name_width, 1)},                                                                          \
+    }
+
+static const struct col stops_cols[EDITIONS][3] = {STOPS_COLS(50), STOPS_COLS(255)};
 
 static const struct col points_cols[] = {
     {NAME("VERSION"), NUMBER(2, 1, 1, 99)},
@@ -59,36 +65,42 @@ static const struct col points_cols[] = {
     {NAME("STOPPING_POINT_NR"), NUMBER(2, 1, 0, 99)},
 };
 
-static const struct col blocks_cols[] = {
-    {NAME("VERSION"), NUMBER(2, 1, 1, 99)},
-    {NAME("DAY_TYPE_NR"), NUMBER(9, 1, 0, 999999999)},
-    {NAME("DEPOT_NR"), NUMBER(5, 1, 0, 99999)},
-    {NAME("BLOCK_NR"), NUMBER(8, 1, 0, 99999999)},
-    {NAME("VEH_TYP_NR"), NUMBER(2, 1, 0, 99)},
-    {NAME("DEP_STOP_NR"), NUMBER(6, 1, 0, 999999)},
-    {NAME("DEP_STOPPING_POINT_NR"), NUMBER(2, 1, 0, 99)},
-    {NAME("BEGIN_OF_BLOCK"), NUMBER(6, 1, 0, 999999)},
-    {NAME("ARR_STOP_NR"), NUMBER(6, 1, 0, 999999)},
-    {NAME("ARR_STOPPING_POINT_NR"), NUMBER(2, 1, 0, 99)},
-    {NAME("END_OF_BLOCK"), NUMBER(6, 1, 0, 999999)},
-};
+/* The two stop numbers go by edition. */
+#define BLOCKS_COLS(stop_number)                                                                                              \
+    {                                                                                                                         \
+        {NAME("VERSION"), NUMBER(2, 1, 1, 99)}, {NAME("DAY_TYPE_NR"), NUMBER(9, 1, 0, 999999999)},                            \
+        {NAME("DEPOT_NR"), NUMBER(5, 1, 0, 99999)}, {NAME("BLOCK_NR"), NUMBER(8, 1, 0, 99999999)},                            \
+        {NAME("VEH_TYP_NR"), NUMBER(2, 1, 0, 99)}, {NAME("DEP_STOP_NR"), stop_number},                                        \
+        {NAME("DEP_STOPPING_POINT_NR"), NUMBER(2, 1, 0, 99)}, {NAME("BEGIN_OF_BLOCK"), NUMBER(6, 1, 0, 999999)},              \
+        {NAME("ARR_STOP_NR"), stop_number}, {NAME("ARR_STOPPING_POINT_NR"), NUMBER(2, 1, 0, 99)},                             \
+        {NAME("END_OF_BLOCK"), NUMBER(6, 1, 0, 999999)},                                                                      \
+    }
+#define STOP_21 NUMBER(6, 1, 0, 999999)
+#define STOP_23 NUMBER(5, 1, 1, 99999)
 
-/* By the table's number; what is no table has no columns. The fifth column of vehicle_type and of vehicle_block has a second
- * spelling. */
+static const struct col blocks_cols[EDITIONS][11] = {BLOCKS_COLS(STOP_21), BLOCKS_COLS(STOP_23)};
+
+/* By edition and the table's number; what is no table has no columns. The fifth column of vehicle_type and of vehicle_block has
+ * a second spelling. */
+#define TABS(edition, type_count)                                                                                             \
+    {                                                                                                                         \
+        {NULL, 0, NULL, 0}, {types_cols[edition], type_count, NAME("HANDICAP_PLACES")}, {depots_cols, 2, NULL, 0},            \
+        {stops_cols[edition], 3, NULL, 0}, {blocks_cols[edition], 11, NAME("VEH_TYPE_NR")}, {NULL, 0, NULL, 0},               \
+        {points_cols, 3, NULL, 0},                                                                                            \
+    }
+
 static const struct tab {
     const struct col *cols;
     unsigned count;
     const char *other;
     size_t other_length;
-} tabs[7] = {
-    {NULL, 0, NULL, 0},
-    {types_cols, 11, NAME("HANDICAP_PLACES")},
-    {depots_cols, 2, NULL, 0},
-    {stops_cols, 3, NULL, 0},
-    {blocks_cols, 11, NAME("VEH_TYPE_NR")},
-    {NULL, 0, NULL, 0},
-    {points_cols, 3, NULL, 0},
-};
+} tabs[EDITIONS][7] = {TABS(DINO_21, 11), TABS(DINO_23, 12)};
+
+/* The edition that a caller names, or EDITIONS. */
+static unsigned edition_named(uint64_t name)
+{
+    return name == 21 ? DINO_21 : name == 23 ? DINO_23 : EDITIONS;
+}
 
 static uint64_t refuse(uint64_t place[4], uint64_t number, uint64_t table, uint64_t line, uint64_t column)
 {
@@ -110,9 +122,11 @@ static const uint8_t class_of[256] = {
     [';'] = SEMICOLON, ['"'] = QUOTE, [127] = FAULT,
 };
 
-/* A reader's place in a text. */
+/* A reader's place in a text, the text's edition, and the number of the line there. */
 struct reader {
     const uint8_t *at, *end;
+    unsigned edition;
+    uint64_t line;
 };
 
 struct cell {
@@ -131,13 +145,23 @@ static int end_line(struct reader *r)
         return LINE_END;
     if (*r->at == '\n') {
         r->at++;
+        r->line++;
         return LINE_END;
     }
     if (*r->at == '\r' && r->at + 1 < r->end && r->at[1] == '\n') {
         r->at += 2;
+        r->line++;
         return LINE_END;
     }
     return BROKEN;
+}
+
+/* The bytes of the break at p, in quotes: a line feed, with or without a carriage return before it. 0 where none may stand. */
+static inline size_t break_at(const struct reader *r, const uint8_t *p)
+{
+    if (r->edition == DINO_21)
+        return 0;
+    return *p == '\n' ? 1 : *p == '\r' && p + 1 < r->end && p[1] == '\n' ? 2 : 0;
 }
 
 /* Takes one cell and what stands behind it. */
@@ -153,8 +177,17 @@ static inline int take_cell(struct reader *r, struct cell *cell)
         for (;;) {
             while (p < end && (class_of[*p] & ~SEMICOLON) == ORDINARY)
                 p++;
-            if (p == end || class_of[*p] == FAULT)
+            if (p == end)
                 return BROKEN;
+            if (class_of[*p] == FAULT) {
+                size_t skipped = break_at(r, p);
+
+                if (!skipped)
+                    return BROKEN;
+                r->line++;
+                p += skipped;
+                continue;
+            }
             if (p + 1 < end && p[1] == '"') {
                 cell->pairs++;
                 p += 2;
@@ -178,13 +211,35 @@ static inline int take_cell(struct reader *r, struct cell *cell)
     return end_line(r);
 }
 
-/* The bytes of the line that begins there, its line end left out. */
-static size_t line_length(const uint8_t *start, const uint8_t *end)
+/* Where the cell's quotes end that begin at p, or the text's end. */
+static const uint8_t *behind_quotes(const uint8_t *p, const uint8_t *end)
 {
-    const uint8_t *p = start;
-
-    while (p < end && *p != '\n')
+    for (p++; p < end; p++) {
+        if (*p != '"')
+            continue;
         p++;
+        if (p == end || *p != '"')
+            return p;
+    }
+    return end;
+}
+
+/* The bytes of the row that begins there, its line end left out. */
+static size_t row_length(const uint8_t *start, const struct reader *r)
+{
+    const uint8_t *end = r->end;
+    const uint8_t *p = start;
+    int begins = r->edition == DINO_23; /* a cell whose quotes count */
+
+    while (p < end && *p != '\n') {
+        if (begins && *p == '"') {
+            p = behind_quotes(p, end);
+            begins = 0;
+            continue;
+        }
+        begins = r->edition == DINO_23 && *p == ';';
+        p++;
+    }
     return (size_t)(p - start) - (p < end && p > start && p[-1] == '\r');
 }
 
@@ -192,7 +247,7 @@ static size_t line_length(const uint8_t *start, const uint8_t *end)
  * to be found. */
 static inline int too_long(const uint8_t *start, const struct reader *r, int behind)
 {
-    return (behind == BROKEN || r->at - start > LINE_BYTES) && line_length(start, r->end) > LINE_BYTES;
+    return (behind == BROKEN || r->at - start > LINE_BYTES) && row_length(start, r) > LINE_BYTES;
 }
 
 /* Digits to a number: 0, 8, or 21 outside the column's range. At most nine of them stand before a byte that is none. */
@@ -247,7 +302,7 @@ static unsigned named(const struct tab *tab, const struct cell *cell)
 
 static uint64_t take_header(unsigned t, struct reader *r, struct header *header, uint64_t place[4])
 {
-    const struct tab *tab = &tabs[t];
+    const struct tab *tab = &tabs[r->edition][t];
     const uint8_t *start = r->at;
     unsigned twice = 0;
     unsigned count = 0;
@@ -288,13 +343,14 @@ static uint64_t take_header(unsigned t, struct reader *r, struct header *header,
 
 /* Takes a line: its numbers by column, or its 17, 6, 7, or 19, 20, 8 or 21 of a cell. A bad cell is only noted, as the line's
  * 17, a later cell's 6 or the line's 7 come first, and the lowest column's fault. */
-static inline uint64_t take_row(unsigned t, struct reader *r, uint64_t line, const struct header *header, row numbers,
+static inline uint64_t take_row(unsigned t, struct reader *r, const struct header *header, uint64_t *numbers,
     uint64_t place[4])
 {
-    const struct col *cols = tabs[t].cols;
+    const struct col *cols = tabs[r->edition][t].cols;
     const uint8_t *start = r->at;
+    uint64_t line = r->line;
     unsigned bad = 0;
-    unsigned lowest = tabs[t].count + 1;
+    unsigned lowest = MOST_COLS + 1;
     unsigned count = 0;
     int behind;
 
@@ -467,13 +523,13 @@ static void lay_out(const struct order *order, const row *rows, row *blocks)
 /* ---- Reading */
 
 /* A table of keys. Those of stop points are packed in their own way and refer to the stops. */
-static inline uint64_t read_keys(unsigned t, const uint8_t *text, size_t length, struct keys *keys, const struct keys *stops,
-    uint64_t place[4])
+static inline uint64_t read_keys(unsigned edition, unsigned t, const uint8_t *text, size_t length, struct keys *keys,
+    const struct keys *stops, uint64_t place[4])
 {
-    struct reader r = {text, text + length};
+    struct reader r = {text, text + length, edition, 1};
     struct header header;
-    uint64_t line, number;
-    row numbers;
+    uint64_t number;
+    uint64_t numbers[MOST_COLS];
 
     keys->count = 0;
     if (length > TEXT_BYTES)
@@ -481,13 +537,14 @@ static inline uint64_t read_keys(unsigned t, const uint8_t *text, size_t length,
     number = take_header(t, &r, &header, place);
     if (number)
         return number;
-    for (line = 2; r.at < r.end; line++) {
+    while (r.at < r.end) {
+        uint64_t line = r.line;
         uint64_t key;
         size_t at;
 
-        if (line > ROWS + 1)
+        if (keys->count == ROWS)
             return refuse(place, 5, t, line, 0);
-        number = take_row(t, &r, line, &header, numbers, place);
+        number = take_row(t, &r, &header, numbers, place);
         if (number)
             return number;
         key = t == POINTS ? pack_point(numbers[0], numbers[1], numbers[2]) : pack(numbers[0], numbers[1]);
@@ -503,12 +560,12 @@ static inline uint64_t read_keys(unsigned t, const uint8_t *text, size_t length,
     return 0;
 }
 
-static uint64_t read_blocks(const uint8_t *text, size_t length, const struct book_keys *keys, struct order *order,
-    row rows[ROWS], uint64_t place[4])
+static uint64_t read_blocks(unsigned edition, const uint8_t *text, size_t length, const struct book_keys *keys,
+    struct order *order, row rows[ROWS], uint64_t place[4])
 {
-    struct reader r = {text, text + length};
+    struct reader r = {text, text + length, edition, 1};
     struct header header;
-    uint64_t line, number;
+    uint64_t number;
 
     order->count = 0;
     if (length > TEXT_BYTES)
@@ -516,15 +573,16 @@ static uint64_t read_blocks(const uint8_t *text, size_t length, const struct boo
     number = take_header(BLOCKS, &r, &header, place);
     if (number)
         return number;
-    for (line = 2; r.at < r.end; line++) {
+    while (r.at < r.end) {
         size_t slot = order->count;
         uint64_t *numbers = rows[slot];
+        uint64_t line = r.line;
         unsigned column;
         size_t at;
 
-        if (line > ROWS + 1)
+        if (slot == ROWS)
             return refuse(place, 5, BLOCKS, line, 0);
-        number = take_row(BLOCKS, &r, line, &header, numbers, place);
+        number = take_row(BLOCKS, &r, &header, numbers, place);
         if (number)
             return number;
         if (early(numbers))
@@ -563,10 +621,11 @@ static void lay_out_points(const struct keys *keys, row *rows)
     }
 }
 
-uint64_t plain_read(const uint8_t *vehicle_type, size_t vehicle_type_length, const uint8_t *depot, size_t depot_length,
-    const uint8_t *stop, size_t stop_length, const uint8_t *stop_point, size_t stop_point_length,
+uint64_t plain_read(uint64_t edition_name, const uint8_t *vehicle_type, size_t vehicle_type_length, const uint8_t *depot,
+    size_t depot_length, const uint8_t *stop, size_t stop_length, const uint8_t *stop_point, size_t stop_point_length,
     const uint8_t *vehicle_block, size_t vehicle_block_length, uint64_t (*book)[11], size_t rows, uint64_t place[4])
 {
+    unsigned e = edition_named(edition_name);
     struct book_keys keys;
     struct order order;
     row blocks[ROWS];
@@ -574,15 +633,17 @@ uint64_t plain_read(const uint8_t *vehicle_type, size_t vehicle_type_length, con
 
     if (rows != BOOK_ROWS)
         return refuse(place, 16, 0, 0, 0);
-    number = read_keys(TYPES, vehicle_type, vehicle_type_length, &keys.types, NULL, place);
+    number = e == EDITIONS ? refuse(place, 22, 0, 0, 0) : 0;
     if (!number)
-        number = read_keys(DEPOTS, depot, depot_length, &keys.depots, NULL, place);
+        number = read_keys(e, TYPES, vehicle_type, vehicle_type_length, &keys.types, NULL, place);
     if (!number)
-        number = read_keys(STOPS, stop, stop_length, &keys.stops, NULL, place);
+        number = read_keys(e, DEPOTS, depot, depot_length, &keys.depots, NULL, place);
     if (!number)
-        number = read_keys(POINTS, stop_point, stop_point_length, &keys.points, &keys.stops, place);
+        number = read_keys(e, STOPS, stop, stop_length, &keys.stops, NULL, place);
     if (!number)
-        number = read_blocks(vehicle_block, vehicle_block_length, &keys, &order, blocks, place);
+        number = read_keys(e, POINTS, stop_point, stop_point_length, &keys.points, &keys.stops, place);
+    if (!number)
+        number = read_blocks(e, vehicle_block, vehicle_block_length, &keys, &order, blocks, place);
     if (number) {
         memset(book, 0, BOOK_ROWS * sizeof(row));
         return number;
@@ -592,6 +653,8 @@ uint64_t plain_read(const uint8_t *vehicle_type, size_t vehicle_type_length, con
     lay_out_keys(&keys.stops, book + STOPS_AT);
     lay_out_points(&keys.points, book + POINTS_AT);
     lay_out(&order, (const row *)blocks, book + BLOCKS_AT);
+    memset(book[MARKS_AT], 0, sizeof(row));
+    book[MARKS_AT][0] = e;
     return refuse(place, 0, 0, 0, 0);
 }
 
@@ -663,7 +726,7 @@ static int check_blocks(const row *rows, const struct book_keys *keys, size_t *c
         int over = 0;
 
         for (c = 0; c < 11; c++)
-            over |= rows[n][c] > blocks_cols[c].most;
+            over |= rows[n][c] > blocks_cols[DINO_21][c].most; /* a stop by 2.3 is held to its range by its reference */
         if (over || early(rows[n]) || (n > 0 && !key_below(rows[n - 1], rows[n])) || lost(keys, rows[n]))
             return 0;
     }
@@ -674,39 +737,73 @@ static int check_blocks(const row *rows, const struct book_keys *keys, size_t *c
 /* Whether the rows are a book; its keys and how many blocks it has. */
 static int check_book(const row *book, size_t rows, struct book_keys *keys, size_t *blocks)
 {
-    return rows == BOOK_ROWS && check_keys(book + TYPES_AT, &types_cols[1], &keys->types)
+    return rows == BOOK_ROWS && book[MARKS_AT][0] < EDITIONS && !(book[MARKS_AT][1] | book[MARKS_AT][2])
+        && !rest_of(book[MARKS_AT]) && check_keys(book + TYPES_AT, &types_cols[DINO_21][1], &keys->types)
         && check_keys(book + DEPOTS_AT, &depots_cols[1], &keys->depots)
-        && check_keys(book + STOPS_AT, &stops_cols[1], &keys->stops)
+        && check_keys(book + STOPS_AT, &stops_cols[DINO_21][1], &keys->stops)
         && check_points(book + POINTS_AT, &keys->stops, &keys->points) && check_blocks(book + BLOCKS_AT, keys, blocks);
 }
 
 /* ---- Questions */
 
-uint64_t plain_cell(const uint8_t *text, size_t length, uint64_t table, uint64_t line, uint64_t column, uint64_t answer[4],
-    uint64_t place[4])
+/* Goes to the row that starts on a line, or to the text's end: 0, or by 2.3 the 17 or 6 of a row above. By 2.1 lines above are
+ * passed over to their line feeds, whatever stands in them. */
+static uint64_t pass_rows(unsigned t, struct reader *r, uint64_t line, uint64_t place[4])
 {
-    struct reader r = {text, text + length};
+    while (r->line < line && r->at < r->end) {
+        const uint8_t *start = r->at;
+        uint64_t above = r->line;
+        unsigned count = 0;
+        int behind;
+
+        if (r->edition == DINO_21) {
+            while (r->at < r->end && *r->at++ != '\n')
+                ;
+            r->line++;
+            continue;
+        }
+        do {
+            struct cell cell;
+
+            behind = take_cell(r, &cell);
+            count++;
+        } while (behind == NEXT_CELL);
+        if (too_long(start, r, behind))
+            return refuse(place, 17, t, above, 0);
+        if (behind == BROKEN)
+            return refuse(place, 6, t, above, count);
+    }
+    return 0;
+}
+
+uint64_t plain_cell(uint64_t edition, const uint8_t *text, size_t length, uint64_t table, uint64_t line, uint64_t column,
+    uint64_t answer[4], uint64_t place[4])
+{
+    struct reader r = {text, text + length, edition_named(edition), 1};
     struct header header;
     struct cell asked = {text, 0, 0};
     const uint8_t *start;
+    const struct col *col;
     uint64_t number, value;
     unsigned t = (unsigned)table;
     unsigned count = 0;
     int behind;
 
     memset(answer, 0, 4 * sizeof answer[0]);
-    if (table > POINTS || column < 1 || column > tabs[t].count)
+    if (r.edition == EDITIONS)
+        return refuse(place, 22, 0, 0, 0);
+    if (table > POINTS || column < 1 || column > tabs[r.edition][t].count)
         return refuse(place, 15, 0, 0, 0);
+    col = &tabs[r.edition][t].cols[column - 1];
     if (length > TEXT_BYTES)
         return refuse(place, 1, t, 0, 0);
     number = take_header(t, &r, &header, place);
     if (number)
         return number;
-    /* lines above are passed over to their line feeds, whatever stands in them */
-    for (number = 2; number < line && r.at < r.end; number++)
-        while (r.at < r.end && *r.at++ != '\n')
-            ;
-    if (line < 2 || r.at == r.end)
+    number = pass_rows(t, &r, line, place);
+    if (number)
+        return number;
+    if (line < 2 || r.line != line || r.at == r.end)
         return refuse(place, 15, 0, 0, 0);
     start = r.at;
     do {
@@ -725,15 +822,15 @@ uint64_t plain_cell(const uint8_t *text, size_t length, uint64_t table, uint64_t
         return refuse(place, 7, t, line, 0);
     if (!(header.present >> (column - 1) & 1))
         return refuse(place, 0, 0, 0, 0);
-    number = judge(&asked, &tabs[t].cols[column - 1], &value);
+    number = judge(&asked, col, &value);
     if (number)
         return refuse(place, number, t, line, column);
-    if (asked.length > 0 && tabs[t].cols[column - 1].least > tabs[t].cols[column - 1].most) {
+    if (asked.length > 0 && col->least > col->most) {
         answer[0] = 2;
         answer[2] = (uint64_t)(asked.start - text);
         answer[3] = asked.length;
     } else if (asked.length > 0) {
-        answer[0] = 1;
+        answer[0] = t != TYPES || column != ACCESS_EQUIP ? 1 : r.edition == DINO_21 ? 3 : 4;
         answer[1] = value;
     }
     return refuse(place, 0, 0, 0, 0);
@@ -826,7 +923,7 @@ static inline int take_fields(struct reader *r, unsigned count, row numbers, uns
     for (c = 0; c < count; c++) {
         unsigned fault;
 
-        if (!take_field(r, &blocks_cols[c], &numbers[c], &fault))
+        if (!take_field(r, &blocks_cols[r->edition][c], &numbers[c], &fault))
             return 0;
         if (fault && !*bad) {
             *bad = fault;
@@ -890,10 +987,10 @@ static uint64_t slip_line(struct reader *r, uint64_t line, const struct book_key
     return 0;
 }
 
-static uint64_t slip_lines(const uint8_t *slip, size_t length, const struct book_keys *keys, struct stock *stock,
-    uint64_t place[4])
+static uint64_t slip_lines(unsigned edition, const uint8_t *slip, size_t length, const struct book_keys *keys,
+    struct stock *stock, uint64_t place[4])
 {
-    struct reader r = {slip, slip + length};
+    struct reader r = {slip, slip + length, edition, 1};
     uint64_t line;
 
     if (length > TEXT_BYTES)
@@ -924,7 +1021,7 @@ uint64_t plain_slip(const uint8_t *slip, size_t slip_length, uint64_t (*book)[11
         stock.rows = work;
         stock.order.count = stock.next = count;
         stock.free_count = 0;
-        number = slip_lines(slip, slip_length, &keys, &stock, place);
+        number = slip_lines((unsigned)book[MARKS_AT][0], slip, slip_length, &keys, &stock, place);
         if (number == 0)
             lay_out(&stock.order, (const row *)work, book + BLOCKS_AT);
     } else {

@@ -1,8 +1,23 @@
 /* workshop.h: the workshop's functions for C.
  *
- * A table text is the bytes of one DINO 2.1 table: 1 vehicle_type, 2 depot, 3 stop, 4 vehicle_block, 6 stop_point, read in
+ * A table text is the bytes of one DINO table: 1 vehicle_type, 2 depot, 3 stop, 4 vehicle_block, 6 stop_point, read in
  * the order 1, 2, 3, 6, 4. A slip is the bytes of one correction slip. Both are handed in as a pointer and the number of
  * bytes; neither needs a byte 0 behind it.
+ *
+ * THE EDITION of DINO is the first parameter of every function that is handed a table text or opens a delivery by radio: 21
+ * for 2.1, 23 for 2.3. Any other number is refused with 22. A whole delivery goes by one edition; the book keeps it, and slips
+ * go by the book's. By 2.3
+ *
+ *     STOP_NAME has up to 255 bytes, by 2.1 up to 50
+ *     DEP_STOP_NR and ARR_STOP_NR have up to 5 digits and go from 1 to 99999, by 2.1 up to 6 digits and from 0 to 999999
+ *     VEH_TYPE_ACCESS_EQUIP goes from 0 to 7, by 2.1 from 0 to 2 (see workshop_cell)
+ *     VEH_DELFI_TYPE, a text of up to 10 bytes, is the optional column 12 of vehicle_type; by 2.1 the name is unknown
+ *     line breaks may stand inside double quotes
+ *
+ * A ROW is by 2.1 one line. By 2.3 it ends at the first line feed that is not inside the quotes of a cell, and quotes that are
+ * not closed go to the text's end. A line feed inside quotes, with or without one carriage return before it, is content, of one
+ * byte or two; any other carriage return there is 6. A row's line is the one that it starts on, counted by all line feeds from
+ * the text's beginning; the header may have several lines too.
  *
  * THE BOOK is an array of WORKSHOP_BOOK_ROWS rows of WORKSHOP_NUMBERS numbers that the caller owns:
  *
@@ -14,9 +29,11 @@
  * number) and nine zeros, a stop point its key (VERSION, STOP_NR, STOPPING_POINT_NR) and eight zeros. A block keeps its 11
  * numbers in the order of the vehicle_block columns: VERSION, DAY_TYPE_NR, DEPOT_NR, BLOCK_NR (the key), VEH_TYP_NR,
  * DEP_STOP_NR, DEP_STOPPING_POINT_NR, BEGIN_OF_BLOCK, ARR_STOP_NR, ARR_STOPPING_POINT_NR, END_OF_BLOCK.
- * A book that workshop_read filled may be kept, copied and handed in again later. One that no accepted delivery can leave
- * (a wrong order, a number out of range, a missing reference, times that are 11, something in the unused room) is refused
- * with 16 by every function that looks at a book.
+ * The last row, 2560, is the row of marks. Its first number is the book's edition, 0 for 2.1 and 1 for 2.3; the others are 0.
+ * The empty book, which a refused reading leaves, is all zero and so of 2.1.
+ * A book that workshop_read filled may be kept, copied and handed in again later. One that no accepted delivery of its edition
+ * can leave (a wrong order, a number out of range, a missing reference, times that are 11, something in the unused room,
+ * another mark) is refused with 16 by every function that looks at a book.
  *
  * A BLOCK'S TIMES: where both are below 86,400 and END_OF_BLOCK is lower, the block runs into the next day and has
  * END_OF_BLOCK + 86,400 - BEGIN_OF_BLOCK seconds; otherwise it has END_OF_BLOCK - BEGIN_OF_BLOCK. The book keeps both numbers
@@ -32,9 +49,9 @@
  * EVERY FUNCTION returns the number of refusal, 0 for accepted, and fills place:
  *
  *     place[0] the number of refusal, the same as returned
- *     place[1] the table: 1 to 4 or 6, or 5 for a slip; 0 for the numbers 0, 14, 15 and 16
- *     place[2] the line, counted from 1 (line 1 of a table is its header), or 0
- *     place[3] the column by its number, for 6 the cell counted from 1 on its line, or 0
+ *     place[1] the table: 1 to 4 or 6, or 5 for a slip; 0 for the numbers 0, 14, 15, 16 and 22
+ *     place[2] the line, counted from 1 (line 1 of a table is its header's), or 0
+ *     place[3] the column by its number, for 6 the cell counted from 1 in its row, or 0
  *
  *     0 accepted                                       10 reference finds no row
  *     1 text over 65,536 bytes (by radio: announced)   11 END_OF_BLOCK below BEGIN_OF_BLOCK where one of them is
@@ -46,13 +63,14 @@
  *     7 cell count differs from the header                call by radio is out of turn
  *     8 cell not digits                                16 book breaks the book rule, what is kept by radio breaks its own,
  *     9 key stands in an earlier row                      or a lent length is wrong
- *       (slip: in the book)                            17 line of more than 2,048 bytes, its line end left out
+ *       (slip: in the book)                            17 row of more than 2,048 bytes, its line end left out
  *                                                      18 table closed with more or fewer bytes than announced (by radio)
  *                                                      19 cell empty where its column is required
  *                                                      20 cell longer than its column's width; it comes before 8 and 21
  *                                                      21 number outside its column's range
+ *                                                      22 unknown edition
  *
- * A CELL is judged by its content, a field of a slip by its bytes. A text column has 19 and 20 only. Of a line's cells with one
+ * A CELL is judged by its content, a field of a slip by its bytes. A text column has 19 and 20 only. Of a row's cells with one
  * of 19, 20, 8 and 21 the lowest column is told, whichever it has.
  *
  * Only the first fault is told. Numbers may be added later; a caller treats one that it does not know as a refusal.
@@ -72,7 +90,7 @@
 #include <stdint.h>
 
 #define WORKSHOP_NUMBERS 11       /* numbers in a row */
-#define WORKSHOP_BOOK_ROWS 2560   /* rows in a book */
+#define WORKSHOP_BOOK_ROWS 2561   /* rows in a book */
 #define WORKSHOP_WORK_ROWS 512    /* rows in a working area */
 #define WORKSHOP_RADIO_KEPT 11    /* numbers that a delivery by radio keeps beside its book */
 #define WORKSHOP_RADIO_LINES 4097 /* and bytes */
@@ -85,10 +103,10 @@ extern "C" {
  * order in which they are read: a text that a later release adds comes in its table's place, as stop_point did between
  * stop and vehicle_block, so a caller that was compiled against an earlier header must be compiled again.
  *
- * Accepted: the book holds the delivery. Refused: the book is the empty one, all zero; only where `rows` is not
- * WORKSHOP_BOOK_ROWS (16) it stays as it was. Can refuse with 16, then 1 to 11, 17 and 19 to 21. */
-uint64_t workshop_read(const uint8_t *vehicle_type, size_t vehicle_type_length, const uint8_t *depot, size_t depot_length,
-    const uint8_t *stop, size_t stop_length, const uint8_t *stop_point, size_t stop_point_length,
+ * Accepted: the book holds the delivery and its edition. Refused: the book is the empty one, all zero; only where `rows` is not
+ * WORKSHOP_BOOK_ROWS (16) it stays as it was. Can refuse with 16, then 22, then 1 to 11, 17 and 19 to 21. */
+uint64_t workshop_read(uint64_t edition, const uint8_t *vehicle_type, size_t vehicle_type_length, const uint8_t *depot,
+    size_t depot_length, const uint8_t *stop, size_t stop_length, const uint8_t *stop_point, size_t stop_point_length,
     const uint8_t *vehicle_block, size_t vehicle_block_length, uint64_t (*book)[11], size_t rows, uint64_t place[4]);
 
 /* THE DELIVERY BY RADIO, for a caller that has no room for a whole table. Each table is announced with its length, sent in
@@ -96,7 +114,7 @@ uint64_t workshop_read(const uint8_t *vehicle_type, size_t vehicle_type_length, 
  * five tables come in the order in which workshop_read takes them. Three arrays of the caller's keep the delivery between the
  * calls; every call is handed all three as the last one left them:
  *
- *     book     WORKSHOP_BOOK_ROWS rows: the book, as far as it is read
+ *     book     WORKSHOP_BOOK_ROWS rows: the book, as far as it is read, and the delivery's edition in its last row
  *     kept     WORKSHOP_RADIO_KEPT numbers
  *     lines    WORKSHOP_RADIO_LINES bytes
  *
@@ -113,7 +131,7 @@ uint64_t workshop_read(const uint8_t *vehicle_type, size_t vehicle_type_length, 
  *
  *     uint64_t take_delivery(uint64_t place[4])
  *     {
- *         uint64_t verdict = workshop_radio_open(DELIVERY, place);
+ *         uint64_t verdict = workshop_radio_open(23, DELIVERY, place);
  *         uint8_t part[256];
  *         size_t table, length;
  *
@@ -129,18 +147,19 @@ uint64_t workshop_read(const uint8_t *vehicle_type, size_t vehicle_type_length, 
  * announced_length and receive stand for the link; receive gives 0 at a table's end.
  *
  * THE ANSWERS. All four are first of all 16 where a length is wrong, and all but workshop_radio_open where what is kept
- * breaks its rule, which what these functions leave never does; all but workshop_radio_open are then 15 out of turn. A call
- * that is 16 or 15 changes nothing. Otherwise opening, announcing and a part are accepted whatever the bytes are, and a fault
- * shows when its table is closed: workshop_radio_close gives the verdict of the tables closed so far, which is accepted or
- * the first fault. Of one table that is 1 where the announced length is over 65,536, then 18 where more or fewer bytes came
- * than were announced, then what workshop_read says of it; 1 and 18 have the table in their place, and 0 for line and column.
+ * breaks its rule, which what these functions leave never does; then workshop_radio_open is 22 for an unknown edition, and the
+ * others are 15 out of turn. A call that is 16, 22 or 15 changes nothing. Otherwise opening, announcing and a part are accepted
+ * whatever the bytes are, and a fault shows when its table is closed: workshop_radio_close gives the verdict of the tables
+ * closed so far, which is accepted or the first fault. Of one table that is 1 where the announced length is over 65,536, then
+ * 18 where more or fewer bytes came than were announced, then what workshop_read says of it by the delivery's edition; 1 and
+ * 18 have the table in their place, and 0 for line and column.
  * Behind a fault the other tables are still announced and closed in their turn; their parts are taken, and each close gives
  * the same fault again. */
 
 /* Begins a delivery by radio. What the three arrays held does not matter: a delivery that stood there is gone. Accepted, or
- * 16 for a wrong length; then nothing changes, so that a delivery that stands there can go on. */
-uint64_t workshop_radio_open(uint64_t (*book)[11], size_t rows, uint64_t *kept, size_t kept_length, uint8_t *lines,
-    size_t lines_length, uint64_t place[4]);
+ * 16 for a wrong length, then 22; either way nothing changes, so that a delivery that stands there can go on. */
+uint64_t workshop_radio_open(uint64_t edition, uint64_t (*book)[11], size_t rows, uint64_t *kept, size_t kept_length,
+    uint8_t *lines, size_t lines_length, uint64_t place[4]);
 
 /* Announces the next table, in the order of reading, by the number of its bytes. In turn behind workshop_radio_open and
  * behind the close of every table but the last. A `length` over 65,536 is accepted here, and is 1 at the table's close. */
@@ -159,7 +178,8 @@ uint64_t workshop_radio_part(const uint8_t *part, size_t part_length, uint64_t (
 uint64_t workshop_radio_close(uint64_t (*book)[11], size_t rows, uint64_t *kept, size_t kept_length, uint8_t *lines,
     size_t lines_length, uint64_t place[4]);
 
-/* Carries out a correction slip on the book: lines A (add), R (replace) and D (delete), whole or not at all.
+/* Carries out a correction slip on the book: lines A (add), R (replace) and D (delete), whole or not at all. Its numbers are
+ * held to the columns of the book's edition. A line feed always ends a line of a slip.
  *
  * `work` is room that the function works in: WORKSHOP_WORK_ROWS rows of any content, all zero afterwards, whatever the
  * answer. Accepted: the book is the corrected one. Refused: the book stays as it was. Where a length is wrong (16), what
@@ -168,18 +188,24 @@ uint64_t workshop_radio_close(uint64_t (*book)[11], size_t rows, uint64_t *kept,
 uint64_t workshop_slip(const uint8_t *slip, size_t slip_length, uint64_t (*book)[11], size_t book_rows,
     uint64_t (*work)[11], size_t work_rows, uint64_t place[4]);
 
-/* Looks up one cell of one table text: `table` 1 to 4 or 6, `line` from 2 on, `column` by its number (not by its place on the
- * line). Only the header and that line are judged, so a text that workshop_read refuses may still have answers.
+/* Looks up one cell of one table text: `table` 1 to 4 or 6, `line` the one that its row starts on, `column` by its number (not
+ * by its place in the row). Only the header and that row are judged, so a text that workshop_read refuses may still have
+ * answers. By 2.3 the rows that start above `line` are judged too, from the top and for 17 and then 6 alone: behind such a
+ * fault no row's beginning is certain.
  *
- *     answer[0] 0 nothing (the cell is empty, or its optional column is missing), 1 a number, 2 a text
- *     answer[1] the number's value, otherwise 0
+ *     answer[0] 0 nothing (the cell is empty, or its optional column is missing), 1 a number, 2 a text,
+ *               3 VEH_TYPE_ACCESS_EQUIP by 2.1, 4 VEH_TYPE_ACCESS_EQUIP by 2.3
+ *     answer[1] the value for 1, 3 and 4, otherwise 0
  *     answer[2] where a text starts: text + answer[2]; otherwise 0
  *     answer[3] a text's length in bytes, otherwise 0
  *
  * A text is the bytes of `text` itself between the quotes, or the whole cell where it has none; doubled quotes inside are
- * still doubled. Refused: four zeros. Can refuse with 15, 1, 17, 6, 4, 3, 2, 15, 17, 6, 7, and 19, 20, 8 or 21 of the cell, in
- * this order. */
-uint64_t workshop_cell(const uint8_t *text, size_t length, uint64_t table, uint64_t line, uint64_t column,
+ * still doubled. The access equipment has numbers of its own, whatever its value is: a 2 is a lift or a ramp by 2.1, and a ramp
+ * by 2.3, where the value is a sum of flags, 1 a lift, 2 a ramp, 4 a multi-purpose space.
+ *
+ * Refused: four zeros. Can refuse with 22; 15 for the table or column; 1; 17, 6, 4, 3, 2 of the header; by 2.3 then 17 or 6 of
+ * a row above; 15 where no row starts on the line; 17, 6, 7 of the row; and 19, 20, 8 or 21 of the cell, in this order. */
+uint64_t workshop_cell(uint64_t edition, const uint8_t *text, size_t length, uint64_t table, uint64_t line, uint64_t column,
     uint64_t answer[4], uint64_t place[4]);
 
 /* Sums up the blocks of one vehicle type: answer[0] their seconds (see A BLOCK'S TIMES) and answer[1] their count.

@@ -46,6 +46,33 @@ static int chance(unsigned percent)
     return below(100) < percent;
 }
 
+/* ---- Editions */
+
+/* The edition that the case's tables, slips and books are made by. */
+static unsigned edition;
+
+static unsigned other_edition(void)
+{
+    return edition == DINO_21 ? DINO_23 : DINO_21;
+}
+
+/* 22: a name that no edition has. */
+static uint64_t strange_edition(void)
+{
+    static const uint64_t strange[] = {0, 1, 2, 3, 20, 22, 24, 210, 230, 213, 4294967296u + 21, 4294967296u + 23, UINT64_MAX};
+
+    return strange[below(sizeof strange / sizeof strange[0])];
+}
+
+/* The name that a call gets: mostly that of the case's edition, in so many of a hundred the other one's, at times a strange
+ * one. */
+static uint64_t edition_to_name(unsigned other_percent)
+{
+    if (chance(2))
+        return strange_edition();
+    return name_of_edition(chance(other_percent) ? other_edition() : edition);
+}
+
 /* ---- Texts that grow */
 
 struct growing {
@@ -249,7 +276,7 @@ static void make_keys(unsigned t, size_t n)
 
         memset(fresh, 0, sizeof(row));
         fresh[0] = any_version();
-        fresh[1] = any_number(&tables[t].columns[1], n < 60 ? 30 : 99);
+        fresh[1] = any_number(&tables[edition][t].columns[1], n < 60 ? 30 : 99);
         if (find_key((const row *)delivery.rows[t], delivery.count[t], fresh, 2) == delivery.count[t])
             delivery.count[t]++;
     }
@@ -285,7 +312,7 @@ static void make_points(size_t n)
         memset(points[count], 0, sizeof(row));
         points[count][0] = stop[0];
         points[count][1] = stop[1];
-        points[count][2] = any_number(&tables[STOP_POINT].columns[2], n < 60 ? 6 : 99);
+        points[count][2] = any_number(&tables[edition][STOP_POINT].columns[2], n < 60 ? 6 : 99);
         if (find_key((const row *)points, count, points[count], 3) == count)
             count++;
     }
@@ -329,7 +356,7 @@ static void any_times(uint64_t *block)
 /* A block whose references are there. It fails where the depot's version lacks one. */
 static int any_block(const struct others *others, uint64_t *block)
 {
-    const struct column *columns = tables[VEHICLE_BLOCK].columns;
+    const struct column *columns = tables[edition][VEHICLE_BLOCK].columns;
     const uint64_t *depot, *type, *dep_point, *arr_point;
 
     if (others->count[DEPOT] == 0)
@@ -462,6 +489,34 @@ static uint8_t any_letter(void)
     return chance(75) ? letters[below(sizeof letters - 1)] : rare[below(sizeof rare)];
 }
 
+/* So many bytes of content. By 2.3 there are at times breaks among them, each a line feed with or without a carriage return. */
+static void put_letters(struct growing *content, size_t n)
+{
+    int broken = edition == DINO_23 && chance(20);
+
+    while (n > 0)
+        if (broken && n >= 2 && chance(10)) {
+            put(content, "\r\n");
+            n -= 2;
+        } else {
+            put_byte(content, broken && chance(15) ? '\n' : any_letter());
+            n--;
+        }
+}
+
+/* One or two bytes of content become a break: a d cell is then no digits, and as long as it was. */
+static void break_content(struct growing *content)
+{
+    size_t at;
+
+    if (content->length == 0)
+        return;
+    at = below(content->length);
+    content->bytes[at] = '\n';
+    if (at > 0 && chance(40))
+        content->bytes[at - 1] = '\r';
+}
+
 /* A byte that is no digit, often one that stands beside the digits or before a number. */
 static uint8_t no_digit(void)
 {
@@ -484,10 +539,7 @@ static void put_too_long(struct growing *content, size_t width)
     switch (below(3)) {
     case 0: put_number(content, 1, n); break;
     case 1: put_digits(content, n); break;
-    default:
-        for (; n > 0; n--)
-            put_byte(content, any_letter());
-        break;
+    default: put_letters(content, n); break;
     }
 }
 
@@ -544,6 +596,7 @@ static struct {
     uint8_t returns[MOST_ROWS + 1]; /* whether a carriage return stands before the line feed */
     int last_lacks;                 /* whether the last line lacks its line feed */
     int bare_return;                /* and ends in a carriage return without it */
+    size_t long_row;                /* the line here that was made long, or 0: one to ask for */
     struct growing pool;
 } sheet;
 
@@ -591,7 +644,7 @@ static int needs_quotes(const uint8_t *content, size_t length)
     size_t i;
 
     for (i = 0; i < length; i++)
-        if (content[i] == ';' || content[i] == '"')
+        if (content[i] == ';' || content[i] == '"' || content[i] == '\n')
             return 1;
     return 0;
 }
@@ -624,12 +677,21 @@ static struct raw raw_number(uint64_t number, unsigned width)
 
 static struct raw raw_text(size_t length)
 {
-    uint8_t content[256];
-    size_t i;
+    uint8_t bytes[256];
+    struct growing content = {bytes, 0, sizeof bytes};
 
-    for (i = 0; i < length; i++)
-        content[i] = any_letter();
-    return raw_content(content, length, 25);
+    put_letters(&content, length);
+    return raw_content(bytes, content.length, 25);
+}
+
+/* How long a text of that width is: often as long as can be, and of a wide one about as long as 2.1 lets a stop's name be. */
+static size_t any_length(size_t width)
+{
+    if (chance(20))
+        return width;
+    if (width > 60)
+        return chance(20) ? between(49, 52) : between(1, chance(5) ? width : 30);
+    return between(1, width);
 }
 
 /* The number of a named column in this row, 0 where the delivery has none. */
@@ -637,7 +699,7 @@ static struct raw raw_value(const struct column *column, uint64_t number)
 {
     if (column->kind == 'd')
         return raw_number(number, column->width);
-    return raw_text(chance(20) ? column->width : between(1, column->width));
+    return raw_text(any_length(column->width));
 }
 
 /* An optional column's cell: the delivery has no number for it. */
@@ -648,19 +710,27 @@ static struct raw raw_optional(const struct column *column)
     return raw_value(column, column->most ? roll() % (column->most + 1) : 0);
 }
 
-/* A cell of exactly that many bytes as it stands, well quoted. In quotes some of those inside are doubled, often the last. */
+/* A cell of exactly that many bytes as it stands, well quoted. In quotes some of those inside are doubled, often the last, and
+ * by 2.3 some are breaks. */
 static struct raw raw_of_length(size_t length)
 {
     struct raw raw = open_raw();
-    int quoted = length >= 2 && chance(50);
+    int quoted = length >= 2 && chance(edition == DINO_23 ? 75 : 50);
     size_t inside = quoted ? length - 2 : length;
     int last_doubled = quoted && chance(50);
+    unsigned broken = quoted && edition == DINO_23 && chance(80) ? 2 : 0;
 
     put(&sheet.pool, quoted ? "\"" : "");
     while (inside > 0)
         if (quoted && inside >= 2 && (chance(2) || (last_doubled && inside == 2))) {
             put(&sheet.pool, "\"\"");
             inside -= 2;
+        } else if (broken && inside >= 2 && chance(broken)) {
+            put(&sheet.pool, "\r\n");
+            inside -= 2;
+        } else if (broken && chance(broken)) {
+            put_byte(&sheet.pool, '\n');
+            inside--;
         } else {
             put_byte(&sheet.pool, (uint8_t)('a' + inside % 26));
             inside--;
@@ -677,10 +747,16 @@ static struct raw raw_unknown(void)
 /* Names that are no column's here, though some look like one. */
 static struct raw raw_unknown_name(void)
 {
+    static const char *const broken[] = {"\"a\nb\"", "\"\n\"", "\"\r\n\"", "\"VERSION\n\"", "\"\nVERSION\"", "\"VER\r\nSION\"",
+        "\"a\"\"\n\"\"b\"", "\"\n;\r\n\n\""};
+    /* the last of them is a column of vehicle_type by 2.3 */
     static const char *const names[] = {"", "\"\"", "X", "X", "version", "VERSION ", " VERSION", "\"VERSION \"", "STOP_AREA_NR",
-        "VEH_DELFI_TYPE", "\"a;b\"", "\"\"\"\"", "VERSIO", "VERSIONS", "DAY_TEXT", "BLOCK", "\xC3\x84"};
+        "\"a;b\"", "\"\"\"\"", "VERSIO", "VERSIONS", "DAY_TEXT", "BLOCK", "\xC3\x84", "VEH_DELFI_TYPES", "VEH_DELFI_TYPE"};
+    size_t count = sizeof names / sizeof names[0] - (edition == DINO_23 && sheet.table == VEHICLE_TYPE);
 
-    return raw_words(names[below(sizeof names / sizeof names[0])]);
+    if (edition == DINO_23 && chance(30))
+        return raw_words(broken[below(sizeof broken / sizeof broken[0])]);
+    return raw_words(names[below(count)]);
 }
 
 /* A name of another table is unknown too, but not the block's second spelling of its type. */
@@ -697,7 +773,7 @@ static struct raw raw_foreign_name(void)
 
 static struct raw raw_name(unsigned c)
 {
-    const struct column *column = &tables[sheet.table].columns[c - 1];
+    const struct column *column = &tables[edition][sheet.table].columns[c - 1];
     const char *name = column->other_name && chance(40) ? column->other_name : column->name;
 
     return raw_content((const uint8_t *)name, strlen(name), 8);
@@ -777,8 +853,8 @@ static void choose_columns(unsigned t)
     size_t n = 0;
     unsigned c;
 
-    for (c = 1; c <= tables[t].column_count; c++)
-        if (tables[t].columns[c - 1].required || chance(optional))
+    for (c = 1; c <= tables[edition][t].column_count; c++)
+        if (tables[edition][t].columns[c - 1].required || chance(optional))
             sheet.column_of[n++] = c;
     sheet.cells[0] = n;
 }
@@ -798,7 +874,7 @@ static void shuffle_columns(void)
 
 static struct raw make_cell(unsigned t, unsigned c, const uint64_t *numbers)
 {
-    const struct column *column = &tables[t].columns[c - 1];
+    const struct column *column = &tables[edition][t].columns[c - 1];
 
     if (!column->required)
         return raw_optional(column);
@@ -834,6 +910,7 @@ static void make_sheet(unsigned t)
     sheet.pool.length = 0;
     sheet.pool.room = sizeof pool_bytes;
     sheet.lines = delivery.count[t] + 1;
+    sheet.long_row = 0;
     choose_columns(t);
     if (chance(60))
         shuffle_columns();
@@ -853,8 +930,10 @@ static void make_sheet(unsigned t)
 /* 6: one cell that is not well quoted, or has a byte that no cell may have. */
 static struct raw raw_fault(struct raw old)
 {
-    static const char *const badly[] = {"a\"b", "\"", "\"a", "\"a\"b", "\"a\" ", "\"\"\"", " \"a\"", "1\"", "\"1\"2", "\"a\nb\"",
-        "\"\"\"a", "\"a\"\"", "\"a;b", "a\"", "\"1\"\"", "\"a\"\"\"b\""};
+    static const char *const badly[] = {"a\"b", "\"", "\"a", "\"a\"b", "\"a\" ", "\"\"\"", " \"a\"", "1\"", "\"1\"2",
+        "\"a\nb\"", "\"\"\"a", "\"a\"\"", "\"a;b", "a\"", "\"1\"\"", "\"a\"\"\"b\"", "\"a\rb\"", "\"a\r\"", "\"\r\"",
+        "\"a\r\r\nb\"", "\"a\r\nb\r\"", "\"a\nb", "\"a\r\n", "\"a\nb\"c", "\"a\nb\"c\"d", "\"a\"b\"c\nd\"", "a\"b\nc\"",
+        "a\"\n", "\"\n\"\"", "\"a\t\nb\"", "\"a\n\x7f\""};
     static const uint8_t bytes[] = {0, 1, 8, 9, 11, 12, 13, 27, 30, 31, 127};
     struct raw raw;
     size_t at, i;
@@ -891,7 +970,7 @@ static unsigned meant_column;
 
 static unsigned any_column(void)
 {
-    return meant_column ? meant_column : (unsigned)between(1, tables[sheet.table].column_count);
+    return meant_column ? meant_column : (unsigned)between(1, tables[edition][sheet.table].column_count);
 }
 
 /* 4: cells past the 32nd. */
@@ -923,7 +1002,7 @@ static void fault_missing(void)
     do {
         c = any_column();
         meant_column = 0; /* an optional one was not meant */
-    } while (!tables[sheet.table].columns[c - 1].required);
+    } while (!tables[edition][sheet.table].columns[c - 1].required);
     at = cell_of(c);
     if (at == MOST_CELLS)
         return;
@@ -953,12 +1032,14 @@ static void fault_count(size_t line)
 /* A cell with one of the four faults. */
 static struct raw raw_against(const struct column *column, enum against way)
 {
-    uint8_t bytes[128];
+    uint8_t bytes[512];
     struct growing content = {bytes, 0, sizeof bytes};
 
     if (way == EMPTY)
         return raw_empty();
     put_against(&content, column, way);
+    if (edition == DINO_23 && way != BESIDE_RANGE && chance(25))
+        break_content(&content);
     return raw_content(bytes, content.length, 25);
 }
 
@@ -977,7 +1058,7 @@ static void fault_cell(size_t line, enum against way)
         size_t at = cell_of(c);
 
         if (at < sheet.cells[line]) {
-            sheet.cell[line][at] = raw_against(&tables[sheet.table].columns[c - 1], way);
+            sheet.cell[line][at] = raw_against(&tables[edition][sheet.table].columns[c - 1], way);
             return;
         }
     }
@@ -996,7 +1077,7 @@ static void set_number(size_t line, unsigned c, uint64_t number)
     size_t at = cell_of(c);
 
     if (at < sheet.cells[line])
-        sheet.cell[line][at] = raw_number(number, tables[sheet.table].columns[c - 1].width);
+        sheet.cell[line][at] = raw_number(number, tables[edition][sheet.table].columns[c - 1].width);
 }
 
 /* 9: the key of an earlier row, with zeros of its own. */
@@ -1008,7 +1089,7 @@ static void fault_key(size_t line)
     if (line < 2)
         return;
     earlier = delivery.rows[sheet.table][below(line - 1)];
-    for (c = 1; c <= tables[sheet.table].key_width; c++)
+    for (c = 1; c <= tables[edition][sheet.table].key_width; c++)
         set_number(line, c, earlier[c - 1]);
 }
 
@@ -1019,7 +1100,7 @@ static void lose_reference(size_t line)
     static const unsigned of_point[] = {2, 2, 2, 1};
     unsigned c = sheet.table == STOP_POINT ? of_point[below(sizeof of_point / sizeof of_point[0])]
                                            : of_block[below(sizeof of_block / sizeof of_block[0])];
-    const struct column *column = &tables[sheet.table].columns[c - 1];
+    const struct column *column = &tables[edition][sheet.table].columns[c - 1];
 
     set_number(line, c, chance(60) ? any_number(column, 40) : column->most);
 }
@@ -1052,9 +1133,6 @@ static size_t line_length(size_t line)
     return length;
 }
 
-/* The line of each table's text that was made long, or 0: one to ask for. */
-static uint64_t long_line[LAST_TABLE + 1];
-
 /* 17, or just none yet: one cell makes the line as long as that, mostly a cell of an unknown column. The last line may lack
  * its line feed, and then a carriage return counts. */
 static void fault_long_line(size_t line)
@@ -1072,7 +1150,7 @@ static void fault_long_line(size_t line)
     if (others > wanted)
         return;
     sheet.cell[line][at] = raw_of_length(wanted - others);
-    long_line[sheet.table] = line + 1;
+    sheet.long_row = line;
     if (line + 1 < sheet.lines || chance(40))
         return;
     sheet.last_lacks = 1;
@@ -1152,6 +1230,23 @@ static void make_faults(size_t count)
 static uint8_t text_bytes[LAST_TABLE + 1][MOST_BYTES];
 static struct growing table_text[LAST_TABLE + 1];
 
+/* Of each table's text: the lines that its rows start on, and that of the row that was made long, or 0. */
+static struct {
+    size_t rows;
+    uint64_t starts[MOST_ROWS];
+    uint64_t long_line;
+} printed[LAST_TABLE + 1];
+
+static uint64_t line_feeds(const uint8_t *bytes, size_t length)
+{
+    uint64_t count = 0;
+    size_t i;
+
+    for (i = 0; i < length; i++)
+        count += bytes[i] == '\n';
+    return count;
+}
+
 static void print_line(struct growing *text, size_t line)
 {
     size_t i;
@@ -1166,12 +1261,22 @@ static void print_line(struct growing *text, size_t line)
 static void print_sheet(void)
 {
     struct growing *text = &table_text[sheet.table];
+    uint64_t start = 1;
+    size_t counted = 0; /* the bytes whose line feeds are counted */
     size_t line;
 
     text->bytes = text_bytes[sheet.table];
     text->length = 0;
     text->room = MOST_BYTES;
+    printed[sheet.table].rows = sheet.lines - 1;
+    printed[sheet.table].long_line = 0;
     for (line = 0; line < sheet.lines; line++) {
+        start += line_feeds(text->bytes + counted, text->length - counted);
+        counted = text->length;
+        if (line > 0)
+            printed[sheet.table].starts[line - 1] = start;
+        if (line > 0 && line == sheet.long_row)
+            printed[sheet.table].long_line = start;
         print_line(text, line);
         if (line + 1 == sheet.lines && sheet.last_lacks) {
             if (sheet.bare_return)
@@ -1252,6 +1357,7 @@ static void make_book(void)
         memcpy(rows, delivery.rows[t], delivery.count[t] * sizeof rows[0]);
         sort_rows(rows, delivery.count[t]);
     }
+    made_book[MARKS][0] = edition;
 }
 
 /* The text of a table that has these keys, as plain as it can be. */
@@ -1262,14 +1368,14 @@ static struct text plain_text(const row *book, unsigned t)
     size_t n = used(rows);
     size_t i, c;
 
-    for (c = 0; c < tables[t].column_count; c++)
-        if (tables[t].columns[c].required) {
+    for (c = 0; c < tables[edition][t].column_count; c++)
+        if (tables[edition][t].columns[c].required) {
             put(&text, c > 0 ? ";" : "");
-            put(&text, tables[t].columns[c].name);
+            put(&text, tables[edition][t].columns[c].name);
         }
     put_byte(&text, '\n');
     for (i = 0; i < n; i++) {
-        for (c = 0; c < tables[t].key_width; c++) {
+        for (c = 0; c < tables[edition][t].key_width; c++) {
             put(&text, c > 0 ? ";" : "");
             put_number(&text, rows[i][c], 1);
         }
@@ -1346,7 +1452,7 @@ static size_t written_length(const row *book)
     size_t i, c;
 
     for (c = 0; c < NUMBERS; c++)
-        length += strlen(tables[VEHICLE_BLOCK].columns[c].name) + 1;
+        length += strlen(tables[edition][VEHICLE_BLOCK].columns[c].name) + 1;
     for (i = 0; i < n; i++)
         for (c = 0; c < NUMBERS; c++)
             length += digits_of(blocks[i][c]) + 1;
@@ -1382,36 +1488,54 @@ static size_t lines_of(const struct growing *text)
 
 static void ask_cell(const struct cases_host *host, const struct growing *text, unsigned t)
 {
+    uint64_t name = edition_to_name(10);
     uint64_t table = t;
     size_t lines = lines_of(text);
     uint64_t line = lines < 2 || chance(3) ? lines + 1 : between(2, lines);
-    uint64_t column = between(1, tables[t].column_count);
+    uint64_t column = between(1, tables[edition][t].column_count);
 
-    if (long_line[t] > 1 && chance(40))
-        line = long_line[t];
+    if (printed[t].rows > 0 && chance(60))
+        line = printed[t].starts[below(printed[t].rows)];
+    if (t == VEHICLE_TYPE && chance(20))
+        column = ACCESS_EQUIP;
+    if (printed[t].long_line && chance(40))
+        line = printed[t].long_line + (chance(20) ? between(0, 2) : 0);
     if (chance(4))
         table = chance(50) ? below(8) : strange_number();
     if (chance(6))
         line = chance(70) ? below(4) : strange_number();
     if (chance(4))
         column = chance(70) ? below(14) : strange_number();
-    host->cell(host->self, text_of(text), table, line, column);
+    host->cell(host->self, name, text_of(text), table, line, column);
 }
 
-/* Cells of one table's text: some at random, at times a whole line. */
+/* One column on every line that a text has, and on those before and behind. */
+static void ask_lines(const struct cases_host *host, const struct growing *text, unsigned t)
+{
+    uint64_t lines = lines_of(text);
+    uint64_t column = between(1, tables[edition][t].column_count);
+    uint64_t line;
+
+    for (line = 0; line <= lines + 1; line++)
+        host->cell(host->self, name_of_edition(edition), text_of(text), t, line, column);
+}
+
+/* Cells of one table's text: some at random, at times a whole row, by 2.3 at times a column on every line. */
 static void ask_cells(const struct cases_host *host, unsigned t, size_t times)
 {
     const struct growing *text = &table_text[t];
     size_t lines = lines_of(text);
-    uint64_t c;
+    uint64_t line, c;
 
     for (; times > 0; times--)
         ask_cell(host, text, t);
+    if (edition == DINO_23 && lines <= 40 && chance(30))
+        ask_lines(host, text, t);
     if (lines < 2 || !chance(20))
         return;
-    lines = between(2, lines);
-    for (c = 0; c <= tables[t].column_count + 1; c++)
-        host->cell(host->self, text_of(text), t, lines, c);
+    line = printed[t].rows > 0 ? printed[t].starts[below(printed[t].rows)] : between(2, lines);
+    for (c = 0; c <= tables[edition][t].column_count + 1; c++)
+        host->cell(host->self, name_of_edition(edition), text_of(text), t, line, c);
 }
 
 static void ask_all(const struct cases_host *host)
@@ -1485,7 +1609,7 @@ static void print_slip_line(struct growing *slip, const struct slip_line *line)
         else if (line->instead[c].stands)
             put_bytes(slip, line->instead[c].bytes, line->instead[c].length);
         else
-            put_number(slip, line->numbers[c], chance(12) ? between(1, tables[VEHICLE_BLOCK].columns[c].width) : 1);
+            put_number(slip, line->numbers[c], chance(12) ? between(1, tables[edition][VEHICLE_BLOCK].columns[c].width) : 1);
     }
     put(slip, line->tail);
     put_byte(slip, '\n');
@@ -1571,13 +1695,21 @@ static void put_with_byte(struct growing *content, uint64_t number, size_t width
         put_byte(content, byte);
 }
 
-/* 19, 20, 8 or 21 in one field. VERSION alone has a range of its own. */
+/* A field that has a range of its own: VERSION, and by 2.3 the two stop numbers. */
+static size_t field_with_range(size_t fields)
+{
+    static const size_t ranged[] = {B_VERSION, B_DEP_STOP, B_ARR_STOP};
+
+    return edition == DINO_23 && fields == NUMBERS ? ranged[below(3)] : B_VERSION;
+}
+
+/* 19, 20, 8 or 21 in one field. */
 static void bad_field(struct slip_line *line)
 {
     enum against way = (enum against)below(AGAINST);
     size_t fields = line->fields < NUMBERS ? line->fields : NUMBERS;
-    size_t at = way == BESIDE_RANGE && chance(70) ? 0 : below(fields + (fields == 0));
-    const struct column *column = &tables[VEHICLE_BLOCK].columns[at];
+    size_t at = way == BESIDE_RANGE && chance(70) ? field_with_range(fields) : below(fields + (fields == 0));
+    const struct column *column = &tables[edition][VEHICLE_BLOCK].columns[at];
     struct growing content = {line->instead[at].bytes, 0, sizeof line->instead[at].bytes};
 
     if (way == NOT_DIGITS && chance(50))
@@ -1612,7 +1744,7 @@ static void any_numbers(struct slip_line *line)
     size_t c;
 
     for (c = 0; c < NUMBERS; c++)
-        line->numbers[c] = any_number(&tables[VEHICLE_BLOCK].columns[c], 20);
+        line->numbers[c] = any_number(&tables[edition][VEHICLE_BLOCK].columns[c], 20);
     any_times(line->numbers);
 }
 
@@ -1621,7 +1753,7 @@ static void bad_reference(struct slip_line *line)
     static const size_t referring[] = {B_DEPOT, B_TYPE, B_TYPE, B_DEP_STOP, B_DEP_POINT, B_ARR_STOP, B_ARR_POINT, B_VERSION};
     size_t at = referring[below(sizeof referring / sizeof referring[0])];
 
-    line->numbers[at] = any_number(&tables[VEHICLE_BLOCK].columns[at], 40);
+    line->numbers[at] = any_number(&tables[edition][VEHICLE_BLOCK].columns[at], 40);
 }
 
 static void bad_times(struct slip_line *line)
@@ -1722,11 +1854,14 @@ static struct growing make_long_slip(const row *book)
 
     for (i = 0; i < 1024 && n > 0; i++) {
         const uint64_t *block = blocks[below(n)];
-        size_t shorter = i < more ? 2 : 3; /* how many fields lack a zero: 67 bytes at full width */
+        size_t shorter = i < more ? 2 : 3; /* how many fields lack a zero: 67 bytes at full width, by 2.3 65 */
+
+        if (edition == DINO_23)
+            shorter -= 2;
 
         put_byte(&slip, 'R');
         for (c = 0; c < NUMBERS; c++) {
-            unsigned width = tables[VEHICLE_BLOCK].columns[c].width;
+            unsigned width = tables[edition][VEHICLE_BLOCK].columns[c].width;
 
             if (shorter > 0 && digits_of(block[c]) < width) {
                 width--;
@@ -1755,9 +1890,9 @@ static size_t other_length(size_t right)
 }
 
 /* Where a text is cut. */
-enum cutting { IN_ONE_PART, ANYWHERE, AT_TELLING_PLACES, INTO_BYTES, SOME_BYTES };
+enum cutting { IN_ONE_PART, ANYWHERE, AT_TELLING_PLACES, INTO_BYTES, SOME_BYTES, LAST_BYTES };
 
-enum { MOST_PARTS = 8, MOST_SINGLE_BYTES = 120, SOME_SINGLE_BYTES = 16 };
+enum { MOST_PARTS = 8, MOST_SINGLE_BYTES = 120, SOME_SINGLE_BYTES = 16, LAST_SINGLE_BYTES = 60 };
 
 /* The delivery that is on its way. */
 static struct {
@@ -1778,7 +1913,9 @@ static struct text text_at(const uint8_t *bytes, size_t length)
 
 static void open_radio(void)
 {
-    sending.host->radio_open(sending.host->self, right_lengths);
+    uint64_t name = name_of_edition(chance(8) ? other_edition() : edition);
+
+    sending.host->radio_open(sending.host->self, name, right_lengths);
     sending.closed = 0;
     sending.announced = 0;
 }
@@ -1819,7 +1956,7 @@ static void any_call(struct radio_lengths lengths, size_t way)
     case 0: host->radio_announce(host->self, chance(50) ? below(100) : strange_number(), lengths); break;
     case 1: host->radio_part(host->self, stray_bytes(), lengths); break;
     case 2: host->radio_close(host->self, lengths); break;
-    default: host->radio_open(host->self, lengths); break;
+    default: host->radio_open(host->self, edition_to_name(50), lengths); break;
     }
 }
 
@@ -1830,6 +1967,12 @@ static void call_out_of_turn(void)
         any_call(right_lengths, 0);
     else
         any_call(right_lengths, sending.closed == TABLES ? below(3) : between(1, 2));
+}
+
+/* 22: a delivery that stands there goes on. */
+static void open_by_strange_edition(void)
+{
+    sending.host->radio_open(sending.host->self, strange_edition(), right_lengths);
 }
 
 /* 16: one of the lengths is wrong, or more. */
@@ -1857,6 +2000,10 @@ static struct damage any_damage(void)
     damage.where = chance(20) ? IN_BOOK : chance(60) ? IN_KEPT : IN_LINES;
     damage.row = chance(60) ? (size_t)TABLE_ROWS * below(TABLES) + below(6) : below(BOOK_ROWS);
     damage.at = below(NUMBERS);
+    if (chance(20)) {
+        damage.row = MARKS;
+        damage.at = chance(70) ? 0 : damage.at;
+    }
     damage.how = chance(50) ? SET : chance(60) ? ADD : FLIP;
     damage.number = numbers[below(sizeof numbers / sizeof numbers[0])];
     if (damage.how == ADD)
@@ -1907,10 +2054,11 @@ static void disturb(void)
 
     if (!chance(sending.odd))
         return;
-    switch (below(4)) {
+    switch (below(5)) {
     case 0: call_out_of_turn(); break;
     case 1: call_at_wrong_length(); break;
     case 2: damage_and_go_on(); break;
+    case 3: open_by_strange_edition(); break;
     default: if (sending.announced) send_part(nothing, 0); break;
     }
 }
@@ -1938,6 +2086,7 @@ static size_t cut_behind(struct text text, size_t at, size_t parts, enum cutting
 
     switch (cutting) {
     case INTO_BYTES: return at + 1;
+    case LAST_BYTES: return parts == 0 && rest > LAST_SINGLE_BYTES ? text.length - LAST_SINGLE_BYTES : at + 1;
     case SOME_BYTES: return parts == 0 ? at + below(rest) : parts <= SOME_SINGLE_BYTES ? at + 1 : text.length;
     case ANYWHERE: return parts < MOST_PARTS ? at + between(1, chance(50) ? rest : (rest + 7) / 8) : text.length;
     case AT_TELLING_PLACES: return parts < MOST_PARTS ? telling_cut(text, at) : text.length;
@@ -1948,7 +2097,7 @@ static size_t cut_behind(struct text text, size_t at, size_t parts, enum cutting
 static void send_in_parts(struct text text)
 {
     static const enum cutting ways[] = {IN_ONE_PART, IN_ONE_PART, ANYWHERE, ANYWHERE, AT_TELLING_PLACES, AT_TELLING_PLACES,
-        SOME_BYTES, INTO_BYTES};
+        SOME_BYTES, INTO_BYTES, LAST_BYTES};
     enum cutting cutting = ways[below(sizeof ways / sizeof ways[0])];
     size_t at = 0;
     size_t parts;
@@ -2039,7 +2188,12 @@ static void read_texts(const struct cases_host *host, size_t book_rows)
 
     for (i = 0; i < TABLES; i++)
         texts[i] = text_of(&table_text[reading_order[i]]);
-    host->read(host->self, texts, book_rows);
+    /* what stands in the book before a reading does not matter, and so another one may come first */
+    if (chance(12))
+        host->read(host->self, name_of_edition(other_edition()), texts, book_rows);
+    if (chance(3))
+        host->read(host->self, strange_edition(), texts, book_rows);
+    host->read(host->self, name_of_edition(edition), texts, book_rows);
     if (chance(40))
         send_by_radio(host);
 }
@@ -2076,18 +2230,20 @@ static void story_of_a_delivery(const struct cases_host *host)
 }
 
 /* One fault at one place, each in its turn, so that none is left to luck: 3, 2 and the four faults of a cell at every column of
- * every table, and lines about as long as they may be. */
+ * every table by both editions, and lines about as long as they may be. */
 static void story_of_a_place(const struct cases_host *host, uint64_t turn)
 {
     static const enum fault faults[] = {F_TWICE, F_MISSING, F_EMPTY, F_TOO_LONG, F_NOT_DIGITS, F_BESIDE_RANGE, F_LONG_LINE};
     enum { FAULTS = sizeof faults / sizeof faults[0] };
-    enum fault fault = faults[turn % FAULTS];
-    uint64_t place = turn / FAULTS % (11 + 2 + 3 + 3 + 11);
+    enum fault fault = faults[turn / EDITIONS % FAULTS];
+    uint64_t place = turn / EDITIONS / FAULTS;
     unsigned meant;
     size_t i;
 
-    for (i = 0; place >= tables[reading_order[i]].column_count; i++)
-        place -= tables[reading_order[i]].column_count;
+    edition = turn % EDITIONS;
+    place %= edition == DINO_23 ? 12 + 2 + 3 + 3 + 11 : 11 + 2 + 3 + 3 + 11;
+    for (i = 0; place >= tables[edition][reading_order[i]].column_count; i++)
+        place -= tables[edition][reading_order[i]].column_count;
     meant = reading_order[i];
     make_delivery(8, 8, 8, 8, 8);
     for (i = 0; i < TABLES; i++) {
@@ -2128,7 +2284,8 @@ static void story_of_bytes(const struct cases_host *host)
     ask_cells(host, first, 8);
 }
 
-/* A text of few kinds of bytes behind a good header: quotes and line ends in all ways of standing together. */
+/* A text of few kinds of bytes behind a good header, at times in its last cells: quotes and line ends in all ways of standing
+ * together. */
 static void print_scribble(unsigned t)
 {
     static const uint8_t letters[] = {'"', '"', '"', ';', ';', '\n', '\n', '\r', '1', '1', '7', 'a', 0xC3};
@@ -2137,11 +2294,35 @@ static void print_scribble(unsigned t)
 
     make_sheet(t);
     sheet.lines = 1;
+    sheet.last_lacks = 1;
     print_sheet();
-    if (text->bytes[text->length - 1] != '\n')
-        put_byte(text, '\n');
+    put_byte(text, chance(85) ? '\n' : ';');
     for (; length > 0; length--)
         put_byte(text, letters[below(sizeof letters)]);
+}
+
+/* Behind good rows one whose quotes are not closed, mostly: the row goes to the text's end and is about as long as it may be,
+ * made of the bytes that could end it. */
+static void print_open_row(unsigned t)
+{
+    static const char *const stretches[] = {"\n", "\r\n", ";", "1;3\n", "\"\"", "a", "abcdefghijklmnopqrstuvwxyz", "\r\n\r\n"};
+    static const char *const ends[] = {"", "", "\n", "\r\n", "\r", "\"", "\"\n", "\"\r\n", "\"\"", "\"x\n"};
+    struct growing *text = &table_text[t];
+    size_t wanted = chance(20) ? between(1, 100) : between(2040, 2056);
+    size_t cells = below(4);
+
+    make_sheet(t);
+    sheet.last_lacks = 0;
+    print_sheet();
+    wanted += text->length;
+    for (; cells > 0; cells--)
+        put(text, chance(50) ? "1;" : chance(50) ? "\"\n\";" : "a\";");
+    put_byte(text, '"');
+    while (text->length < wanted)
+        put(text, stretches[below(sizeof stretches / sizeof stretches[0])]);
+    if (text->length > wanted)
+        text->length = wanted; /* at times within a doubled quote, which then closes the cell */
+    put(text, ends[below(sizeof ends / sizeof ends[0])]);
 }
 
 static void story_of_scribbles(const struct cases_host *host)
@@ -2153,7 +2334,9 @@ static void story_of_scribbles(const struct cases_host *host)
     for (i = 0; i < TABLES; i++) {
         unsigned t = reading_order[i];
 
-        if (t == first) {
+        if (t == first && chance(15)) {
+            print_open_row(t);
+        } else if (t == first) {
             print_scribble(t);
         } else {
             make_sheet(t);
@@ -2172,6 +2355,8 @@ static void story_of_slips(const struct cases_host *host)
     else
         make_any_delivery();
     make_book();
+    if (chance(10))
+        made_book[MARKS][0] = other_edition();
     put_made_book(host);
     ask_all(host);
     take_slips(host, between(1, 6));
@@ -2247,7 +2432,7 @@ static uint64_t edge_number(size_t column)
         100000000, 999999999, 1000000000, 4294967295u, 4294967296u, UINT64_MAX, (uint64_t)1 << 63};
 
     if (chance(40))
-        return tables[VEHICLE_BLOCK].columns[column].most + below(2);
+        return tables[edition][VEHICLE_BLOCK].columns[column].most + below(2);
     return edges[below(sizeof edges / sizeof edges[0])];
 }
 
@@ -2296,12 +2481,12 @@ static void break_book(void)
     size_t point = any_used(STOP_POINT);
     size_t block = any_used(VEHICLE_BLOCK);
     size_t column = below(NUMBERS);
-    size_t key_width = tables[keyed].key_width;
+    size_t key_width = tables[edition][keyed].key_width;
     size_t unused = n < TABLE_ROWS ? between(n, TABLE_ROWS - 1) : n - 1;
     uint64_t bit = (uint64_t)1 << below(64);
     size_t reference = referring[below(sizeof referring / sizeof referring[0])];
 
-    switch (below(16)) {
+    switch (below(18)) {
     case 0: swap_rows(rows, one, other); break;
     case 1: memcpy(rows[one], rows[other], sizeof rows[0]); break;
     case 2: memset(rows[one], 0, sizeof rows[0]); break;
@@ -2317,6 +2502,8 @@ static void break_book(void)
     case 12: rows[one][1] = rows[other][1]; break;
     case 13: points[point][1] = chance(80) ? below(60) : edge_number(B_DEP_STOP); break;
     case 14: points[point][2] = chance(60) ? below(10) : edge_number(B_DEP_POINT); break;
+    case 15: made_book[MARKS][0] = chance(30) ? other_edition() : chance(50) ? 2 : edge_number(0); break;
+    case 16: made_book[MARKS][between(1, NUMBERS - 1)] = chance(50) ? 1 : edge_number(0); break;
     default: if (chance(50)) rows[one][column] ^= bit; else rows[unused][column] ^= bit; break;
     }
 }
@@ -2387,15 +2574,16 @@ static void story_of_lengths(const struct cases_host *host)
 
 void cases_play(uint64_t seed, uint64_t number, const struct cases_host *host)
 {
-    enum { PLACES_EACH = 25 };
+    enum { PLACES_EACH = 20 };
     size_t dial;
 
     dice = seed * 0xD1342543DE82EF95u + 1;
     dice = roll() ^ number * 0x9E6C63D0876A9A47u;
     roll();
     main_version = chance(70) ? 1 : between(1, 99);
+    edition = chance(55) ? DINO_23 : DINO_21;
     meant_column = 0;
-    memset(long_line, 0, sizeof long_line);
+    memset(printed, 0, sizeof printed);
     if (number % PLACES_EACH == 0) {
         story_of_a_place(host, number / PLACES_EACH);
         return;

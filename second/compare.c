@@ -10,7 +10,7 @@
 #include <stdlib.h>
 #include <string.h>
 
-enum { DEFAULT_SEED = 1, DEFAULT_COUNT = 10000, WANTED_EACH = 20, SHOWN_FAILURES = 10, REFUSALS = 22, GUARD = 64 };
+enum { DEFAULT_SEED = 1, DEFAULT_COUNT = 10000, WANTED_EACH = 20, SHOWN_FAILURES = 10, REFUSALS = 23, GUARD = 64 };
 
 /* The two sides of everything that is lent: 0 the library's, 1 the second reader's. */
 enum { SIDES = 2, SECOND = 1 };
@@ -27,8 +27,9 @@ static struct {
     row book[SIDES][BOOK_ROWS];     /* the standing book */
     uint8_t other_bytes[TABLES - 1][140000]; /* the standing book's other tables, as texts */
     struct text others[TABLES - 1];
+    unsigned edition; /* of the call */
     uint64_t came[REFUSALS];
-    uint64_t came_at[REFUSALS][LAST_TABLE + 1][34]; /* by table and column */
+    uint64_t came_at[EDITIONS][REFUSALS][LAST_TABLE + 1][34]; /* by edition, table and column */
 } host;
 
 /* ---- Printing */
@@ -87,8 +88,10 @@ static void show_rows(const char *name, const row *rows, size_t count)
 
 /* ---- Comparing */
 
-static void begin_call(const char *what)
+/* `edition` is the caller's name of one. What is refused for another one counts with 2.1. */
+static void begin_call(const char *what, uint64_t edition)
 {
+    host.edition = edition == name_of_edition(DINO_23) ? DINO_23 : DINO_21;
     host.calls++;
     host.all_calls++;
     if (host.verbose)
@@ -159,7 +162,7 @@ static void count_refusal(const uint64_t place[4])
         return;
     host.came[place[0]]++;
     if (place[1] <= LAST_TABLE && place[3] < 34)
-        host.came_at[place[0]][place[1]][place[3]]++;
+        host.came_at[host.edition][place[0]][place[1]][place[3]]++;
 }
 
 static void compare_answers(const struct answers *answers)
@@ -309,7 +312,7 @@ static void keep_empty_others(void)
     keep_others(others);
 }
 
-static void call_read(void *self, const struct text texts[TABLES], size_t book_rows)
+static void call_read(void *self, uint64_t edition, const struct text texts[TABLES], size_t book_rows)
 {
     struct answers answers = fresh_answers();
     row *books[SIDES];
@@ -319,14 +322,14 @@ static void call_read(void *self, const struct text texts[TABLES], size_t book_r
     (void)self;
     if (is_over())
         return;
-    begin_call("read");
+    begin_call("read", edition);
     if (host.verbose) {
         show_text("vehicle_type", texts[0]);
         show_text("depot", texts[1]);
         show_text("stop", texts[2]);
         show_text("stop_point", texts[3]);
         show_text("vehicle_block", texts[4]);
-        printf("    into a book of %" PRIu64 " rows of garbage\n", (uint64_t)book_rows);
+        printf("    by edition %" PRIu64 ", into a book of %" PRIu64 " rows of garbage\n", edition, (uint64_t)book_rows);
     }
     for (s = 0; s < SIDES; s++) {
         struct text copies[TABLES];
@@ -335,7 +338,7 @@ static void call_read(void *self, const struct text texts[TABLES], size_t book_r
         fill_rows_with_garbage(books[s], book_rows);
         for (i = 0; i < TABLES; i++)
             copies[i] = copy_of_text(texts[i]);
-        answers.returned[s] = side_read(sides[s], copies, books[s], book_rows, answers.place[s]);
+        answers.returned[s] = side_read(sides[s], edition, copies, books[s], book_rows, answers.place[s]);
         for (i = 0; i < TABLES; i++)
             end_text(copies[i], texts[i]);
     }
@@ -354,6 +357,12 @@ static void call_read(void *self, const struct text texts[TABLES], size_t book_r
         keep_empty_others();
 }
 
+/* The name of the standing book's edition. */
+static uint64_t edition_of_book(int s)
+{
+    return name_of_edition(host.book[s][MARKS][0] == 1 ? DINO_23 : DINO_21);
+}
+
 static void call_put_book(void *self, const row *book, const struct text others[TABLES - 1])
 {
     int s;
@@ -368,7 +377,8 @@ static void call_put_book(void *self, const row *book, const struct text others[
     keep_others(others);
 }
 
-/* Whether the book that a slip left is the one that a fresh reading of its written blocks leaves, on this side. */
+/* Whether the book that a slip left is the one that a fresh reading of its written blocks leaves, on this side, by the book's
+ * own edition. */
 static void compare_afresh(int s)
 {
     static uint8_t written[40000];
@@ -383,7 +393,7 @@ static void compare_afresh(int s)
     memcpy(texts, host.others, sizeof host.others);
     texts[TABLES - 1].bytes = written;
     texts[TABLES - 1].length = (size_t)length[0];
-    if (side_read(sides[s], texts, afresh, BOOK_ROWS, place) != 0) {
+    if (side_read(sides[s], edition_of_book(s), texts, afresh, BOOK_ROWS, place) != 0) {
         fail("the blocks written after a slip are not read");
         return;
     }
@@ -400,7 +410,7 @@ static void call_slip(void *self, struct text slip, size_t book_rows, size_t wor
     (void)self;
     if (is_over())
         return;
-    begin_call("slip");
+    begin_call("slip", edition_of_book(SECOND));
     if (host.verbose) {
         show_text("slip", slip);
         show_rows("book", (const row *)host.book[SECOND], BOOK_ROWS);
@@ -429,7 +439,7 @@ static void call_slip(void *self, struct text slip, size_t book_rows, size_t wor
     }
 }
 
-static void call_cell(void *self, struct text text, uint64_t table, uint64_t line, uint64_t column)
+static void call_cell(void *self, uint64_t edition, struct text text, uint64_t table, uint64_t line, uint64_t column)
 {
     struct answers answers = fresh_answers();
     int s;
@@ -437,15 +447,16 @@ static void call_cell(void *self, struct text text, uint64_t table, uint64_t lin
     (void)self;
     if (is_over())
         return;
-    begin_call("cell");
+    begin_call("cell", edition);
     if (host.verbose) {
         show_text("text", text);
-        printf("    table %" PRIu64 ", line %" PRIu64 ", column %" PRIu64 "\n", table, line, column);
+        printf("    edition %" PRIu64 ", table %" PRIu64 ", line %" PRIu64 ", column %" PRIu64 "\n", edition, table, line,
+            column);
     }
     for (s = 0; s < SIDES; s++) {
         struct text copy = copy_of_text(text);
 
-        answers.returned[s] = sides[s]->cell(copy.bytes, copy.length, table, line, column, answers.numbers[s],
+        answers.returned[s] = sides[s]->cell(edition, copy.bytes, copy.length, table, line, column, answers.numbers[s],
             answers.place[s]);
         end_text(copy, text);
     }
@@ -460,7 +471,7 @@ static void call_type(void *self, size_t book_rows, uint64_t version, uint64_t n
     (void)self;
     if (is_over())
         return;
-    begin_call("type");
+    begin_call("type", edition_of_book(SECOND));
     if (host.verbose)
         printf("    version %" PRIu64 ", number %" PRIu64 ", %" PRIu64 " rows of book\n", version, number, (uint64_t)book_rows);
     for (s = 0; s < SIDES; s++) {
@@ -481,7 +492,7 @@ static void call_block(void *self, size_t book_rows, const uint64_t key[4])
     (void)self;
     if (is_over())
         return;
-    begin_call("block");
+    begin_call("block", edition_of_book(SECOND));
     if (host.verbose) {
         show_numbers("key", key, 4);
         printf("    %" PRIu64 " rows of book\n", (uint64_t)book_rows);
@@ -505,7 +516,7 @@ static void call_write(void *self, size_t book_rows, size_t out_length)
     (void)self;
     if (is_over())
         return;
-    begin_call("write");
+    begin_call("write", edition_of_book(SECOND));
     if (host.verbose)
         printf("    %" PRIu64 " rows of book, %" PRIu64 " bytes of output\n", (uint64_t)book_rows, (uint64_t)out_length);
     for (s = 0; s < SIDES; s++) {
@@ -536,6 +547,7 @@ static struct {
     struct kept kept[SIDES];
     struct second_radio own[SIDES]; /* and what a side that is the second reader keeps */
     struct kept before;             /* the library's, before the call */
+    uint64_t edition;               /* that the delivery was opened by */
     /* While what the library keeps is damaged: what it kept before, and whether it has taken a call since. */
     int damaged, taken;
     struct kept whole;
@@ -550,15 +562,21 @@ static int has_radio(void)
 
 enum radio_call { OPEN, ANNOUNCE, PART, CLOSE };
 
-static uint64_t make_radio_call(const struct side *side, enum radio_call call, uint64_t length, struct text part,
+/* `number` is the edition of an opening and the length of an announcement. */
+static uint64_t make_radio_call(const struct side *side, enum radio_call call, uint64_t number, struct text part,
     const struct radio *lent, uint64_t place[4])
 {
     switch (call) {
-    case OPEN: return side->radio_open(lent, place);
-    case ANNOUNCE: return side->radio_announce(length, lent, place);
+    case OPEN: return side->radio_open(number, lent, place);
+    case ANNOUNCE: return side->radio_announce(number, lent, place);
     case PART: return side->radio_part(part, lent, place);
     default: return side->radio_close(lent, place);
     }
+}
+
+static int is_edition(uint64_t name)
+{
+    return name == name_of_edition(DINO_21) || name == name_of_edition(DINO_23);
 }
 
 static int are_right(struct radio_lengths lengths)
@@ -588,7 +606,7 @@ static void *room_like(const void *kept, size_t length, size_t lent_length, size
 }
 
 /* A call with some length wrong: 16, and every room is as it came. */
-static uint64_t call_at_lengths(int s, enum radio_call call, uint64_t length, struct text part, struct radio_lengths lengths,
+static uint64_t call_at_lengths(int s, enum radio_call call, uint64_t number, struct text part, struct radio_lengths lengths,
     uint64_t place[4])
 {
     const struct kept *kept = &radio.kept[s];
@@ -597,7 +615,7 @@ static uint64_t call_at_lengths(int s, enum radio_call call, uint64_t length, st
     uint8_t *lines = room_like(kept->lines, RADIO_LINES, lengths.lines, 1);
     struct radio lent = {copy_of(book, lengths.rows * sizeof(row)), copy_of(numbers, lengths.kept * sizeof numbers[0]),
         copy_of(lines, lengths.lines), &radio.own[s], lengths};
-    uint64_t returned = make_radio_call(sides[s], call, length, part, &lent, place);
+    uint64_t returned = make_radio_call(sides[s], call, number, part, &lent, place);
 
     end_copy("a call by radio at a wrong length changed the book", lent.book, book, lengths.rows * sizeof(row));
     end_copy("a call by radio at a wrong length changed what is kept", lent.kept, numbers, lengths.kept * sizeof numbers[0]);
@@ -616,11 +634,17 @@ static void want_kept(const char *what)
     want_same(what, radio.kept[0].lines, radio.before.lines, sizeof radio.before.lines);
 }
 
+/* The numbers of a call that was not taken. */
+static int changes_nothing(uint64_t returned)
+{
+    return returned == 15 || returned == 16 || returned == 22;
+}
+
 static void want_no_place(const uint64_t place[4])
 {
     static const uint64_t zeros[3];
 
-    want_same("15 or 16 by radio has a place", place + 1, zeros, sizeof zeros);
+    want_same("15, 16 or 22 by radio has a place", place + 1, zeros, sizeof zeros);
 }
 
 /* Whether a book is one that every question takes. */
@@ -635,38 +659,40 @@ static void want_book(const char *what, const row *book)
 
 /* A call on what was damaged, of the library alone: 16 as long as it finds the damage, and otherwise the call is taken and
  * leaves what keeps the rule. */
-static void call_on_damaged(enum radio_call call, uint64_t length, struct text part)
+static void call_on_damaged(enum radio_call call, uint64_t number, struct text part)
 {
     struct radio lent = lend_kept(0);
     uint64_t place[4] = {99, 99, 99, 99};
     uint64_t returned;
 
     radio.before = radio.kept[0];
-    returned = make_radio_call(sides[0], call, length, part, &lent, place);
+    returned = make_radio_call(sides[0], call, number, part, &lent, place);
     if (host.verbose)
         show_numbers("on what is damaged", place, 4);
     if (returned != place[0])
         fail("the returned number is not the place's");
-    if (returned == 15 || returned == 16) {
-        want_kept("a call by radio that is 15 or 16 changed something");
+    if (changes_nothing(returned)) {
+        want_kept("a call by radio that is 15, 16 or 22 changed something");
         want_no_place(place);
     }
     if (returned == 16 && radio.taken)
         fail("what a call by radio left breaks the rule");
-    if (returned != 16)
+    if (returned != 16 && returned != 22)
         radio.taken = 1;
-    if (call != CLOSE && returned != 0 && returned != 15 && returned != 16)
+    if (call != CLOSE && returned != 0 && !changes_nothing(returned))
         fail("a call by radio that is no close gives a verdict");
     if (returned >= 12 && returned <= 14)
         fail("a call by radio gives a number of a slip or of the writer");
-    if (call == CLOSE && returned != 15 && returned != 16)
+    if (call == CLOSE && !changes_nothing(returned))
         want_book("a table is closed with a book that breaks the book rule", (const row *)radio.kept[0].book);
 }
 
-static void show_radio_call(enum radio_call call, uint64_t length, struct text part, struct radio_lengths lengths)
+static void show_radio_call(enum radio_call call, uint64_t number, struct text part, struct radio_lengths lengths)
 {
+    if (call == OPEN)
+        printf("    by edition %" PRIu64 "\n", number);
     if (call == ANNOUNCE)
-        printf("    of length %" PRIu64 "\n", length);
+        printf("    of length %" PRIu64 "\n", number);
     if (call == PART)
         show_text("part", part);
     if (!are_right(lengths))
@@ -674,9 +700,9 @@ static void show_radio_call(enum radio_call call, uint64_t length, struct text p
             (uint64_t)lengths.kept, (uint64_t)lengths.lines);
 }
 
-/* The library's answer is the second reader's. Where that is 15 or 16, or the part is empty, nothing that the library keeps
+/* The library's answer is the second reader's. Where that is 15, 16 or 22, or the part is empty, nothing that the library keeps
  * may change; at a close both have the book of the tables closed so far. */
-static void call_radio(enum radio_call call, uint64_t length, struct text part, struct radio_lengths lengths)
+static void call_radio(enum radio_call call, uint64_t number, struct text part, struct radio_lengths lengths)
 {
     static const char *const words[] = {"radio, open", "radio, announce", "radio, part", "radio, close"};
     struct answers answers = fresh_answers();
@@ -686,12 +712,14 @@ static void call_radio(enum radio_call call, uint64_t length, struct text part, 
 
     if (is_over() || !has_radio())
         return;
-    begin_call(words[call]);
+    if (call == OPEN && is_edition(number) && are_right(lengths))
+        radio.edition = number;
+    begin_call(words[call], radio.edition);
     if (host.verbose)
-        show_radio_call(call, length, part, lengths);
+        show_radio_call(call, number, part, lengths);
     copy = copy_of_text(part);
     if (radio.damaged) {
-        call_on_damaged(call, length, copy);
+        call_on_damaged(call, number, copy);
         end_text(copy, part);
         return;
     }
@@ -699,13 +727,13 @@ static void call_radio(enum radio_call call, uint64_t length, struct text part, 
         struct radio lent = lend_kept(s);
 
         if (s != SECOND)
-            stays = answers.returned[SECOND] == 15 || answers.returned[SECOND] == 16 || (call == PART && part.length == 0);
+            stays = changes_nothing(answers.returned[SECOND]) || (call == PART && part.length == 0);
         if (stays)
             radio.before = radio.kept[0];
         if (are_right(lengths))
-            answers.returned[s] = make_radio_call(sides[s], call, length, copy, &lent, answers.place[s]);
+            answers.returned[s] = make_radio_call(sides[s], call, number, copy, &lent, answers.place[s]);
         else
-            answers.returned[s] = call_at_lengths(s, call, length, copy, lengths, answers.place[s]);
+            answers.returned[s] = call_at_lengths(s, call, number, copy, lengths, answers.place[s]);
         if (stays)
             want_kept("a call by radio that changes nothing changed something");
     }
@@ -719,18 +747,18 @@ static void call_radio(enum radio_call call, uint64_t length, struct text part, 
 static const struct text no_part = {(const uint8_t *)"", 0};
 
 /* What stood there before does not matter: every other time it is garbage. */
-static void call_radio_open(void *self, struct radio_lengths lengths)
+static void call_radio_open(void *self, uint64_t edition, struct radio_lengths lengths)
 {
     int s;
 
     (void)self;
-    if (are_right(lengths) && !radio.damaged && host.calls % 2 == 0)
+    if (is_edition(edition) && are_right(lengths) && !radio.damaged && host.calls % 2 == 0)
         for (s = 0; s < SIDES; s++) {
             fill_rows_with_garbage(radio.kept[s].book, BOOK_ROWS);
             fill_with_garbage(radio.kept[s].kept, RADIO_KEPT);
             memset(radio.kept[s].lines, (int)(host.calls % 251), RADIO_LINES);
         }
-    call_radio(OPEN, 0, no_part, lengths);
+    call_radio(OPEN, edition, no_part, lengths);
 }
 
 static void call_radio_announce(void *self, uint64_t length, struct radio_lengths lengths)
@@ -826,19 +854,21 @@ static void tell_and_end(int reason)
 static void print_counts(int places)
 {
     size_t number, table, column;
+    unsigned edition;
 
     puts("How often each number of refusal came:");
     for (number = 0; number < REFUSALS; number++)
         printf("%3" PRIu64 " %8" PRIu64 "\n", (uint64_t)number, host.came[number]);
     if (!places)
         return;
-    puts("And where (number, table, column):");
-    for (number = 1; number < REFUSALS; number++)
-        for (table = 0; table <= LAST_TABLE; table++)
-            for (column = 0; column < 34; column++)
-                if (host.came_at[number][table][column])
-                    printf("%3" PRIu64 " %2" PRIu64 " %3" PRIu64 " %8" PRIu64 "\n", (uint64_t)number, (uint64_t)table,
-                        (uint64_t)column, host.came_at[number][table][column]);
+    puts("And where (edition, number, table, column):");
+    for (edition = 0; edition < EDITIONS; edition++)
+        for (number = 1; number < REFUSALS; number++)
+            for (table = 0; table <= LAST_TABLE; table++)
+                for (column = 0; column < 34; column++)
+                    if (host.came_at[edition][number][table][column])
+                        printf("%2" PRIu64 " %3" PRIu64 " %2" PRIu64 " %3" PRIu64 " %8" PRIu64 "\n", name_of_edition(edition),
+                            (uint64_t)number, (uint64_t)table, (uint64_t)column, host.came_at[edition][number][table][column]);
 }
 
 /* The default run promises that each number comes often enough. */
@@ -855,11 +885,12 @@ static int counts_are_enough(void)
     return enough;
 }
 
-static int came_at(uint64_t number, uint64_t table, uint64_t column)
+static int came_at(unsigned edition, uint64_t number, uint64_t table, uint64_t column)
 {
-    if (host.came_at[number][table][column] > 0)
+    if (host.came_at[edition][number][table][column] > 0)
         return 1;
-    printf("FAILED: number %" PRIu64 " never came at table %" PRIu64 ", column %" PRIu64 "\n", number, table, column);
+    printf("FAILED: edition %" PRIu64 ": number %" PRIu64 " never came at table %" PRIu64 ", column %" PRIu64 "\n",
+        name_of_edition(edition), number, table, column);
     return 0;
 }
 
@@ -875,48 +906,59 @@ static int has_range(const struct column *column)
 }
 
 /* Which of 19, 20, 8 and 21 a column can have. */
-static int cell_faults_came_at(uint64_t table, const struct column *column, uint64_t c)
+static int cell_faults_came_at(unsigned edition, uint64_t table, const struct column *column, uint64_t c)
 {
-    int enough = came_at(20, table, c);
+    int enough = came_at(edition, 20, table, c);
 
     if (column->required)
-        enough &= came_at(19, table, c);
+        enough &= came_at(edition, 19, table, c);
     if (column->kind == 'd')
-        enough &= came_at(8, table, c);
+        enough &= came_at(edition, 8, table, c);
     if (column->kind == 'd' && has_range(column))
-        enough &= came_at(21, table, c);
+        enough &= came_at(edition, 21, table, c);
     return enough;
 }
 
-/* And at every place where it can arise: the tables, and the columns where a column is named. */
-static int places_are_enough(void)
+/* And at every place where it can arise, by an edition: the tables, and the columns where a column is named. */
+static int places_came(unsigned edition)
 {
     static const uint64_t without_column[] = {1, 4, 5, 7, 9, 17};
     static const uint64_t referring[] = {3, 5, 6, 7, 9, 10};
-    int enough = came_at(10, STOP_POINT, 2);
+    static const uint64_t of_slips[] = {1, 5, 9, 12, 13};
+    int enough = came_at(edition, 10, STOP_POINT, 2);
     uint64_t t, c;
     size_t part, i;
 
     for (part = 0; part < TABLES; part++) {
         t = reading_order[part];
         for (i = 0; i < sizeof without_column / sizeof without_column[0]; i++)
-            enough &= came_at(without_column[i], t, 0);
-        enough &= !has_radio() || came_at(18, t, 0);
-        for (c = 1; c <= tables[t].column_count; c++) {
-            enough &= came_at(3, t, c) & came_at(6, t, c) & cell_faults_came_at(t, &tables[t].columns[c - 1], c);
-            if (tables[t].columns[c - 1].required)
-                enough &= came_at(2, t, c);
+            enough &= came_at(edition, without_column[i], t, 0);
+        enough &= !has_radio() || came_at(edition, 18, t, 0);
+        for (c = 1; c <= tables[edition][t].column_count; c++) {
+            const struct column *column = &tables[edition][t].columns[c - 1];
+
+            enough &= came_at(edition, 3, t, c) & came_at(edition, 6, t, c) & cell_faults_came_at(edition, t, column, c);
+            if (column->required)
+                enough &= came_at(edition, 2, t, c);
         }
     }
     for (c = 1; c <= NUMBERS; c++)
-        enough &= cell_faults_came_at(SLIP, &tables[VEHICLE_BLOCK].columns[c - 1], c);
+        enough &= cell_faults_came_at(edition, SLIP, &tables[edition][VEHICLE_BLOCK].columns[c - 1], c);
     for (t = VEHICLE_BLOCK; t <= SLIP; t++) {
-        enough &= came_at(11, t, 11);
+        enough &= came_at(edition, 11, t, 11);
         for (i = 0; i < sizeof referring / sizeof referring[0]; i++)
-            enough &= came_at(10, t, referring[i]);
+            enough &= came_at(edition, 10, t, referring[i]);
     }
-    return enough & came_at(1, SLIP, 0) & came_at(5, SLIP, 0) & came_at(9, SLIP, 0) & came_at(12, SLIP, 0)
-        & came_at(13, SLIP, 0);
+    for (i = 0; i < sizeof of_slips / sizeof of_slips[0]; i++)
+        enough &= came_at(edition, of_slips[i], SLIP, 0);
+    return enough;
+}
+
+static int places_are_enough(void)
+{
+    int by_21 = places_came(DINO_21);
+
+    return places_came(DINO_23) & by_21;
 }
 
 struct options {

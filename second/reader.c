@@ -7,7 +7,7 @@
 
 #include <string.h>
 
-enum { ROWS = 512, NUMBERS = 11, BOOK_ROWS = TABLES * ROWS, WORK_ROWS = ROWS, TEXT_BYTES = SECOND_TEXT_BYTES };
+enum { ROWS = 512, NUMBERS = 11, BOOK_ROWS = SECOND_BOOK_ROWS, WORK_ROWS = ROWS, TEXT_BYTES = SECOND_TEXT_BYTES };
 enum { LINE_BYTES = 2048, HEADER_CELLS = 32 };
 
 /* Rows that are only looked at. */
@@ -33,55 +33,117 @@ static uint64_t accept(uint64_t place[4])
     return refuse(place, 0, 0, 0, 0);
 }
 
-/* "The table number belongs to each place (0 for 0, 14, 15, 16)." These three have the place 0, 0. */
+/* "The table number belongs to each place (0 for 0, 14, 15, 16)." These three have the place 0, 0. "For numbers added later,
+ * any part of a place that is not named is 0, and so is the table where no line is named": 5/13 names no place for 22. */
 static uint64_t refuse_without_place(uint64_t place[4], uint64_t number)
 {
     return refuse(place, number, 0, 0, 0);
 }
 
-/* ---- Lines */
+/* ---- Editions */
 
-/* A line without its line end: the bytes from start up to, not with, end. */
+/* 5/13: "both editions stay, chosen by the caller for a whole delivery". The edition of that name, or EDITIONS. */
+static unsigned edition_named(uint64_t name)
+{
+    return name == 21 ? DINO_21 : name == 23 ? DINO_23 : EDITIONS;
+}
+
+/* ---- Rows */
+
+/* The header or a row, without its line end: the bytes from start up to, not with, end. `number` is that of its line. In 2.1 it
+ * is one line. 5/13: in 2.3 "its line is the one it starts on". */
 struct line {
     size_t start, end;
+    uint64_t number;
 };
 
-/* Takes the line that begins at *at and moves *at to where the next one begins. No line begins at the end of a text. */
-static int next_line(const uint8_t *text, size_t length, size_t *at, struct line *line)
+/* Where the next row begins, and the number of its line. */
+struct cursor {
+    size_t at;
+    uint64_t line;
+};
+
+static const struct cursor top = {0, 1};
+
+/* Where the line feed stands that ends the row beginning at `at`, or the text's end. In 2.1 "A line feed always ends the
+ * line, quotes or no." 5/13: "A row ends at the first line feed outside a cell's quotes (an unclosed one runs to the text's
+ * end)". The quotes of a cell are those of one "that begins with a double quote", and it "runs to the next one that is not
+ * doubled"; what stands behind that, and a quote in any other cell, opens nothing. */
+static size_t row_end(unsigned edition, const uint8_t *text, size_t length, size_t at)
 {
-    size_t i = *at;
+    enum { CELL_BEGINS, IN_CELL, IN_QUOTES } state = CELL_BEGINS;
+
+    for (; at < length; at++) {
+        if (state == IN_QUOTES) {
+            int doubled = at + 1 < length && text[at + 1] == '"';
+
+            if (text[at] == '"' && doubled)
+                at++;
+            else if (text[at] == '"')
+                state = IN_CELL;
+        } else if (text[at] == '\n') {
+            return at;
+        } else if (text[at] == ';') {
+            state = CELL_BEGINS;
+        } else if (text[at] == '"' && state == CELL_BEGINS && edition == DINO_23) {
+            state = IN_QUOTES;
+        } else {
+            state = IN_CELL;
+        }
+    }
+    return length;
+}
+
+/* "A line feed ends a line": how many of these bytes do, in quotes or not. */
+static uint64_t line_feeds(const uint8_t *text, size_t from, size_t to)
+{
+    uint64_t count = 0;
+
+    for (; from < to; from++)
+        if (text[from] == '\n')
+            count++;
+    return count;
+}
+
+/* Takes the header or row that begins at the cursor, and moves it to where the next one begins. None begins at the end of a
+ * text. */
+static int next_line(unsigned edition, const uint8_t *text, size_t length, struct cursor *cursor, struct line *line)
+{
+    size_t end;
 
     /* "after a final line feed no further line begins" */
-    if (i >= length)
+    if (cursor->at >= length)
         return 0;
-    line->start = i;
-    while (i < length && text[i] != '\n')
-        i++;
-    line->end = i;
+    end = row_end(edition, text, length, cursor->at);
+    line->start = cursor->at;
+    line->end = end;
+    line->number = cursor->line;
     /* "A last line may lack its line feed": then the text's end is the line's end, and a carriage return there stands
      * before no line feed, so it is not dropped. */
-    if (i == length) {
-        *at = length;
+    if (end == length) {
+        cursor->at = length;
         return 1;
     }
     /* "A line feed ends a line; one carriage return just before it is dropped." */
     if (line->end > line->start && text[line->end - 1] == '\r')
         line->end--;
-    *at = i + 1;
+    cursor->at = end + 1;
+    cursor->line += line_feeds(text, line->start, end + 1);
     return 1;
 }
 
 /* "Line 1 is the header." "A text of length 0 counts as one header line with one empty cell." */
-static struct line header_line(const uint8_t *text, size_t length, size_t *at)
+static struct line header_line(unsigned edition, const uint8_t *text, size_t length, struct cursor *cursor)
 {
-    struct line line = {0, 0};
+    struct line line = {0, 0, 1};
 
-    *at = 0;
-    next_line(text, length, at, &line);
+    *cursor = top;
+    next_line(edition, text, length, cursor, &line);
     return line;
 }
 
-/* 3/13: "a line of more than 2,048 bytes is 17". "A line's length leaves its line end out." */
+/* 3/13: "a line of more than 2,048 bytes is 17". "A line's length leaves its line end out." 5/13: "17 counts the row", the
+ * breaks in it with it. */
 static int is_too_long(struct line line)
 {
     return line.end - line.start > LINE_BYTES;
@@ -100,17 +162,36 @@ static int is_fault_byte(uint8_t byte)
     return byte <= 31 || byte == 127;
 }
 
+/* 5/13: "line breaks may stand inside double quotes"; "A break is a line feed, with or without a carriage return before it".
+ * How many bytes of a break stand here, or 0. A carriage return without its line feed is none. In 2.1 no line has a line feed
+ * in it. */
+static size_t break_bytes(unsigned edition, const uint8_t *text, size_t end, size_t at)
+{
+    if (edition != DINO_23)
+        return 0;
+    if (text[at] == '\n')
+        return 1;
+    return text[at] == '\r' && at + 1 < end && text[at + 1] == '\n' ? 2 : 0;
+}
+
 /* "A cell that begins with a double quote runs to the next one that is not doubled, and then its semicolon or line end
  * must follow." *at is at the opening quote; it is left behind the closing one. */
-static int take_quoted(const uint8_t *text, size_t end, size_t *at, struct cell *cell)
+static int take_quoted(unsigned edition, const uint8_t *text, size_t end, size_t *at, struct cell *cell)
 {
     size_t i = *at + 1;
 
     cell->start = i;
     for (;;) {
-        if (i == end || is_fault_byte(text[i]))
+        size_t skipped;
+
+        if (i == end)
             return 0;
-        if (text[i] != '"') {
+        skipped = break_bytes(edition, text, end, i);
+        if (skipped > 0) {
+            i += skipped;
+        } else if (is_fault_byte(text[i])) {
+            return 0;
+        } else if (text[i] != '"') {
             i++;
         } else if (i + 1 < end && text[i + 1] == '"') {
             i += 2;
@@ -141,7 +222,8 @@ static int take_unquoted(const uint8_t *text, size_t end, size_t *at, struct cel
 
 /* "Cells are parted by semicolons outside quotes." Counts the cells of a line and keeps the first HEADER_CELLS, which are
  * all that a row of a good header can have. Returns 0, or the cell, counted from 1, that has a quote or byte fault. */
-static uint64_t cut_line(const uint8_t *text, struct line line, struct cell cells[HEADER_CELLS], uint64_t *count)
+static uint64_t cut_line(unsigned edition, const uint8_t *text, struct line line, struct cell cells[HEADER_CELLS],
+    uint64_t *count)
 {
     size_t at = line.start;
 
@@ -149,7 +231,7 @@ static uint64_t cut_line(const uint8_t *text, struct line line, struct cell cell
     for (;;) {
         struct cell cell;
         int quoted = at < line.end && text[at] == '"';
-        int good = quoted ? take_quoted(text, line.end, &at, &cell) : take_unquoted(text, line.end, &at, &cell);
+        int good = quoted ? take_quoted(edition, text, line.end, &at, &cell) : take_unquoted(text, line.end, &at, &cell);
 
         *count += 1;
         if (!good)
@@ -162,7 +244,8 @@ static uint64_t cut_line(const uint8_t *text, struct line line, struct cell cell
     }
 }
 
-/* "Content is what stands between the quotes, doubled ones counted once." A well quoted cell has quotes in pairs only. */
+/* "Content is what stands between the quotes, doubled ones counted once." A well quoted cell has quotes in pairs only. 5/13:
+ * a break "counts as content", by each of its bytes. */
 static size_t content_length(const uint8_t *text, struct cell cell)
 {
     size_t quotes = 0;
@@ -230,8 +313,8 @@ static uint64_t judge_cell(const uint8_t *text, struct cell cell, const struct c
 /* ---- The header */
 
 struct header {
-    uint64_t cells;                /* how many cells the header has */
-    uint64_t cell_of[NUMBERS + 1]; /* for each column, from 1: its cell, counted from 1, or 0 where it is missing */
+    uint64_t cells;                     /* how many cells the header has */
+    uint64_t cell_of[MOST_COLUMNS + 1]; /* for each column, from 1: its cell, counted from 1, or 0 where it is missing */
 };
 
 /* The number of the column that a header cell names, or 0: "Unknown columns, unnamed ones too, are passed over". */
@@ -249,20 +332,20 @@ static unsigned column_named(const uint8_t *text, struct cell cell, const struct
     return 0;
 }
 
-/* "header 6, 4, 3, 2". 3/13: 17 is "first among header and line checks". *at is left where line 2 begins. */
-static uint64_t read_header(unsigned t, const uint8_t *text, size_t length, struct header *header, size_t *at,
-    uint64_t place[4])
+/* "header 6, 4, 3, 2". 3/13: 17 is "first among header and line checks". The cursor is left where the first row begins. */
+static uint64_t read_header(unsigned edition, unsigned t, const uint8_t *text, size_t length, struct header *header,
+    struct cursor *cursor, uint64_t place[4])
 {
-    const struct table *table = &tables[t];
+    const struct table *table = &tables[edition][t];
     struct cell cells[HEADER_CELLS];
-    struct line line = header_line(text, length, at);
+    struct line line = header_line(edition, text, length, cursor);
     uint64_t fault, i;
     unsigned c;
 
     /* 3/13: "17 at column 0" */
     if (is_too_long(line))
         return refuse(place, 17, t, 1, 0);
-    fault = cut_line(text, line, cells, &header->cells);
+    fault = cut_line(edition, text, line, cells, &header->cells);
     /* "6 | quote or byte fault | line, cell counted from 1": anywhere on the line, a 33rd cell too. */
     if (fault)
         return refuse(place, 6, t, 1, fault);
@@ -353,10 +436,26 @@ static rows_in rows_of_in(rows_in book, unsigned t)
 }
 
 /* "The book holds the keys of tables 1 to 3 and the 11 numbers of each block"; of "a table added later" it "keeps its keys
- * and the numbers asked of it", and a stop point is asked for its key alone. */
+ * and the numbers asked of it", and a stop point is asked for its key alone. Keys are as wide in both editions. */
 static unsigned kept_numbers(unsigned t)
 {
-    return t == VEHICLE_BLOCK ? NUMBERS : tables[t].key_width;
+    return t == VEHICLE_BLOCK ? NUMBERS : tables[DINO_21][t].key_width;
+}
+
+/* 5/13: "the delivery's edition, which the book keeps (2.1 after a refused reading)". It stands in the book's last row, the
+ * row of marks: 0 for 2.1, so that the book after a refused reading is all zero, and 1 for 2.3. */
+enum { MARKS = BOOK_ROWS - 1 };
+
+static unsigned edition_of(rows_in book)
+{
+    return book[MARKS][0] == 1 ? DINO_23 : DINO_21;
+}
+
+/* A book of that edition without rows. */
+static void begin_book(unsigned edition, uint64_t (*book)[NUMBERS])
+{
+    memset(book, 0, BOOK_ROWS * sizeof book[0]);
+    book[MARKS][0] = edition == DINO_23 ? 1 : 0;
 }
 
 /* ---- What holds between a row's numbers, and between the row and the book */
@@ -445,7 +544,7 @@ static uint64_t lost_reference(rows_in book, unsigned t, const uint64_t numbers[
 /* Judges the cells of a row under the known columns, "8 by column number", and gathers the numbers by column. 4/13: "all keep
  * 8's place". Returns 0, or the number of what is wrong with the cell of *column, the lowest column with a fault. */
 static uint64_t take_cells(const struct table *table, const uint8_t *text, const struct header *header,
-    const struct cell cells[HEADER_CELLS], uint64_t numbers[NUMBERS], uint64_t *column)
+    const struct cell cells[HEADER_CELLS], uint64_t numbers[MOST_COLUMNS], uint64_t *column)
 {
     unsigned c;
 
@@ -465,86 +564,99 @@ static uint64_t take_cells(const struct table *table, const uint8_t *text, const
     return 0;
 }
 
-/* The cells of one line after the header: 17, then 6, then 7. */
-static uint64_t take_line(unsigned t, const uint8_t *text, struct line line, uint64_t line_number,
-    const struct header *header, struct cell cells[HEADER_CELLS], uint64_t place[4])
+/* What is wrong with a row by itself: 17, then 6. Its cells and how many they are. */
+static uint64_t cut_row(unsigned edition, unsigned t, const uint8_t *text, struct line line, struct cell cells[HEADER_CELLS],
+    uint64_t *count, uint64_t place[4])
 {
-    uint64_t count, fault;
+    uint64_t fault;
 
     /* 3/13: "17 at column 0, first among header and line checks" */
     if (is_too_long(line))
-        return refuse(place, 17, t, line_number, 0);
-    fault = cut_line(text, line, cells, &count);
+        return refuse(place, 17, t, line.number, 0);
+    fault = cut_line(edition, text, line, cells, count);
     /* "6 | quote or byte fault | line, cell counted from 1" */
     if (fault)
-        return refuse(place, 6, t, line_number, fault);
+        return refuse(place, 6, t, line.number, fault);
+    return 0;
+}
+
+/* The cells of one row: 17, then 6, then 7. */
+static uint64_t take_line(unsigned edition, unsigned t, const uint8_t *text, struct line line, const struct header *header,
+    struct cell cells[HEADER_CELLS], uint64_t place[4])
+{
+    uint64_t count;
+    uint64_t number = cut_row(edition, t, text, line, cells, &count, place);
+
+    if (number)
+        return number;
     /* "7 | cell count differs from header | line, 0" */
     if (count != header->cells)
-        return refuse(place, 7, t, line_number, 0);
+        return refuse(place, 7, t, line.number, 0);
     return 0;
 }
 
 /* "line by line 5, 6, 7, 8 by column number, 11, 9, 10 by column number"; 3/13: 17 comes "after 5"; 4/13: 19, 20 and 21 "keep
  * 8's place" */
-static uint64_t read_row(unsigned t, const uint8_t *text, struct line line, uint64_t line_number,
-    const struct header *header, uint64_t (*book)[NUMBERS], uint64_t place[4])
+static uint64_t read_row(unsigned edition, unsigned t, const uint8_t *text, struct line line, const struct header *header,
+    uint64_t (*book)[NUMBERS], uint64_t place[4])
 {
-    const struct table *table = &tables[t];
+    const struct table *table = &tables[edition][t];
     uint64_t (*rows)[NUMBERS] = rows_of(book, t);
     struct cell cells[HEADER_CELLS];
-    uint64_t numbers[NUMBERS];
+    uint64_t numbers[MOST_COLUMNS];
     uint64_t row[NUMBERS] = {0};
     uint64_t number, column;
 
-    /* "5 | more than 512 rows | first row too many, 0". The row of line 2 is the first. */
-    if (line_number - 1 > ROWS)
-        return refuse(place, 5, t, line_number, 0);
-    number = take_line(t, text, line, line_number, header, cells, place);
+    /* "5 | more than 512 rows | first row too many, 0". Every row above stands in the book. */
+    if (used((rows_in)rows) == ROWS)
+        return refuse(place, 5, t, line.number, 0);
+    number = take_line(edition, t, text, line, header, cells, place);
     if (number)
         return number;
     number = take_cells(table, text, header, cells, numbers, &column);
     if (number)
-        return refuse(place, number, t, line_number, column);
+        return refuse(place, number, t, line.number, column);
     /* "11 | END below BEGIN | line, 11" */
     if (t == VEHICLE_BLOCK && ends_early(numbers))
-        return refuse(place, 11, t, line_number, 11);
+        return refuse(place, 11, t, line.number, 11);
     /* "9 | key stands in an earlier row": the rows so far are the earlier ones, and their keys are numbers. */
     if (find((rows_in)rows, numbers, table->key_width) < ROWS)
-        return refuse(place, 9, t, line_number, 0);
+        return refuse(place, 9, t, line.number, 0);
     /* "10 | reference finds no row | line, column" */
     column = lost_reference((rows_in)book, t, numbers);
     if (column)
-        return refuse(place, 10, t, line_number, column);
+        return refuse(place, 10, t, line.number, column);
     memcpy(row, numbers, kept_numbers(t) * sizeof row[0]);
     insert(rows, row, table->key_width);
     return 0;
 }
 
-/* "in each 1; header 6, 4, 3, 2; then line by line" */
+/* "in each 1; header 6, 4, 3, 2; then line by line". By the edition that the book is begun with. */
 static uint64_t read_table(unsigned t, const uint8_t *text, size_t length, uint64_t (*book)[NUMBERS], uint64_t place[4])
 {
+    unsigned edition = edition_of((rows_in)book);
     struct header header;
+    struct cursor cursor;
     struct line line;
-    size_t at;
-    uint64_t line_number, number;
+    uint64_t number;
 
     /* "1 | text over 65,536 bytes | 0, 0" */
     if (length > TEXT_BYTES)
         return refuse(place, 1, t, 0, 0);
-    number = read_header(t, text, length, &header, &at, place);
+    number = read_header(edition, t, text, length, &header, &cursor, place);
     if (number)
         return number;
-    for (line_number = 2; next_line(text, length, &at, &line); line_number++) {
+    while (next_line(edition, text, length, &cursor, &line)) {
         /* "The first fault ends the reading." */
-        number = read_row(t, text, line, line_number, &header, book, place);
+        number = read_row(edition, t, text, line, &header, book, place);
         if (number)
             return number;
     }
     return 0;
 }
 
-uint64_t second_read(const uint8_t *vehicle_type, size_t vehicle_type_length, const uint8_t *depot, size_t depot_length,
-    const uint8_t *stop, size_t stop_length, const uint8_t *stop_point, size_t stop_point_length,
+uint64_t second_read(uint64_t edition, const uint8_t *vehicle_type, size_t vehicle_type_length, const uint8_t *depot,
+    size_t depot_length, const uint8_t *stop, size_t stop_length, const uint8_t *stop_point, size_t stop_point_length,
     const uint8_t *vehicle_block, size_t vehicle_block_length, uint64_t (*book)[11], size_t rows, uint64_t place[4])
 {
     const uint8_t *texts[LAST_TABLE + 1];
@@ -554,21 +666,27 @@ uint64_t second_read(const uint8_t *vehicle_type, size_t vehicle_type_length, co
     /* "one lent at another length is 16, before all else: that one stays as it came" */
     if (rows != BOOK_ROWS)
         return refuse_without_place(place, 16);
+    /* 5/13: "an unknown edition is 22, right after 16". "A refused reading leaves an empty book" */
+    if (edition_named(edition) == EDITIONS) {
+        begin_book(DINO_21, book);
+        return refuse_without_place(place, 22);
+    }
     texts[VEHICLE_TYPE] = vehicle_type, lengths[VEHICLE_TYPE] = vehicle_type_length;
     texts[DEPOT] = depot, lengths[DEPOT] = depot_length;
     texts[STOP] = stop, lengths[STOP] = stop_length;
     texts[STOP_POINT] = stop_point, lengths[STOP_POINT] = stop_point_length;
     texts[VEHICLE_BLOCK] = vehicle_block, lengths[VEHICLE_BLOCK] = vehicle_block_length;
     /* What the book held does not matter: it is filled anew. */
-    memset(book, 0, BOOK_ROWS * sizeof book[0]);
+    begin_book(edition_named(edition), book);
     /* "in this order: tables 1 to 4"; 1/13: "between stop and vehicle_block" */
     for (i = 0; i < TABLES; i++) {
         unsigned t = reading_order[i];
         uint64_t number = read_table(t, texts[t], lengths[t], book, place);
 
-        /* "A refused reading leaves an empty book, which is the book of four tables without rows." Now it is five. */
+        /* "A refused reading leaves an empty book, which is the book of four tables without rows." Now it is five, and 5/13:
+         * "2.1 after a refused reading". */
         if (number) {
-            memset(book, 0, BOOK_ROWS * sizeof book[0]);
+            begin_book(DINO_21, book);
             return number;
         }
     }
@@ -591,12 +709,15 @@ static int awaits_announcement(const struct second_radio *radio)
     return radio->closed < TABLES && !radio->is_announced;
 }
 
-/* It begins anew whatever stood there. */
-uint64_t second_radio_open(struct second_radio *radio, const struct second_lent *lent, uint64_t place[4])
+/* It begins anew whatever stood there. 5/13: "an unknown edition is 22, right after 16"; then, as with 16, nothing changes. */
+uint64_t second_radio_open(struct second_radio *radio, uint64_t edition, const struct second_lent *lent, uint64_t place[4])
 {
     if (!is_lent(lent))
         return refuse_without_place(place, 16);
+    if (edition_named(edition) == EDITIONS)
+        return refuse_without_place(place, 22);
     memset(radio, 0, sizeof *radio);
+    begin_book(edition_named(edition), radio->book);
     return accept(place);
 }
 
@@ -660,7 +781,7 @@ uint64_t second_radio_close(struct second_radio *radio, uint64_t (*book)[11], co
     /* "The first fault ends the reading." "After a fault, later parts are taken and change no answer, but 18 may still come":
      * where the fault is the table's own, which is judged here and not before. "A refused reading leaves an empty book" */
     if (!radio->place[0] && read_heard(radio, radio->place))
-        memset(radio->book, 0, sizeof radio->book);
+        begin_book(DINO_21, radio->book);
     radio->is_announced = 0;
     radio->closed++;
     memcpy(book, radio->book, sizeof radio->book);
@@ -680,9 +801,9 @@ static int is_zero(const uint64_t *numbers, size_t count)
 }
 
 /* One table of a book that some delivery leaves: numbers that its columns take, keys that rise, zeros elsewhere. */
-static int table_keeps_rule(rows_in rows, unsigned t)
+static int table_keeps_rule(unsigned edition, rows_in rows, unsigned t)
 {
-    const struct table *table = &tables[t];
+    const struct table *table = &tables[edition][t];
     unsigned kept = kept_numbers(t);
     size_t n = used(rows);
     size_t i;
@@ -705,18 +826,26 @@ static int table_keeps_rule(rows_in rows, unsigned t)
     return 1;
 }
 
-/* "The book rule: it is a book that some accepted delivery leaves." Every book that passes here is left by the delivery
- * of its own rows in their order: 512 rows of full width stay far below 65,536 bytes in each table. */
+/* The row of marks: an edition that there is, and nothing else. */
+static int marks_keep_rule(const uint64_t marks[NUMBERS])
+{
+    return marks[0] <= 1 && is_zero(marks + 1, NUMBERS - 1);
+}
+
+/* "The book rule: it is a book that some accepted delivery leaves", of the book's own edition. Every book that passes here is
+ * left by the delivery of its own rows in their order: 512 rows of full width stay far below 65,536 bytes in each table. */
 static int keeps_book_rule(rows_in book)
 {
     unsigned part;
 
+    if (!marks_keep_rule(book[MARKS]))
+        return 0;
     for (part = 0; part < TABLES; part++) {
         unsigned t = reading_order[part];
         rows_in rows = rows_of_in(book, t);
         size_t n, i;
 
-        if (!table_keeps_rule(rows, t))
+        if (!table_keeps_rule(edition_of(book), rows, t))
             return 0;
         n = used(rows);
         for (i = 0; i < n; i++)
@@ -735,28 +864,45 @@ static int is_book(rows_in book, size_t rows)
 
 /* ---- Questions */
 
-/* Where line `wanted` lies; there is none before line 1. */
-static int find_line(const uint8_t *text, size_t length, uint64_t wanted, struct line *line)
+/* Goes through the rows from the top to the one on line `wanted`, and gives it in *line. 5/13: "A cell asked on another line
+ * is 15, but a 6 or 17 in a row above comes first": of every row that starts above that line, whatever line it is. In 2.1
+ * "Other rows and 5 do not matter." */
+static uint64_t find_row(unsigned edition, unsigned t, const uint8_t *text, size_t length, struct cursor below_header,
+    uint64_t wanted, struct line *line, uint64_t place[4])
 {
-    uint64_t line_number = 0;
-    size_t at = 0;
+    struct cursor cursor = below_header;
 
-    while (next_line(text, length, &at, line)) {
-        line_number++;
-        if (line_number == wanted)
-            return 1;
+    while (next_line(edition, text, length, &cursor, line) && line->number <= wanted) {
+        struct cell cells[HEADER_CELLS];
+        uint64_t count, number;
+
+        if (line->number == wanted)
+            return 0;
+        number = edition == DINO_23 ? cut_row(edition, t, text, *line, cells, &count, place) : 0;
+        if (number)
+            return number;
     }
-    return 0;
+    /* "15 for the line (line 1 included)": no row starts there */
+    return refuse_without_place(place, 15);
 }
 
-/* "The answer is a number, a stretch of text, or nothing, the last for empty content or a missing optional column." */
-static void answer_cell(struct cell cell, const struct column *column, uint64_t value, uint64_t answer[4])
+/* 5/13: "A 2 there means a ramp, in 2.1 lift or ramp; the cell answer must name which." It is named for every number there. */
+static uint64_t number_answer(unsigned edition, unsigned t, uint64_t column)
+{
+    if (t != VEHICLE_TYPE || column != ACCESS_EQUIP)
+        return 1;
+    return edition == DINO_21 ? 3 : 4;
+}
+
+/* "The answer is a number, a stretch of text, or nothing, the last for empty content or a missing optional column." `number` is
+ * what names a number. */
+static void answer_cell(struct cell cell, const struct column *column, uint64_t number, uint64_t value, uint64_t answer[4])
 {
     /* `""` is empty, and so the raw bytes tell whether there is content. */
     if (cell.start == cell.end)
         return;
     if (column->kind == 'd') {
-        answer[0] = 1;
+        answer[0] = number;
         answer[1] = value;
         return;
     }
@@ -767,45 +913,50 @@ static void answer_cell(struct cell cell, const struct column *column, uint64_t 
     answer[3] = cell.end - cell.start;
 }
 
-uint64_t second_cell(const uint8_t *text, size_t length, uint64_t table, uint64_t line, uint64_t column, uint64_t answer[4],
-    uint64_t place[4])
+uint64_t second_cell(uint64_t edition_name, const uint8_t *text, size_t length, uint64_t table, uint64_t line, uint64_t column,
+    uint64_t answer[4], uint64_t place[4])
 {
+    unsigned edition = edition_named(edition_name);
     struct cell cells[HEADER_CELLS];
     struct header header;
+    struct cursor cursor;
     struct line found;
     const struct column *asked;
     uint64_t number, value, cell;
-    size_t at;
     unsigned t;
 
     /* "Every answer but a text hands back an empty stretch, and every refusal zeros for numbers." */
     memset(answer, 0, 4 * sizeof answer[0]);
+    /* 5/13: "an unknown edition is 22, right after 16", which this question does not have */
+    if (edition == EDITIONS)
+        return refuse_without_place(place, 22);
     /* "Checks: 15 for table or column, 1, header faults, 15 for the line (line 1 included), then 6 and 7 for that line and
      * 8 for that cell. Other rows and 5 do not matter." 3/13: 17 is first among the header's checks and the line's, "in both
      * ways of reading and in the cell question". 4/13: 8 is split "wherever cells are read". */
-    if (table > LAST_TABLE || tables[table].column_count == 0)
+    if (table > LAST_TABLE || tables[edition][table].column_count == 0)
         return refuse_without_place(place, 15);
     t = (unsigned)table;
-    if (column < 1 || column > tables[t].column_count)
+    if (column < 1 || column > tables[edition][t].column_count)
         return refuse_without_place(place, 15);
     if (length > TEXT_BYTES)
         return refuse(place, 1, t, 0, 0);
-    number = read_header(t, text, length, &header, &at, place);
+    number = read_header(edition, t, text, length, &header, &cursor, place);
     if (number)
         return number;
-    if (line <= 1 || !find_line(text, length, line, &found))
-        return refuse_without_place(place, 15);
-    number = take_line(t, text, found, line, &header, cells, place);
+    number = find_row(edition, t, text, length, cursor, line, &found, place);
+    if (number)
+        return number;
+    number = take_line(edition, t, text, found, &header, cells, place);
     if (number)
         return number;
     cell = header.cell_of[column];
     if (!cell)
         return accept(place); /* a missing column that the header was let off is optional: nothing */
-    asked = &tables[t].columns[column - 1];
+    asked = &tables[edition][t].columns[column - 1];
     number = judge_cell(text, cells[cell - 1], asked, &value);
     if (number)
         return refuse(place, number, t, line, column);
-    answer_cell(cells[cell - 1], asked, value, answer);
+    answer_cell(cells[cell - 1], asked, number_answer(edition, t, column), value, answer);
     return accept(place);
 }
 
@@ -861,13 +1012,17 @@ uint64_t second_block(const uint64_t (*book)[11], size_t rows, uint64_t version,
 
 enum { SLIP_FIELDS = 12 };
 
-/* A field: the bytes from start up to, not with, end. */
+/* A line, and a field of it: the bytes from start up to, not with, end. */
+struct slip_line {
+    size_t start, end;
+};
+
 struct field {
     size_t start, end;
 };
 
 /* "Lines of tab-parted fields". Counts them and keeps the first twelve, which no kind has more of. */
-static size_t cut_fields(const uint8_t *slip, struct line line, struct field fields[SLIP_FIELDS])
+static size_t cut_fields(const uint8_t *slip, struct slip_line line, struct field fields[SLIP_FIELDS])
 {
     size_t count = 0;
     size_t at = line.start;
@@ -890,7 +1045,7 @@ static size_t cut_fields(const uint8_t *slip, struct line line, struct field fie
 
 /* "each ended by a line feed (the last may lack it)". A carriage return is a byte like another here: "a field with another
  * byte, a carriage return too, is 8", or 20 where it makes the field too long. */
-static int next_slip_line(const uint8_t *slip, size_t length, size_t *at, struct line *line)
+static int next_slip_line(const uint8_t *slip, size_t length, size_t *at, struct slip_line *line)
 {
     size_t i = *at;
 
@@ -921,16 +1076,17 @@ static uint8_t kind_of(const uint8_t *slip, const struct field fields[SLIP_FIELD
 }
 
 /* "Numbers follow their column's rules, unquoted" and "Fields count as the vehicle_block columns." A field is its content, byte
- * for byte. Returns 0, or the number of what is wrong with the field of *column, the first one with a fault. */
-static uint64_t take_fields(const uint8_t *slip, const struct field fields[SLIP_FIELDS], size_t count,
+ * for byte. 5/13: "slips being judged by the delivery's edition". Returns 0, or the number of what is wrong with the field of
+ * *column, the first one with a fault. */
+static uint64_t take_fields(unsigned edition, const uint8_t *slip, const struct field fields[SLIP_FIELDS], size_t count,
     uint64_t numbers[NUMBERS], uint64_t *column)
 {
+    const struct column *columns = tables[edition][VEHICLE_BLOCK].columns;
     size_t c;
 
     for (c = 1; c < count; c++) {
         size_t length = fields[c].end - fields[c].start;
-        uint64_t number = judge_content(slip + fields[c].start, length, length, &tables[VEHICLE_BLOCK].columns[c - 1],
-            &numbers[c - 1]);
+        uint64_t number = judge_content(slip + fields[c].start, length, length, &columns[c - 1], &numbers[c - 1]);
 
         *column = c;
         if (number)
@@ -941,7 +1097,7 @@ static uint64_t take_fields(const uint8_t *slip, const struct field fields[SLIP_
 
 /* "A: 12, 5, 8, 11, 9, 10. R: 12, 8, 11, 13, 10. D: 12, 8, 13." 4/13: 19, 20 and 21 "keep 8's place". The blocks stand in their
  * own rows here, as the earlier lines left them; the book has the tables that they refer to. */
-static uint64_t take_slip_line(const uint8_t *slip, struct line line, uint64_t line_number, rows_in book,
+static uint64_t take_slip_line(const uint8_t *slip, struct slip_line line, uint64_t line_number, rows_in book,
     uint64_t (*blocks)[NUMBERS], uint64_t place[4])
 {
     struct field fields[SLIP_FIELDS];
@@ -957,7 +1113,7 @@ static uint64_t take_slip_line(const uint8_t *slip, struct line line, uint64_t l
     /* "An A meets 5 only while 512 blocks stand; a deleted block's room is used again." */
     if (kind == 'A' && used((rows_in)blocks) == ROWS)
         return refuse(place, 5, SLIP, line_number, 0);
-    number = take_fields(slip, fields, count, numbers, &column);
+    number = take_fields(edition_of(book), slip, fields, count, numbers, &column);
     if (number)
         return refuse(place, number, SLIP, line_number, column);
     if (kind != 'D' && ends_early(numbers))
@@ -984,7 +1140,7 @@ static uint64_t take_slip_line(const uint8_t *slip, struct line line, uint64_t l
 /* All lines of a slip, on a copy of the book's blocks. */
 static uint64_t take_slip(const uint8_t *slip, size_t length, rows_in book, uint64_t (*blocks)[NUMBERS], uint64_t place[4])
 {
-    struct line line;
+    struct slip_line line;
     uint64_t line_number;
     size_t at = 0;
 
@@ -1048,7 +1204,8 @@ static size_t write_number(uint8_t *out, uint64_t number)
     return n;
 }
 
-/* "The written table has the 11 names above in order, no quotes, no leading zeros, line feeds, rows by rising key" */
+/* "The written table has the 11 names above in order, no quotes, no leading zeros, line feeds, rows by rising key". The names
+ * are those of both editions. */
 static size_t write_blocks(rows_in blocks, uint8_t out[WRITTEN_BYTES])
 {
     size_t n = used(blocks);
@@ -1057,9 +1214,10 @@ static size_t write_blocks(rows_in blocks, uint8_t out[WRITTEN_BYTES])
     unsigned c;
 
     for (c = 0; c < NUMBERS; c++) {
-        size_t length = strlen(tables[VEHICLE_BLOCK].columns[c].name);
+        const char *name = tables[DINO_21][VEHICLE_BLOCK].columns[c].name;
+        size_t length = strlen(name);
 
-        memcpy(out + at, tables[VEHICLE_BLOCK].columns[c].name, length);
+        memcpy(out + at, name, length);
         at += length;
         out[at++] = c + 1 < NUMBERS ? ';' : '\n';
     }

@@ -6,8 +6,10 @@
 #include <stddef.h>
 #include <stdint.h>
 
-uint64_t second_read(const uint8_t *vehicle_type, size_t vehicle_type_length, const uint8_t *depot, size_t depot_length,
-    const uint8_t *stop, size_t stop_length, const uint8_t *stop_point, size_t stop_point_length,
+enum { SECOND_BOOK_ROWS = 2561 };
+
+uint64_t second_read(uint64_t edition, const uint8_t *vehicle_type, size_t vehicle_type_length, const uint8_t *depot,
+    size_t depot_length, const uint8_t *stop, size_t stop_length, const uint8_t *stop_point, size_t stop_point_length,
     const uint8_t *vehicle_block, size_t vehicle_block_length, uint64_t (*book)[11], size_t rows, uint64_t place[4]);
 
 /* The delivery by radio. In place of `kept` and `lines` this reader keeps a struct of its own, with all bytes of the table
@@ -21,14 +23,14 @@ struct second_radio {
     uint64_t came;      /* how many bytes of it came */
     uint8_t bytes[SECOND_TEXT_BYTES];
     uint64_t place[4]; /* the first fault of the closed tables, or four zeros */
-    uint64_t book[2560][11];
+    uint64_t book[SECOND_BOOK_ROWS][11]; /* of the delivery's edition, and of 2.1 behind a fault */
 };
 
 struct second_lent {
     size_t rows, kept_length, lines_length;
 };
 
-uint64_t second_radio_open(struct second_radio *radio, const struct second_lent *lent, uint64_t place[4]);
+uint64_t second_radio_open(struct second_radio *radio, uint64_t edition, const struct second_lent *lent, uint64_t place[4]);
 
 uint64_t second_radio_announce(struct second_radio *radio, uint64_t length, const struct second_lent *lent,
     uint64_t place[4]);
@@ -43,8 +45,8 @@ uint64_t second_radio_close(struct second_radio *radio, uint64_t (*book)[11], co
 uint64_t second_slip(const uint8_t *slip, size_t slip_length, uint64_t (*book)[11], size_t book_rows, uint64_t (*work)[11],
     size_t work_rows, uint64_t place[4]);
 
-uint64_t second_cell(const uint8_t *text, size_t length, uint64_t table, uint64_t line, uint64_t column, uint64_t answer[4],
-    uint64_t place[4]);
+uint64_t second_cell(uint64_t edition, const uint8_t *text, size_t length, uint64_t table, uint64_t line, uint64_t column,
+    uint64_t answer[4], uint64_t place[4]);
 
 uint64_t second_type(const uint64_t (*book)[11], size_t rows, uint64_t version, uint64_t number, uint64_t answer[2],
     uint64_t place[4]);

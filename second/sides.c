@@ -26,11 +26,11 @@ static struct second_lent lent_of(const struct radio *radio)
     return lent;
 }
 
-static uint64_t second_open(const struct radio *radio, uint64_t place[4])
+static uint64_t second_open(uint64_t edition, const struct radio *radio, uint64_t place[4])
 {
     struct second_lent lent = lent_of(radio);
 
-    return second_radio_open(radio->own, &lent, place);
+    return second_radio_open(radio->own, edition, &lent, place);
 }
 
 static uint64_t second_announce(uint64_t length, const struct radio *radio, uint64_t place[4])
@@ -64,13 +64,14 @@ static uint64_t second_close(const struct radio *radio, uint64_t place[4])
 #define LIBRARY_RADIO NULL, NULL, NULL, NULL
 #else
 /* An array of negative length where the header's lengths are other ones than those lent here. */
-typedef char lengths_are_the_same[WORKSHOP_RADIO_KEPT == RADIO_KEPT && WORKSHOP_RADIO_LINES == RADIO_LINES ? 1 : -1];
+typedef char lengths_are_the_same[WORKSHOP_BOOK_ROWS == BOOK_ROWS && WORKSHOP_RADIO_KEPT == RADIO_KEPT
+            && WORKSHOP_RADIO_LINES == RADIO_LINES ? 1 : -1];
 
 #define LENT radio->book, radio->lengths.rows, radio->kept, radio->lengths.kept, radio->lines, radio->lengths.lines, place
 
-static uint64_t library_open(const struct radio *radio, uint64_t place[4])
+static uint64_t library_open(uint64_t edition, const struct radio *radio, uint64_t place[4])
 {
-    return workshop_radio_open(LENT);
+    return workshop_radio_open(edition, LENT);
 }
 
 static uint64_t library_announce(uint64_t length, const struct radio *radio, uint64_t place[4])

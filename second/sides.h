@@ -9,7 +9,8 @@
 #include <stddef.h>
 #include <stdint.h>
 
-enum { NUMBERS = 11, TABLE_ROWS = 512, BOOK_ROWS = TABLES * TABLE_ROWS, WORK_ROWS = 512 };
+/* The book's last row is its row of marks. */
+enum { NUMBERS = 11, TABLE_ROWS = 512, MARKS = TABLES * TABLE_ROWS, BOOK_ROWS = MARKS + 1, WORK_ROWS = 512 };
 enum { RADIO_KEPT = SECOND_KEPT, RADIO_LINES = SECOND_LINES };
 
 typedef uint64_t row[NUMBERS];
@@ -38,11 +39,11 @@ struct radio {
 
 struct side {
     const char *name;
-    uint64_t (*read)(const uint8_t *, size_t, const uint8_t *, size_t, const uint8_t *, size_t, const uint8_t *, size_t,
-        const uint8_t *, size_t, row *book, size_t rows, uint64_t place[4]);
+    uint64_t (*read)(uint64_t edition, const uint8_t *, size_t, const uint8_t *, size_t, const uint8_t *, size_t,
+        const uint8_t *, size_t, const uint8_t *, size_t, row *book, size_t rows, uint64_t place[4]);
     uint64_t (*slip)(const uint8_t *, size_t, row *book, size_t rows, row *work, size_t work_rows, uint64_t place[4]);
-    uint64_t (*cell)(const uint8_t *, size_t, uint64_t table, uint64_t line, uint64_t column, uint64_t answer[4],
-        uint64_t place[4]);
+    uint64_t (*cell)(uint64_t edition, const uint8_t *, size_t, uint64_t table, uint64_t line, uint64_t column,
+        uint64_t answer[4], uint64_t place[4]);
     uint64_t (*type)(const row *book, size_t rows, uint64_t version, uint64_t number, uint64_t answer[2],
         uint64_t place[4]);
     uint64_t (*block)(const row *book, size_t rows, uint64_t version, uint64_t day_type, uint64_t depot, uint64_t block,
@@ -50,7 +51,7 @@ struct side {
     uint64_t (*write)(const row *book, size_t rows, uint8_t *out, size_t out_length, uint64_t length[1],
         uint64_t place[4]);
     /* by radio; NULL where a side has none of them */
-    uint64_t (*radio_open)(const struct radio *radio, uint64_t place[4]);
+    uint64_t (*radio_open)(uint64_t edition, const struct radio *radio, uint64_t place[4]);
     uint64_t (*radio_announce)(uint64_t length, const struct radio *radio, uint64_t place[4]);
     uint64_t (*radio_part)(struct text part, const struct radio *radio, uint64_t place[4]);
     uint64_t (*radio_close)(const struct radio *radio, uint64_t place[4]);
@@ -63,11 +64,11 @@ extern const struct side library_side;
 extern const struct side second_side;
 
 /* A reading of a delivery's texts at once; they stand in the order of reading. */
-static inline uint64_t side_read(const struct side *side, const struct text t[TABLES], row *book, size_t rows,
-    uint64_t place[4])
+static inline uint64_t side_read(const struct side *side, uint64_t edition, const struct text t[TABLES], row *book,
+    size_t rows, uint64_t place[4])
 {
-    return side->read(t[0].bytes, t[0].length, t[1].bytes, t[1].length, t[2].bytes, t[2].length, t[3].bytes, t[3].length,
-        t[4].bytes, t[4].length, book, rows, place);
+    return side->read(edition, t[0].bytes, t[0].length, t[1].bytes, t[1].length, t[2].bytes, t[2].length, t[3].bytes,
+        t[3].length, t[4].bytes, t[4].length, book, rows, place);
 }
 
 #endif

@@ -1,5 +1,5 @@
-/* tests/reading.c: plays the cases of tests/reading.cases, which come on standard input, on the library, and holds each answer to
- * the one that the case names. How a case is written stands at the head of that file. */
+/* tests/reading.c: plays the cases of tests/reading.cases, which come on standard input, on the library, and holds each
+ * answer to the one that the case names. How a case is written stands at the head of that file. */
 #include "../include/workshop.h"
 
 #include <inttypes.h>
@@ -7,7 +7,8 @@
 #include <stdlib.h>
 #include <string.h>
 
-enum { TABLES = 5, TABLE_ROWS = WORKSHOP_BOOK_ROWS / TABLES, MOST_ROWS = WORKSHOP_BOOK_ROWS + 1 };
+/* The book's last row is its row of marks. */
+enum { TABLES = 5, MARKS = WORKSHOP_BOOK_ROWS - 1, TABLE_ROWS = MARKS / TABLES, MOST_ROWS = WORKSHOP_BOOK_ROWS + 1 };
 enum { MOST_BYTES = 70000, MOST_NAMES = 32, MOST_FILE = 1000000, MOST_WAYS = 8, MOST_PARTS = 256 };
 
 /* Every number that is lent, before a call. */
@@ -40,6 +41,7 @@ static struct {
 static struct {
     const char *name; /* NULL before the first */
     int answers;
+    uint64_t edition;
     struct text texts[TABLES];
     int is_named[TABLES];
     int is_radio; /* some table is announced otherwise than it comes, which only the radio can tell */
@@ -212,11 +214,11 @@ static struct answer call(void)
     fill(answer.place, 4, BEFORE);
     fill(answer.cell, 4, played.asks ? BEFORE : 0);
     if (played.asks)
-        answer.returned = workshop_cell(played.asked_text.bytes, played.asked_text.length, played.asked[0], played.asked[1],
-            played.asked[2], answer.cell, answer.place);
+        answer.returned = workshop_cell(played.edition, played.asked_text.bytes, played.asked_text.length, played.asked[0],
+            played.asked[1], played.asked[2], answer.cell, answer.place);
     else
-        answer.returned = workshop_read(t[0].bytes, t[0].length, t[1].bytes, t[1].length, t[2].bytes, t[2].length, t[3].bytes,
-            t[3].length, t[4].bytes, t[4].length, played.book, played.book_rows, answer.place);
+        answer.returned = workshop_read(played.edition, t[0].bytes, t[0].length, t[1].bytes, t[1].length, t[2].bytes,
+            t[2].length, t[3].bytes, t[3].length, t[4].bytes, t[4].length, played.book, played.book_rows, answer.place);
     return answer;
 }
 
@@ -266,18 +268,24 @@ static int is_sent(size_t table, uint64_t bytes, uint64_t answer)
     return 1;
 }
 
-/* Sends the delivery; place is the last close's. Whether all that is no close is accepted, or is 16 for a book of another length.
- * */
+/* What is lent, before a delivery. */
+static void fill_kept(void)
+{
+    fill_book();
+    fill(played.kept, WORKSHOP_RADIO_KEPT, BEFORE);
+    memset(played.lines, BEFORE, sizeof played.lines);
+}
+
+/* Sends the delivery; place is the last close's. Whether all that is no close is accepted, or is 16 for a book of another
+ * length. */
 static int is_taken(uint64_t bytes, uint64_t place[4])
 {
     uint64_t answer = played.book_rows == WORKSHOP_BOOK_ROWS ? 0 : 16;
     int good;
     size_t t;
 
-    fill_book();
-    fill(played.kept, WORKSHOP_RADIO_KEPT, BEFORE);
-    memset(played.lines, BEFORE, sizeof played.lines);
-    good = workshop_radio_open(KEPT) == answer;
+    fill_kept();
+    good = workshop_radio_open(played.edition, KEPT) == answer;
     for (t = 0; t < TABLES; t++) {
         good = good && workshop_radio_announce(played.is_radio ? played.announced[t] : played.texts[t].length, KEPT) == answer;
         good = good && is_sent(t, bytes, answer);
@@ -287,11 +295,36 @@ static int is_taken(uint64_t bytes, uint64_t place[4])
     return good || fail("a call by radio is not taken");
 }
 
+/* By radio an unknown edition shows when the delivery is opened. Whether that is this answer, and all that is lent is as it
+ * was. */
+static int is_not_opened(const uint64_t wanted[4])
+{
+    uint64_t place[4];
+    size_t i;
+
+    fill_kept();
+    fill(place, 4, BEFORE);
+    if (workshop_radio_open(played.edition, KEPT) != wanted[0])
+        return fail("the number that opening returns");
+    for (i = 0; i < WORKSHOP_RADIO_LINES; i++)
+        if (played.lines[i] != BEFORE)
+            return fail("the lines after an opening that is refused");
+    for (i = 0; i < WORKSHOP_RADIO_KEPT; i++)
+        if (played.kept[i] != BEFORE)
+            return fail("what is kept after an opening that is refused");
+    for (i = 0; i < MOST_ROWS * WORKSHOP_NUMBERS; i++)
+        if (played.book[i / WORKSHOP_NUMBERS][i % WORKSHOP_NUMBERS] != BEFORE)
+            return fail("the book after an opening that is refused");
+    return same("the place of an opening", wanted, place, 4);
+}
+
 /* Plays the case by radio in one way; whether place and book are those of the reading. */
 static int is_same_by_radio(uint64_t bytes, const uint64_t wanted[4])
 {
     uint64_t place[4];
 
+    if (wanted[0] == 22)
+        return is_not_opened(wanted);
     if (is_taken(bytes, place) && same("the place by radio", wanted, place, 4)
         && (memcmp(played.book, played.book_read, sizeof played.book) == 0 || fail("the book by radio")))
         return 1;
@@ -321,6 +354,7 @@ static int answers_with(const uint64_t place[4], const uint64_t cell[4])
     for (i = 0; i < file.ways && !played.asks; i++)
         if (!is_same_by_radio(file.parts[i], place))
             return 0;
+    memcpy(played.book, played.book_read, sizeof played.book);
     return 1;
 }
 
@@ -397,10 +431,19 @@ static void take_case(char *rest)
     played.name = rest;
     played.answers = 0;
     played.asks = 0;
+    played.edition = 21;
     played.is_radio = 0;
     memset(played.is_named, 0, sizeof played.is_named);
     played.book_rows = WORKSHOP_BOOK_ROWS;
     memcpy(played.texts, file.beside, sizeof played.texts);
+}
+
+static void take_edition(char *rest)
+{
+    const char *at = rest;
+
+    played.edition = take_number(&at);
+    take_byte(&at, 0);
 }
 
 static void take_book(char *rest)
@@ -465,6 +508,7 @@ static void lay_out(const char *written, row rows[TABLE_ROWS])
 static void want_accepted(char *rest)
 {
     static row rows[TABLE_ROWS];
+    row marks = {0};
     char *written = cut_word(rest);
     const row *came = (const row *)played.book + table_of(rest) * TABLE_ROWS;
     int good = answers_with(zeros, zeros);
@@ -473,7 +517,8 @@ static void want_accepted(char *rest)
     lay_out(written, rows);
     for (r = 0; r < TABLE_ROWS && good; r++)
         good = same("a row of the book", rows[r], came[r], WORKSHOP_NUMBERS);
-    count(good);
+    marks[0] = played.edition == 23;
+    count(good && same("the row of marks", marks, played.book[MARKS], WORKSHOP_NUMBERS));
 }
 
 /* A refused reading leaves the empty book; one of another length stays as it came. */
@@ -502,14 +547,29 @@ static void want_refused(char *rest)
     count(answers_with(place, zeros) && (played.asks || book_is_left()));
 }
 
-static void want_number(char *rest)
+static void want_value(uint64_t kind, const char *at)
 {
-    const char *at = rest;
-    uint64_t cell[4] = {1, 0, 0, 0};
+    uint64_t cell[4] = {0, 0, 0, 0};
 
+    cell[0] = kind;
     cell[1] = take_number(&at);
     take_byte(&at, 0);
     count(answers_with(zeros, cell));
+}
+
+static void want_number(char *rest)
+{
+    want_value(1, rest);
+}
+
+static void want_equipment(char *rest)
+{
+    want_value(3, rest);
+}
+
+static void want_flags(char *rest)
+{
+    want_value(4, rest);
 }
 
 static void want_text(char *rest)
@@ -544,9 +604,10 @@ static void take_line(char *line)
     static const struct {
         const char *word;
         void (*take)(char *rest);
-    } lines[] = {{"let", take_let}, {"beside", take_beside}, {"parts", take_parts}, {"case", take_case}, {"book", take_book},
-        {"cell", take_cell}, {"announced", take_announced}, {"accepted", want_accepted}, {"refused", want_refused}, {"number", want_number}, {"text", want_text},
-        {"nothing", want_nothing}};
+    } lines[] = {{"let", take_let}, {"beside", take_beside}, {"parts", take_parts}, {"case", take_case},
+        {"edition", take_edition}, {"book", take_book}, {"cell", take_cell}, {"announced", take_announced},
+        {"accepted", want_accepted}, {"refused", want_refused}, {"number", want_number}, {"equipment", want_equipment},
+        {"flags", want_flags}, {"text", want_text}, {"nothing", want_nothing}};
     char *rest;
     size_t i, t;
 

@@ -13,16 +13,16 @@ use Rattle.slips.specs.Calls.{slipCall}
 use Rattle.writer.specs.Calls.{writeCall}
 use Rattle.abi.specs.Telling.{Tells}
 
-abbrev pub ReadPermits : Delivery → List Row → ℕ → List ℕ → List Row → Type 0
-ReadPermits d slice r place book = Tells r place (readCall d slice .verdict) × (book ≡ readCall d slice .book)
+abbrev pub ReadPermits : ℕ → Delivery → List Row → ℕ → List ℕ → List Row → Type 0
+ReadPermits n d slice r place book = Tells r place (readCall n d slice .verdict) × (book ≡ readCall n d slice .book)
 
 abbrev pub SlipPermits : Bytes → List Row → List Row → ℕ → List ℕ → List Row → List Row → Type 0
 SlipPermits s slice area r place book work =
     Tells r place (slipCall s slice area .verdict) × (book ≡ slipCall s slice area .book) × (work ≡ slipCall s slice area .work)
 
--- the answer is 1 and a number, or 2 and a stretch, or zeros
-abbrev pub CellPermits : Bytes → ℕ → ℕ → ℕ → ℕ → List ℕ → List ℕ → Type 0
-CellPermits s table line k r place answer = Tells r place (cellAsked s table line k .verdict) × (answer ≡ values (cellAsked s table line k .cell))
+-- the answer is 1 and a number, or 2 and a stretch, or 3 or 4 and the access equipment, or zeros
+abbrev pub CellPermits : ℕ → Bytes → ℕ → ℕ → ℕ → ℕ → List ℕ → List ℕ → Type 0
+CellPermits n s table line k r place answer = Tells r place (cellAsked n s table line k .verdict) × (answer ≡ values (cellAsked n s table line k .cell))
 
 -- the answer is the seconds and the count
 abbrev pub TypePermits : List Row → ℕ → ℕ → ℕ → List ℕ → List ℕ → Type 0

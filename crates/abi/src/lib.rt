@@ -26,11 +26,14 @@ fn cell_on_paper(cell: Cell) -> [u64; 4]
         Cell::Number(n) => [1, n, 0, 0],
         Cell::Text { start, len } => [2, 0, start, len],
         Cell::Empty => [0, 0, 0, 0],
+        Cell::Equip21(n) => [3, n, 0, 0],
+        Cell::Flags23(n) => [4, n, 0, 0],
     }
 }
 
 #[no_mangle]
 pub extern "C" fn workshop_read(
+    edition: u64,
     vehicle_type: &[u8],
     depot: &[u8],
     stop: &[u8],
@@ -39,9 +42,17 @@ pub extern "C" fn workshop_read(
     book: &mut [Row],
     place: &mut [u64; 4],
 ) -> u64
-    ensures { λ r. ⌜ ReadPermits (delivery (now («vehicle_type» .entry)) (now (depot .entry)) (now (stop .entry)) (now («stop_point» .entry)) (now («vehicle_block» .entry))) (now (book .entry)) r (now (place .exit)) (now (book .exit)) ⌝ }
+    ensures { λ r. ⌜ ReadPermits edition (delivery (now («vehicle_type» .entry)) (now (depot .entry)) (now (stop .entry)) (now («stop_point» .entry)) (now («vehicle_block» .entry))) (now (book .entry)) r (now (place .exit)) (now (book .exit)) ⌝ }
 {
-    let told = on_paper(delivery::read(vehicle_type, depot, stop, stop_point, vehicle_block, book));
+    let told = on_paper(delivery::read(
+        edition,
+        vehicle_type,
+        depot,
+        stop,
+        stop_point,
+        vehicle_block,
+        book,
+    ));
     *place = told;
     told[0]
 }
@@ -62,6 +73,7 @@ pub extern "C" fn workshop_slip(
 
 #[no_mangle]
 pub extern "C" fn workshop_cell(
+    edition: u64,
     text: &[u8],
     table: u64,
     line: u64,
@@ -69,9 +81,9 @@ pub extern "C" fn workshop_cell(
     answer: &mut [u64; 4],
     place: &mut [u64; 4],
 ) -> u64
-    ensures { λ r. ⌜ CellPermits (now (text .entry)) table line column r (now (place .exit)) (now (answer .exit)) ⌝ }
+    ensures { λ r. ⌜ CellPermits edition (now (text .entry)) table line column r (now (place .exit)) (now (answer .exit)) ⌝ }
 {
-    let asked = cell_question::cell(text, table, line, column);
+    let asked = cell_question::cell(edition, text, table, line, column);
     let verdict = asked.verdict;
     let told = on_paper(verdict);
     let cell = asked.cell;
@@ -139,14 +151,15 @@ pub extern "C" fn workshop_write(
 
 #[no_mangle]
 pub extern "C" fn workshop_radio_open(
+    edition: u64,
     book: &mut [Row],
     kept: &mut [u64],
     lines: &mut [u8],
     place: &mut [u64; 4],
 ) -> u64
-    ensures { λ r. ⌜ RadioPermits (openCall (slices (now (book .entry)) (now (kept .entry)) (now (lines .entry)))) r (now (place .exit)) (slices (now (book .exit)) (now (kept .exit)) (now (lines .exit))) ⌝ }
+    ensures { λ r. ⌜ RadioPermits (openCall edition (slices (now (book .entry)) (now (kept .entry)) (now (lines .entry)))) r (now (place .exit)) (slices (now (book .exit)) (now (kept .exit)) (now (lines .exit))) ⌝ }
 {
-    let told = on_paper(radio_calls::open(book, kept, lines));
+    let told = on_paper(radio_calls::open(edition, book, kept, lines));
     *place = told;
     told[0]
 }

@@ -97,7 +97,7 @@ module _ (line : Bytes) (slice slots : List Row) (order : List ℕ) (n : ℕ) (o
   pub add-full : wish (fields line) ≡ Add → n ≡ 512 → (c : Check) → c ≡ tooManyRows → Taken line slice slots slots order order n (record { check = c; count = n })
   add-full w e c f = line-stays c (f ∙ sym (check-of Add w ∙ rw (shelf-full Block slice slots order n on e))) (λ p. let z : _≡_ {A = ℕ} 0 1 = cc in omega arith)
 
-  module _ (j : Judged) (read : j ≡ fieldsRead fs) where
+  module _ (j : Judged) (read : j ≡ fieldsRead (bookOf slice .edition) fs) where
     -- the row of eleven numbers that pass is the line's own
     row-whole : length fs ≡ 11 → j .check ≡ Passes → j .row ≡ rowIn line
     row-whole eleven p = row-read fs b j read p ∙ wide-whole (rowIn line) (length-map fs value ∙ eleven)
@@ -126,7 +126,7 @@ module _ (line : Bytes) (slice slots : List Row) (order : List ℕ) (n : ℕ) (o
           eleven = wish-size (fields line) Add w (λ f. let z : _≡_ {A = ℕ} 0 1 = cc in omega arith)
 
           pub add-version : 1 ≤ column 1 (j .row)
-          add-version = rw (row-whole eleven p) (version-some fs (omega (arith, eleven)) (omega (arith, eleven)) (read-passes fs b j read p))
+          add-version = rw (row-whole eleven p) (version-some (bookOf slice .edition) fs (omega (arith, eleven)) (omega (arith, eleven)) (read-passes fs b j read p))
 
           module _ (slots′ : List Row) (order′ : List ℕ) (c : Check) (in-book : Entered Block (j .row) slice slots slots′ order order′ n c) where
             add-check : c ≡ slipCheck line b

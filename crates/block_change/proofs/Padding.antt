@@ -53,24 +53,24 @@ module _ (ns : List ℕ) where
     pub ruled-wide : ruled Block (wide ns) b ≡ ruled Block ns b
     ruled-wide = rw (time-wide, knows-wide Block, unknown-wide Block)
 
-module _ (fs : List Bytes) (b : Book) (j : Judged) (e : j ≡ fieldsRead fs) where
+module _ (fs : List Bytes) (b : Book) (j : Judged) (e : j ≡ fieldsRead (b .edition) fs) where
   abbrev ns : List ℕ
   ns = map value fs
 
   pub add-read : (tooManyRows when full Block b) ⊳ (j .check ⊳ ruled Block (j .row) b) ≡ lineJudged Add fs ns b
-  add-read = ap (λ (q : Check). (tooManyRows when full Block b) ⊳ q) (read-then (λ r. ruled Block r b) fs j e (ruled-wide ns b))
+  add-read = ap (λ (q : Check). (tooManyRows when full Block b) ⊳ q) (read-then (b .edition) (λ r. ruled Block r b) fs j e (ruled-wide ns b))
 
   pub replace-read : j .check ⊳ ((endsEarly when timeFault Block (j .row)) ⊳ (missingBlock (j .row) b ⊳ unknown Block (j .row) b)) ≡ lineJudged Replace fs ns b
   replace-read =
-      read-then (λ r. (endsEarly when timeFault Block r) ⊳ (missingBlock r b ⊳ unknown Block r b)) fs j e
+      read-then (b .edition) (λ r. (endsEarly when timeFault Block r) ⊳ (missingBlock r b ⊳ unknown Block r b)) fs j e
       (rw (time-wide ns, knows-wide ns b Block, unknown-wide ns b Block))
 
   pub delete-read : j .check ⊳ missingBlock (j .row) b ≡ lineJudged Delete fs ns b
-  delete-read = read-then (λ r. missingBlock r b) fs j e (rw (knows-wide ns b Block))
+  delete-read = read-then (b .edition) (λ r. missingBlock r b) fs j e (rw (knows-wide ns b Block))
 
   -- fields that pass
-  pub read-passes : j .check ≡ Passes → badField fs ≡ Passes
-  read-passes p = go (badField fs) (sym (ap (λ (i : Judged). i .check) e) ∙ p)
+  pub read-passes : j .check ≡ Passes → badField (b .edition) fs ≡ Passes
+  read-passes p = go (badField (b .edition) fs) (sym (ap (λ (i : Judged). i .check) e) ∙ p)
     where
       go : (q : Check) → rowed q (wide ns) .check ≡ Passes → q ≡ Passes
       go Passes h = refl

@@ -18,20 +18,21 @@ use Rattle.slip_line.specs.SlipLine.{badField, numbers, wish, rowIn}
 abbrev pub missingBlock : Row → Book → Check
 missingBlock row b = noBlock when not (knows Block row b)
 
--- "per line: A: 12, 5, 8, 11, 9, 10. R: 12, 8, 11, 13, 10. D: 12, 8, 13."; 19, 20 and 21 "keep 8's place". `row` are the numbers of the fields `fs`
+-- "per line: A: 12, 5, 8, 11, 9, 10. R: 12, 8, 11, 13, 10. D: 12, 8, 13."; 19, 20 and 21 "keep 8's place". `row` are the numbers of the fields `fs`,
+-- "slips being judged by the delivery's edition, which the book keeps"
 abbrev pub lineJudged : Wish → List Bytes → Row → Book → Check
 lineJudged Unknown fs row b = unknownLine
 lineJudged Add fs row b =
     tooManyRows when full Block b
-    ⊳ badField fs
+    ⊳ badField (b .edition) fs
     ⊳ ruled Block row b
 lineJudged Replace fs row b =
-    badField fs
+    badField (b .edition) fs
     ⊳ endsEarly when timeFault Block row
     ⊳ missingBlock row b
     ⊳ unknown Block row b
 lineJudged Delete fs row b =
-    badField fs
+    badField (b .edition) fs
     ⊳ missingBlock row b
 
 -- the book behind a line that is accepted

@@ -20,7 +20,6 @@ use rows::Row;
 use rows::Spot;
 use slip_line::Wish;
 use tables::Columns;
-use tables::Edition;
 use tables::Table;
 use values::Judged;
 
@@ -50,7 +49,7 @@ fn add_block(
     order: &mut [u16],
     n: usize,
 ) -> Told
-    requires { ⌜ FieldsOf (now line) marks × (wish (fields (now line)) ≡ Wish.Add) × OnShelf Table.Block (now book) (now slots) (now order) n × (now columns ≡ listed Edition.Dino21 Table.Block) ⌝ }
+    requires { ⌜ FieldsOf (now line) marks × (wish (fields (now line)) ≡ Wish.Add) × OnShelf Table.Block (now book) (now slots) (now order) n × (now columns ≡ listed (bookOf (now book) .edition) Table.Block) ⌝ }
     ensures { λ r. ⌜ Taken (now (line .entry)) (now (book .entry)) (now (slots .entry)) (now (slots .exit)) (now (order .entry)) (now (order .exit)) n r ⌝ }
 {
     if n == ROWS {
@@ -104,7 +103,7 @@ fn replace_block(
     order: &[u16],
     n: usize,
 ) -> Told
-    requires { ⌜ FieldsOf (now line) marks × (wish (fields (now line)) ≡ Wish.Replace) × OnShelf Table.Block (now book) (now slots) (now order) n × (now columns ≡ listed Edition.Dino21 Table.Block) ⌝ }
+    requires { ⌜ FieldsOf (now line) marks × (wish (fields (now line)) ≡ Wish.Replace) × OnShelf Table.Block (now book) (now slots) (now order) n × (now columns ≡ listed (bookOf (now book) .edition) Table.Block) ⌝ }
     ensures { λ r. ⌜ Taken (now (line .entry)) (now (book .entry)) (now (slots .entry)) (now (slots .exit)) (now (order .entry)) (now (order .entry)) n r ⌝ }
 {
     let read = slip_line::read_fields(line, marks, columns, NUMBERS);
@@ -143,7 +142,7 @@ fn delete_block(
     order: &mut [u16],
     n: usize,
 ) -> Told
-    requires { ⌜ FieldsOf (now line) marks × (wish (fields (now line)) ≡ Wish.Delete) × OnShelf Table.Block (now book) (now slots) (now order) n × (now columns ≡ listed Edition.Dino21 Table.Block) ⌝ }
+    requires { ⌜ FieldsOf (now line) marks × (wish (fields (now line)) ≡ Wish.Delete) × OnShelf Table.Block (now book) (now slots) (now order) n × (now columns ≡ listed (bookOf (now book) .edition) Table.Block) ⌝ }
     ensures { λ r. ⌜ Taken (now (line .entry)) (now (book .entry)) (now (slots .entry)) (now (slots .entry)) (now (order .entry)) (now (order .exit)) n r ⌝ }
 {
     let read = slip_line::read_fields(line, marks, columns, Table::BLOCK_KEY);
@@ -179,7 +178,7 @@ pub fn take_slip_line(
     order: &mut [u16],
     n: usize,
 ) -> Told
-    requires { ⌜ OnShelf Table.Block (now book) (now slots) (now order) n × (now columns ≡ listed Edition.Dino21 Table.Block) ⌝ }
+    requires { ⌜ OnShelf Table.Block (now book) (now slots) (now order) n × (now columns ≡ listed (bookOf (now book) .edition) Table.Block) ⌝ }
     ensures { λ r. ⌜ Taken (now (line .entry)) (now (book .entry)) (now (slots .entry)) (now (slots .exit)) (now (order .entry)) (now (order .exit)) n r ⌝ }
 {
     let marks = fields::fields_of(line);

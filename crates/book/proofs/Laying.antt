@@ -5,20 +5,22 @@ use mathlib.Core.List.{List, _++_, [], _∷_, append-assoc}
 use mathlib.Core.Bool.{true}
 use Prim.Native.Nat.{ℕ, _+_, _-_, _≤_, _<_, suc}
 use native.Mathlib.Omega.{arith}
-use lib.ListN.{length, take, drop, length-take, length-drop, getD, length-append, take-append-drop, drop-of-length-le, replicate, replicate-append-replicate}
-use lib.Seq.{take-at, drop-at, drop-drop}
+use lib.ListN.{length, take, drop, set, length-take, length-drop, getD, length-append, take-append-drop, drop-of-length-le, replicate, replicate-append-replicate}
+use lib.Seq.{take-at, drop-at, drop-drop, drop-cons, getD-at, set-at}
 use Rattle.words.specs.Words.{Row}
 use Rattle.rows.specs.Room.{used, filled, zeros}
 use Rattle.rows.specs.Spots.{Holds}
 use Rattle.rows.specs.Rows.{rising, inserted}
 use Rattle.rows.proofs.Room.{used-within, used-take, used-row, Versioned, length-filled, used-filled, holds-filled, used-versioned}
-use Rattle.tables.specs.Parts.{room, bookRows, begin, partOf, rooms, tables}
+use Rattle.editions.specs.declared.Edition.{Edition}
+use Rattle.editions.specs.declared.Edition.the-variants.{Dino21, Dino23}
+use Rattle.tables.specs.Parts.{room, bookRows, begin, partOf, rooms, tables, marksAt}
 use Rattle.tables.specs.declared.Table.{Table}
 use Rattle.tables.specs.declared.Table.the-variants.{VehicleType, Depot, Stop, StopPoint, Block}
 use Rattle.tables.specs.Columns.{keyWidth}
 use Rattle.tables.proofs.Parts.{part-within, around-table}
-use Rattle.book.specs.Room.{part, bookOf, laidOf, laid}
-use Rattle.book.specs.Book.{rows, Book, with-rows, entered, empty}
+use Rattle.book.specs.Room.{part, bookOf, laidOf, laid, marks, editionOf}
+use Rattle.book.specs.Book.{rows, Book, with-rows, entered, empty, emptyBy}
 use Rattle.book.specs.Holding.{Sound}
 
 -- a list between two others -----------------------------------------------------------------------------------------------------
@@ -86,13 +88,13 @@ pub record Orderly (b : Book) : Type 0 where
   pub rises : (t : Table) → rising (keyWidth t) (rows t b) ≡ true
   pub versioned : (t : Table) → Versioned (rows t b)
 
--- two books are the same by their tables
-pub same-book : (a b : Book) → ((t : Table) → rows t a ≡ rows t b) → a ≡ b
-same-book a b e = go (a .types) (a .depots) (a .stops) (a .points) (a .blocks) (e VehicleType) (e Depot) (e Stop) (e StopPoint) (e Block)
+-- two books are the same by their tables and their edition
+pub same-book : (a b : Book) → ((t : Table) → rows t a ≡ rows t b) → a .edition ≡ b .edition → a ≡ b
+same-book a b e f = go (a .types) (a .depots) (a .stops) (a .points) (a .blocks) (a .edition) (e VehicleType) (e Depot) (e Stop) (e StopPoint) (e Block) f
   where
-    go : (p q r s t : List Row) → p ≡ b .types → q ≡ b .depots → r ≡ b .stops → s ≡ b .points → t ≡ b .blocks
-        → _≡_ {A = Book} (record { types = p; depots = q; stops = r; points = s; blocks = t }) b
-    go p q r s t e0 e1 e2 e3 e4 = rw (e0, e1, e2, e3, e4)
+    go : (p q r s t : List Row) (d : Edition) → p ≡ b .types → q ≡ b .depots → r ≡ b .stops → s ≡ b .points → t ≡ b .blocks → d ≡ b .edition
+        → _≡_ {A = Book} (record { types = p; depots = q; stops = r; points = s; blocks = t; edition = d }) b
+    go p q r s t d e0 e1 e2 e3 e4 e5 = rw (e0, e1, e2, e3, e4, e5)
 
 pub rows-with : (t : Table) (ys : List Row) (b : Book) → rows t (with-rows t ys b) ≡ ys
 rows-with VehicleType ys b = refl
@@ -119,12 +121,15 @@ with-with Block xs ys b = refl
 pub entered-with : (t : Table) (row : Row) (xs : List Row) (b : Book) → entered t row (with-rows t xs b) ≡ with-rows t (inserted (keyWidth t) row xs) b
 entered-with t row xs b = ap (λ (l : List Row). with-rows t (inserted (keyWidth t) row l) (with-rows t xs b)) (rows-with t xs b) ∙ with-with t (inserted (keyWidth t) row xs) xs b
 
+pub rows-begun : (e : Edition) (t : Table) → rows t (emptyBy e) ≡ []
+rows-begun e VehicleType = refl
+rows-begun e Depot = refl
+rows-begun e Stop = refl
+rows-begun e StopPoint = refl
+rows-begun e Block = refl
+
 pub rows-empty : (t : Table) → rows t empty ≡ []
-rows-empty VehicleType = refl
-rows-empty Depot = refl
-rows-empty Stop = refl
-rows-empty StopPoint = refl
-rows-empty Block = refl
+rows-empty t = rows-begun Dino21 t
 
 -- what holds of a table's new rows, and of the rows of every table before, holds of the rows of every table
 pub every-table : (P : Table → List Row → Type 0) (b : Book) (t : Table) (ys : List Row) → P t ys → ((u : Table) → P u (rows u b)) → (u : Table) → P u (rows u (with-rows t ys b))
@@ -175,7 +180,7 @@ abbrev front : Table → Book → List Row
 front t b = laidOf (take (partOf t) tables) b
 
 abbrev behind : Table → Book → List Row
-behind t b = laidOf (drop (suc (partOf t)) tables) b
+behind t b = laidOf (drop (suc (partOf t)) tables) b ++ (marks (b .edition) ∷ [])
 
 -- is not touched where other rows come into the table
 front-stays : (t : Table) (ys : List Row) (b : Book) → front t (with-rows t ys b) ≡ front t b
@@ -193,7 +198,11 @@ behind-stays StopPoint ys b = refl
 behind-stays Block ys b = refl
 
 laid-around : (t : Table) (b : Book) → laid b ≡ front t b ++ (filled (room t) (rows t b) ++ behind t b)
-laid-around t b = ap (λ (ts : List Table). laidOf ts b) (around-table t) ∙ laid-append (take (partOf t) tables) (t ∷ drop (suc (partOf t)) tables) b
+laid-around t b =
+    ap (λ (ts : List Table). laidOf ts b ++ (marks (b .edition) ∷ [])) (around-table t)
+    ∙ ap (λ (l : List Row). l ++ (marks (b .edition) ∷ [])) (laid-append (take (partOf t) tables) (t ∷ drop (suc (partOf t)) tables) b)
+    ∙ append-assoc (front t b) (filled (room t) (rows t b) ++ laidOf (drop (suc (partOf t)) tables) b) (marks (b .edition) ∷ [])
+    ∙ ap (λ (l : List Row). front t b ++ l) (append-assoc (filled (room t) (rows t b)) (laidOf (drop (suc (partOf t)) tables) b) (marks (b .edition) ∷ []))
 
 laid-with : (t : Table) (ys : List Row) (b : Book) → laid (with-rows t ys b) ≡ front t b ++ (filled (room t) ys ++ behind t b)
 laid-with t ys b =
@@ -218,19 +227,37 @@ module _ (b : Book) (few : (t : Table) → length (rows t b) ≤ room t) (t : Ta
       ∙ put-between (front t b) (filled (room t) (rows t b)) (behind t b) (begin t) (room t) front-long (length-filled (room t) (rows t b) (few t)) (filled (room t) ys)
       ∙ sym (laid-with t ys b)
 
+-- the row of marks tells its edition
+pub edition-marked : (e : Edition) → editionOf (marks e) ≡ e
+edition-marked Dino21 = refl
+edition-marked Dino23 = refl
+
+-- it stands behind all tables
+module _ (b : Book) (few : (t : Table) → length (rows t b) ≤ room t) where
+  length-laid : length (laid b) ≡ bookRows
+  length-laid =
+      length-append (laidOf tables b) (marks (b .edition) ∷ []) ∙ ap (λ (n : ℕ). n + 1) (length-laid-of b few tables)
+
+  pub marks-laid : getD (laid b) marksAt [] ≡ marks (b .edition)
+  marks-laid = getD-at (laidOf tables b) (marks (b .edition)) [] [] marksAt (length-laid-of b few tables)
+
+  pub edition-laid : bookOf (laid b) .edition ≡ b .edition
+  edition-laid = ap editionOf marks-laid ∙ edition-marked (b .edition)
+
 -- a book in order is laid out in a sound slice, and read again
 module _ (b : Book) (orderly : Orderly b) where
   pub used-laid : (t : Table) → used (part t (laid b)) ≡ rows t b
   used-laid t = ap used (part-laid b (orderly .few) t) ∙ used-filled (room t) (rows t b) (orderly .versioned t)
 
   pub book-laid : bookOf (laid b) ≡ b
-  book-laid = same-book (bookOf (laid b)) b (λ t. rows-part t (laid b) ∙ used-laid t)
+  book-laid = same-book (bookOf (laid b)) b (λ t. rows-part t (laid b) ∙ used-laid t) (edition-laid b (orderly .few))
 
   pub sound-laid : Sound (laid b)
   sound-laid =
       record {
-        long = length-laid-of b (orderly .few) tables;
+        long = length-laid b (orderly .few);
         tables = λ t. rw (part-laid b (orderly .few) t) (holds-filled (keyWidth t) (room t) (rows t b) (orderly .rises t) (orderly .versioned t) (orderly .few t));
+        marked = marks-laid b (orderly .few) ∙ ap marks (sym (edition-laid b (orderly .few)));
       }
 
 -- a slice is its parts
@@ -238,16 +265,21 @@ module _ (xs : List Row) (long : length xs ≡ bookRows) where
   rest-of : (t : Table) (end : ℕ) → end ≡ begin t + room t → drop (begin t) xs ≡ part t xs ++ drop end xs
   rest-of t end e = sym (take-append-drop (room t) (drop (begin t) xs)) ∙ ap (λ (l : List Row). part t xs ++ l) (drop-drop (room t) (begin t) xs ∙ ap (λ (n : ℕ). drop n xs) (sym e))
 
-  parts : xs ≡ part VehicleType xs ++ (part Depot xs ++ (part Stop xs ++ (part StopPoint xs ++ (part Block xs ++ []))))
-  parts =
+  -- behind the parts stands the row of marks, and nothing else
+  marks-last : drop marksAt xs ≡ getD xs marksAt [] ∷ []
+  marks-last =
       let most : length xs ≤ bookRows = omega arith in
-      let over : drop bookRows xs ≡ [] = drop-of-length-le xs most in
+      let within : marksAt < length xs = omega arith in
+      drop-cons xs marksAt [] within ∙ ap (λ (l : List Row). getD xs marksAt [] ∷ l) (drop-of-length-le xs most)
+
+  parts : xs ≡ part VehicleType xs ++ (part Depot xs ++ (part Stop xs ++ (part StopPoint xs ++ (part Block xs ++ (getD xs marksAt [] ∷ [])))))
+  parts =
       rest-of VehicleType (begin Depot) refl
       ∙ ap (λ (l : List Row). part VehicleType xs ++ l) (rest-of Depot (begin Stop) refl
       ∙ ap (λ (l : List Row). part Depot xs ++ l) (rest-of Stop (begin StopPoint) refl
       ∙ ap (λ (l : List Row). part Stop xs ++ l) (rest-of StopPoint (begin Block) refl
-      ∙ ap (λ (l : List Row). part StopPoint xs ++ l) (rest-of Block bookRows refl
-      ∙ ap (λ (l : List Row). part Block xs ++ l) over))))
+      ∙ ap (λ (l : List Row). part StopPoint xs ++ l) (rest-of Block marksAt refl
+      ∙ ap (λ (l : List Row). part Block xs ++ l) marks-last))))
 
 -- the book of a sound slice is in order, and laid out it is the slice
 module _ (xs : List Row) (sound : Sound xs) where
@@ -266,10 +298,14 @@ module _ (xs : List Row) (sound : Sound xs) where
   pub laid-book : laid (bookOf xs) ≡ xs
   laid-book =
       sym (parts xs (sound .long)
-      ∙ five (part VehicleType xs) (part Depot xs) (part Stop xs) (part StopPoint xs) (part Block xs) _ _ _ _ _ (part-filled VehicleType) (part-filled Depot) (part-filled Stop) (part-filled StopPoint) (part-filled Block))
+      ∙ six (part VehicleType xs) (part Depot xs) (part Stop xs) (part StopPoint xs) (part Block xs) (getD xs marksAt []) _ _ _ _ _ _ (part-filled VehicleType) (part-filled Depot) (part-filled Stop) (part-filled StopPoint) (part-filled Block) (sound .marked))
     where
-      five : (a b c d e a′ b′ c′ d′ e′ : List Row) → a ≡ a′ → b ≡ b′ → c ≡ c′ → d ≡ d′ → e ≡ e′ → a ++ (b ++ (c ++ (d ++ (e ++ [])))) ≡ a′ ++ (b′ ++ (c′ ++ (d′ ++ (e′ ++ []))))
-      five a b c d e a′ b′ c′ d′ e′ f g h i j = cc
+      together : (a b c d e : List Row) (m : Row) → a ++ (b ++ (c ++ (d ++ (e ++ (m ∷ []))))) ≡ (a ++ (b ++ (c ++ (d ++ (e ++ []))))) ++ (m ∷ [])
+      together a b c d e m = simp append-assoc
+
+      six : (a b c d e : List Row) (m : Row) (a′ b′ c′ d′ e′ : List Row) (m′ : Row) → a ≡ a′ → b ≡ b′ → c ≡ c′ → d ≡ d′ → e ≡ e′ → m ≡ m′
+          → a ++ (b ++ (c ++ (d ++ (e ++ (m ∷ []))))) ≡ (a′ ++ (b′ ++ (c′ ++ (d′ ++ (e′ ++ []))))) ++ (m′ ∷ [])
+      six a b c d e m a′ b′ c′ d′ e′ m′ f g h i j k = let t = together a′ b′ c′ d′ e′ m′ in cc t
 
   -- the slice, where the part that was lent comes back with other rows
   pub lent-back : (t : Table) (from n : ℕ) → from ≡ begin t → n ≡ room t → (ys zs : List Row) → zs ≡ filled (room t) ys
@@ -288,20 +324,43 @@ orderly-with b o t ys f r v =
       versioned = every-table (λ u l. Versioned l) b t ys v (o .versioned);
     }
 
-pub orderly-empty : Orderly empty
+pub orderly-begun : (e : Edition) → Orderly (emptyBy e)
 unfolding rising Versioned
-orderly-empty = record { few = λ t. rw rows-empty (omega arith); rises = λ t. rw rows-empty; versioned = λ t. rw rows-empty tt }
+orderly-begun e = record { few = λ t. rw (rows-begun e t) (omega arith); rises = λ t. rw (rows-begun e t); versioned = λ t. rw (rows-begun e t) tt }
+
+pub orderly-empty : Orderly empty
+orderly-empty = orderly-begun Dino21
+
+-- the book that a reading begins with is sound where it is laid out, and read again
+pub sound-begun : (e : Edition) → Sound (laid (emptyBy e))
+sound-begun e = sound-laid (emptyBy e) (orderly-begun e)
+
+pub book-begun : (e : Edition) → bookOf (laid (emptyBy e)) ≡ emptyBy e
+book-begun e = book-laid (emptyBy e) (orderly-begun e)
 
 -- the empty book: rows of zeros
 no-rows : (n : ℕ) → filled n [] ≡ replicate n zeros
 no-rows n = let e : n - 0 ≡ n = omega arith in rw e
 
-empty-laid : (ts : List Table) → filled (rooms ts) [] ≡ laidOf ts empty
-empty-laid [] = refl
-empty-laid (t ∷ ts) =
+empty-laid : (e : Edition) (ts : List Table) → filled (rooms ts) [] ≡ laidOf ts (emptyBy e)
+empty-laid e [] = refl
+empty-laid e (t ∷ ts) =
     no-rows (room t + rooms ts) ∙ sym (replicate-append-replicate (room t) (rooms ts) zeros)
-    ∙ ap (λ (l : List Row). replicate (room t) zeros ++ l) (sym (no-rows (rooms ts)) ∙ empty-laid ts)
-    ∙ ap (λ (l : List Row). l ++ laidOf ts empty) (sym (no-rows (room t)) ∙ ap (filled (room t)) (sym (rows-empty t)))
+    ∙ ap (λ (l : List Row). replicate (room t) zeros ++ l) (sym (no-rows (rooms ts)) ∙ empty-laid e ts)
+    ∙ ap (λ (l : List Row). l ++ laidOf ts (emptyBy e)) (sym (no-rows (room t)) ∙ ap (filled (room t)) (sym (rows-begun e t)))
+
+-- and one more, whose mark is that of 2.1
+one-more : (n : ℕ) (xs : List Row) → filled n [] ≡ xs → filled (suc n) [] ≡ xs ++ (marks Dino21 ∷ [])
+one-more n xs e =
+    let f : suc n ≡ n + 1 = omega arith in
+    no-rows (suc n) ∙ ap (λ (k : ℕ). replicate k zeros) f ∙ sym (replicate-append-replicate n 1 zeros)
+    ∙ ap (λ (l : List Row). l ++ (zeros ∷ [])) (sym (no-rows n) ∙ e)
 
 pub laid-empty : (n : ℕ) → n ≡ bookRows → filled n [] ≡ laid empty
-laid-empty n e = ap (λ (k : ℕ). filled k []) e ∙ empty-laid tables
+laid-empty n e = ap (λ (k : ℕ). filled k []) e ∙ one-more marksAt (laidOf tables empty) (empty-laid Dino21 tables)
+
+-- the edition marked in it
+pub laid-begun : (e : Edition) → set (laid empty) marksAt (marks e) ≡ laid (emptyBy e)
+laid-begun e =
+    set-at (laidOf tables empty) (marks Dino21) [] (marks e) marksAt (length-laid-of empty (orderly-empty .few) tables)
+    ∙ ap (λ (l : List Row). l ++ (marks e ∷ [])) (sym (empty-laid Dino21 tables) ∙ empty-laid e tables)

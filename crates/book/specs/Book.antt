@@ -1,30 +1,38 @@
 -- The book.
 use mathlib.Core.List.{List, []}
 use mathlib.Core.Bool.{Bool}
-use lib.Dec.{leb}
+use lib.Dec.{eqb, leb}
 use lib.ListN.{length}
-use Rattle.words.specs.Words.{Row}
+use Rattle.words.specs.Words.{Row, if_then_else_}
 use Rattle.rows.specs.Rows.{inserted, stands}
+use Rattle.editions.specs.declared.Edition.{Edition}
+use Rattle.editions.specs.declared.Edition.the-variants.{Dino21}
 use Rattle.tables.specs.declared.Table.{Table}
 use Rattle.tables.specs.declared.Table.the-variants.{VehicleType, Depot, Stop, StopPoint, Block}
 use Rattle.tables.specs.Columns.{keyWidth}
-use Rattle.tables.specs.Parts.{room}
+use Rattle.tables.specs.Parts.{room, partOf}
 
--- "The book holds the keys of tables 1 to 3 and the 11 numbers of each block, rows by rising key", and the keys of stop points
+-- "The book holds the keys of tables 1 to 3 and the 11 numbers of each block, rows by rising key", and the keys of stop points;
+-- and "the delivery's edition, which the book keeps"
 pub record Book : Type 0 where
   pub types : List Row
   pub depots : List Row
   pub stops : List Row
   pub points : List Row
   pub blocks : List Row
+  pub edition : Edition
 
--- a book by its tables
-abbrev pub bookBy : (Table → List Row) → Book
-bookBy f = record { types = f VehicleType; depots = f Depot; stops = f Stop; points = f StopPoint; blocks = f Block }
+-- a book by its edition and its tables
+abbrev pub bookBy : Edition → (Table → List Row) → Book
+bookBy e f = record { types = f VehicleType; depots = f Depot; stops = f Stop; points = f StopPoint; blocks = f Block; edition = e }
 
--- "an empty book, which is the book of" five "tables without rows"
+-- the book that a reading begins with: tables without rows, and "the delivery's edition"
+abbrev pub emptyBy : Edition → Book
+emptyBy e = bookBy e (λ t. [])
+
+-- "A refused reading leaves an empty book, which is the book of" five "tables without rows", and its edition is "2.1 after a refused reading"
 abbrev pub empty : Book
-empty = bookBy (λ t. [])
+empty = emptyBy Dino21
 
 abbrev pub rows : Table → Book → List Row
 rows VehicleType b = b .types
@@ -33,13 +41,9 @@ rows Stop b = b .stops
 rows StopPoint b = b .points
 rows Block b = b .blocks
 
--- the book with other rows in one table
+-- the book with other rows in one table; its edition stays
 abbrev pub with-rows : Table → List Row → Book → Book
-with-rows VehicleType xs b = record { types = xs; depots = b .depots; stops = b .stops; points = b .points; blocks = b .blocks }
-with-rows Depot xs b = record { types = b .types; depots = xs; stops = b .stops; points = b .points; blocks = b .blocks }
-with-rows Stop xs b = record { types = b .types; depots = b .depots; stops = xs; points = b .points; blocks = b .blocks }
-with-rows StopPoint xs b = record { types = b .types; depots = b .depots; stops = b .stops; points = xs; blocks = b .blocks }
-with-rows Block xs b = record { types = b .types; depots = b .depots; stops = b .stops; points = b .points; blocks = xs }
+with-rows t xs b = bookBy (b .edition) (λ u. if eqb (partOf u) (partOf t) then xs else rows u b)
 
 -- the book with a row entered in a table
 abbrev pub entered : Table → Row → Book → Book

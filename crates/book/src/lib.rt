@@ -1,14 +1,16 @@
-// The book that is lent, and the parts of its tables.
+// The book that is lent, the parts of its tables, and its edition.
 ghost use mathlib.Core.Path.{_≡_};
 ghost use mathlib.Core.List.{[], _∷_};
 ghost use Prim.Native.Nat.{_≤_, _<_};
 ghost use lib.ListN.{length, getD};
 ghost use Rattle.rows.specs.Rows.{wide};
 ghost use Rattle.tables.specs.Parts.{bookRows, room};
-ghost use Rattle.book.specs.Room.{part, bookOf, laid};
-ghost use Rattle.book.specs.Book.{knows, rows, empty};
+ghost use Rattle.book.specs.Room.{part, bookOf, laid, mark, marks};
+ghost use Rattle.book.specs.Book.{knows, rows, empty, emptyBy};
 ghost use Rattle.book.specs.Holding.{Sound};
+use editions::Edition;
 use rows::Row;
+use tables::MARKS;
 use tables::Table;
 
 // A table's part of the book.
@@ -66,4 +68,46 @@ pub fn clear(book: &mut [Row])
     ensures { λ _. ⌜ now (book .exit) ≡ laid empty ⌝ }
 {
     rows::clear(book);
+}
+
+// The marks of the editions. That of 2.1 is zero, as in the empty book.
+pub const MARK_21: u64 = 0;
+
+pub const MARK_23: u64 = 1;
+
+fn mark(edition: Edition) -> u64
+    ensures { λ r. ⌜ r ≡ mark edition ⌝ }
+{
+    match edition {
+        Edition::Dino21 => MARK_21,
+        Edition::Dino23 => MARK_23,
+    }
+}
+
+// The row of marks.
+fn marks(edition: Edition) -> Row
+    ensures { λ r. ⌜ r ≡ marks edition ⌝ }
+{
+    [mark(edition), 0, 0, 0, 0, 0, 0, 0, 0, 0, 0]
+}
+
+// "The delivery's edition, which the book keeps".
+pub fn edition_of(book: &[Row]) -> Edition
+    requires { ⌜ length (now book) ≡ bookRows ⌝ }
+    ensures { λ r. ⌜ r ≡ bookOf (now (book .entry)) .edition ⌝ }
+{
+    if book[MARKS][0] == MARK_23 {
+        Edition::Dino23
+    } else {
+        Edition::Dino21
+    }
+}
+
+// The book that a reading begins with: no rows, and the delivery's edition.
+pub fn begin(book: &mut [Row], edition: Edition)
+    requires { ⌜ length (now book) ≡ bookRows ⌝ }
+    ensures { λ _. ⌜ now (book .exit) ≡ laid (emptyBy edition) ⌝ }
+{
+    clear(book);
+    book[MARKS] = marks(edition);
 }

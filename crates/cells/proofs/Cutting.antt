@@ -1,14 +1,15 @@
 -- What a line is cut into, and that its cells make it up. Assumes nothing.
 use mathlib.Core.List.{_∷_, List, [], _++_, append-assoc, append-nil}
-use mathlib.Core.Path.{_≡_, refl, ap}
-use mathlib.Core.Bool.{Bool, true, false, _||_}
+use mathlib.Core.Path.{_≡_, refl, ap, sym, subst}
+use mathlib.Core.Bool.{Bool, true, false, _||_, _&&_}
 use Prim.Native.Nat.{suc, _+_, ℕ, _≤_}
 use native.Mathlib.Omega.{arith}
 use lib.ListN.{length, getD}
 use lib.Dec.{eqb, ltb}
 use borrow.Author.Tests.{eqb-true}
 use Rattle.words.specs.Words.{Bytes, if_then_else_}
-use Rattle.cells.specs.Cells.{Cut, faulty, cells, grown, after, parted, next, kind, reached, cutFrom, cut}
+use Rattle.editions.specs.declared.Edition.{Edition}
+use Rattle.cells.specs.Cells.{Cut, faulty, cells, grown, after, parted, next, kind, kindIn, breakable, isBreak, reached, cutFrom, cut}
 use Rattle.cells.specs.declared.Kind.the-variants.{Quote, Control, Other, Semicolon, End}
 use Rattle.cells.specs.declared.State.{State}
 use Rattle.cells.specs.declared.State.the-variants.{Fresh, Plain, Inside, Closed, Over, Fault}
@@ -104,6 +105,13 @@ over-by s b e = go (eqb b 34) (eqb b 59) (ltb b 32 || eqb b 127) refl e
     go q true c h o = eqb-true b 59 h
     go q false c h o = never-over s q c b 59 o
 
+over-in : (e : Edition) (s : State) (b : ℕ) (bs : Bytes) → next s (kindIn e s b bs) ≡ Over → b ≡ 59
+over-in e s b bs o = go (breakable e s && isBreak b bs) o
+  where
+    go : (u : Bool) → next s (if u then Other else kind b) ≡ Over → b ≡ 59
+    go true q = never-over s false false b 59 q
+    go false q = over-by s b q
+
 whole-reached : (sep : ℕ) (t : State) (over : Cut) (on : State → Cut) (s : Bytes) → (t ≡ Over → Whole sep over s) → ((t : State) → Whole sep (on t) s) → Whole sep (reached t over on) s
 whole-reached sep Over over on s o g = o refl
 whole-reached sep Fault over on s o g = omega arith
@@ -112,20 +120,20 @@ whole-reached sep Plain over on s o g = g Plain
 whole-reached sep Inside over on s o g = g Inside
 whole-reached sep Closed over on s o g = g Closed
 
-whole-from : (s : State) (bs : Bytes) → Whole 59 (cutFrom s bs) bs
+whole-from : (e : Edition) (s : State) (bs : Bytes) → Whole 59 (cutFrom e s bs) bs
 unfolding cutFrom parted
-whole-from s [] = whole-reached 59 (next s End) _ _ [] (λ e. (refl, omega arith)) (λ t. omega arith)
-whole-from s (b ∷ bs) =
-    whole-reached 59 (next s (kind b)) _ _ (b ∷ bs)
-    (λ e. rw (over-by s b e) (whole-after 59 (cutFrom Fresh bs) bs (whole-from Fresh bs)))
-    (λ t. whole-grown 59 b (cutFrom t bs) bs (whole-from t bs))
+whole-from e s [] = whole-reached 59 (next s End) _ _ [] (λ o. (refl, omega arith)) (λ t. omega arith)
+whole-from e s (b ∷ bs) =
+    whole-reached 59 (next s (kindIn e s b bs)) _ _ (b ∷ bs)
+    (λ o. subst (λ (x : ℕ). Whole 59 (after (cutFrom e Fresh bs)) (x ∷ bs)) (sym (over-in e s b bs o)) (whole-after 59 (cutFrom e Fresh bs) bs (whole-from e Fresh bs)))
+    (λ t. whole-grown 59 b (cutFrom e t bs) bs (whole-from e t bs))
 
 -- the cells of a line, and the fields of a slip line, make it up
-pub cells-parted : (line : Bytes) (cs : List Bytes) → cut line ≡ cells cs → parted 59 cs ≡ line
-cells-parted line cs e = (rw e at (whole-from Fresh line)) .0
+pub cells-parted : (e : Edition) (line : Bytes) (cs : List Bytes) → cut e line ≡ cells cs → parted 59 cs ≡ line
+cells-parted e line cs q = (rw q at (whole-from e Fresh line)) .0
 
-pub faulty-from-one : (line : Bytes) (n : ℕ) → cut line ≡ faulty n → 1 ≤ n
-faulty-from-one line n e = rw e at (whole-from Fresh line)
+pub faulty-from-one : (e : Edition) (line : Bytes) (n : ℕ) → cut e line ≡ faulty n → 1 ≤ n
+faulty-from-one e line n q = rw q at (whole-from e Fresh line)
 
 -- fields, step by step ------------------------------------------------------------------------------------------------------
 

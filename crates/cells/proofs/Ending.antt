@@ -1,5 +1,5 @@
 -- Where a cell ends, step by step, and that the line is cut there. Assumes nothing.
-use mathlib.Core.Bool.{Bool, true, false, not, _||_}
+use mathlib.Core.Bool.{Bool, true, false, not, _||_, _&&_}
 use mathlib.Core.Path.{_≡_, refl, sym, _∙_, ap, subst}
 use mathlib.Core.List.{[], _∷_, List}
 use Prim.Native.Nat.{ℕ, _≤_, _<_, _+_, _-_, suc}
@@ -7,13 +7,15 @@ use native.Mathlib.Omega.{arith}
 use lib.Dec.{eqb, ltb}
 use lib.ListN.{drop, length, getD, drop-of-length-le, take, length-drop, set}
 use lib.Seq.{drop-drop, length-take-le}
-use borrow.Author.Tests.{eqb-true, ne-eqb, lt-ltb, le-ltb}
+use borrow.Author.Tests.{eqb-true, eq-eqb, ne-eqb, lt-ltb, le-ltb}
 use Rattle.words.specs.Words.{if_then_else_, Bytes}
 use Rattle.words.proofs.Lists.{drop-step}
 use Rattle.cells.specs.declared.Kind.{Kind}
 use Rattle.cells.specs.declared.Kind.the-variants.{Semicolon, Control, Other, Quote, End}
-use Rattle.cells.specs.Cells.{kind, next, quoted, Cut, cells, cut, faulty, after, grown, reached, cutFrom}
-use Rattle.cells.specs.Ends.{stays, ended, endFrom, stopAt}
+use Rattle.editions.specs.declared.Edition.{Edition}
+use Rattle.editions.specs.declared.Edition.the-variants.{Dino21, Dino23}
+use Rattle.cells.specs.Cells.{kind, next, kindIn, breaksStand, isBreak, quoted, Cut, cells, cut, faulty, after, grown, reached, cutFrom}
+use Rattle.cells.specs.Ends.{stays, ended, endFrom, stopAt, breakNext}
 use Rattle.cells.specs.declared.State.the-variants.{Plain, Inside, Closed, Fresh, Over, Fault}
 use Rattle.cells.specs.declared.State.{State}
 use Rattle.cells.specs.declared.CellEnd.{CellEnd}
@@ -103,43 +105,8 @@ fresh-bare true c i on = refl
 fresh-bare false true i on = refl
 fresh-bare false false i on = refl
 
--- a quote opens a cell, and opens a closed one again; any other byte leaves it plain, or closed
-module _ (i : ℕ) where
-  fresh-quoted : (bs : Bytes) → quoted bs ≡ true → endFrom Fresh i bs ≡ endFrom Inside (i + 1) (drop 1 bs)
-  unfolding endFrom
-  fresh-quoted [] q = cc
-  fresh-quoted (b ∷ bs) q = rw q
-
-  pub fresh-plain : (bs : Bytes) → quoted bs ≡ false → endFrom Fresh i bs ≡ endFrom Plain i bs
-  unfolding endFrom
-  fresh-plain [] q = refl
-  fresh-plain (b ∷ bs) q = rw q (fresh-bare (eqb b 59) (ltb b 32 || eqb b 127) i (λ t. endFrom t (i + 1) bs))
-
-  closed-quoted : (bs : Bytes) → quoted bs ≡ true → endFrom Closed i bs ≡ endFrom Inside (i + 1) (drop 1 bs)
-  unfolding endFrom
-  closed-quoted [] q = cc
-  closed-quoted (b ∷ bs) q = rw q
-
-  closed-stops : (bs : Bytes) → quoted bs ≡ false → endFrom Closed i bs ≡ stopAt i bs
-  unfolding endFrom
-  closed-stops [] q = refl
-  closed-stops (b ∷ bs) q = rw q (closed-bare (eqb b 59) (ltb b 32 || eqb b 127) i (λ t. endFrom t (i + 1) bs))
-
+-- a semicolon or the end of the line must follow a closed cell
 module _ (line : Bytes) (i : ℕ) where
-  end-byte : (s : State) → i < length line → endFrom s i (drop i line) ≡ ended (next s (kind (getD line i 0))) i (λ t. endFrom t (i + 1) (drop (i + 1) line))
-  unfolding endFrom
-  end-byte s h = rw (drop-step 0 line i h)
-
-  end-none : (s : State) → length line ≤ i → endFrom s i (drop i line) ≡ ended (next s End) i (λ t. Nowhere)
-  unfolding endFrom
-  end-none s h = rw (drop-of-length-le line h)
-
-  pub plain-last : length line ≤ i → endFrom Plain i (drop i line) ≡ At i
-  plain-last h = end-none Plain h
-
-  pub inside-last : length line ≤ i → endFrom Inside i (drop i line) ≡ Nowhere
-  inside-last h = end-none Inside h
-
   pub stop-last : length line ≤ i → stopAt i (drop i line) ≡ At i
   stop-last h = rw (drop-of-length-le line h)
 
@@ -157,153 +124,222 @@ module _ (line : Bytes) (i : ℕ) where
       go false true = refl
       go false false = refl
 
-  pub plain-on : i < length line → stays Plain (kind (getD line i 0)) ≡ true → endFrom Plain i (drop i line) ≡ endFrom Plain (i + 1) (drop (i + 1) line)
-  plain-on h e = end-byte Plain h ∙ plain-kind (kind (getD line i 0)) i (λ t. endFrom t (i + 1) (drop (i + 1) line)) e
+-- a break at a place, by its bytes
+module _ (line : Bytes) (i : ℕ) where
+  pub feed-here : getD line i 0 ≡ 10 → true ≡ isBreak (getD line i 0) (drop (i + 1) line)
+  feed-here e = rw (eq-eqb (getD line i 0) 10 e)
 
-  pub plain-stop : i < length line → stays Plain (kind (getD line i 0)) ≡ false → endFrom Plain i (drop i line) ≡ stopAt i (drop i line)
-  plain-stop h e = end-byte Plain h ∙ plain-stops (kind (getD line i 0)) i (λ t. endFrom t (i + 1) (drop (i + 1) line)) e ∙ sym (stop-byte h)
+  pub no-return : (getD line i 0 ≡ 10 → ⊥) → (getD line i 0 ≡ 13 → ⊥) → false ≡ isBreak (getD line i 0) (drop (i + 1) line)
+  no-return n m = rw (ne-eqb (getD line i 0) 10 n, ne-eqb (getD line i 0) 13 m)
 
-  pub inside-on : i < length line → stays Inside (kind (getD line i 0)) ≡ true → endFrom Inside i (drop i line) ≡ endFrom Inside (i + 1) (drop (i + 1) line)
-  inside-on h e = end-byte Inside h ∙ inside-kind (kind (getD line i 0)) i (λ t. endFrom t (i + 1) (drop (i + 1) line)) e
+  pub return-before : getD line i 0 ≡ 13 → i + 1 < length line → eqb (getD line (i + 1) 0) 10 ≡ isBreak (getD line i 0) (drop (i + 1) line)
+  return-before e h = rw (e, drop-step 0 line (i + 1) h)
 
-  pub inside-control : i < length line → stays Inside (kind (getD line i 0)) ≡ false → (getD line i 0 ≡ 34 → ⊥) → endFrom Inside i (drop i line) ≡ Nowhere
-  inside-control h e n =
-      end-byte Inside h
-      ∙ rw (kind-bare (getD line i 0) n) (inside-stops (eqb (getD line i 0) 59) (ltb (getD line i 0) 32 || eqb (getD line i 0) 127) i (λ t. endFrom t (i + 1) (drop (i + 1) line)) (rw (kind-bare (getD line i 0) n) at e))
+  pub return-last : getD line i 0 ≡ 13 → length line ≤ i + 1 → false ≡ isBreak (getD line i 0) (drop (i + 1) line)
+  return-last e h = rw (e, drop-of-length-le line h)
 
-  inside-quote : i < length line → getD line i 0 ≡ 34 → endFrom Inside i (drop i line) ≡ endFrom Closed (i + 1) (drop (i + 1) line)
-  inside-quote h e = end-byte Inside h ∙ rw e
+-- by any edition
+module _ (ed : Edition) where
+  -- a quote opens a cell, and opens a closed one again; any other byte leaves it plain, or closed
+  module _ (i : ℕ) where
+    fresh-quoted : (bs : Bytes) → quoted bs ≡ true → endFrom ed Fresh i bs ≡ endFrom ed Inside (i + 1) (drop 1 bs)
+    unfolding endFrom
+    fresh-quoted [] q = cc
+    fresh-quoted (b ∷ bs) q = rw q
 
-  pub inside-doubled : i < length line → getD line i 0 ≡ 34 → quoted (drop (i + 1) line) ≡ true → endFrom Inside i (drop i line) ≡ endFrom Inside (i + 2) (drop (i + 2) line)
-  inside-doubled h e q =
-      let two : i + 1 + 1 ≡ i + 2 = omega arith in
-      inside-quote h e ∙ closed-quoted (i + 1) (drop (i + 1) line) q ∙ rw (drop-drop 1 (i + 1) line, two)
+    pub fresh-plain : (bs : Bytes) → quoted bs ≡ false → endFrom ed Fresh i bs ≡ endFrom ed Plain i bs
+    unfolding endFrom
+    fresh-plain [] q = refl
+    fresh-plain (b ∷ bs) q = rw q (fresh-bare (eqb b 59) (ltb b 32 || eqb b 127) i (λ t. endFrom ed t (i + 1) bs))
 
-  pub inside-closed : i < length line → getD line i 0 ≡ 34 → quoted (drop (i + 1) line) ≡ false → endFrom Inside i (drop i line) ≡ stopAt (i + 1) (drop (i + 1) line)
-  inside-closed h e q = inside-quote h e ∙ closed-stops (i + 1) (drop (i + 1) line) q
+    closed-quoted : (bs : Bytes) → quoted bs ≡ true → endFrom ed Closed i bs ≡ endFrom ed Inside (i + 1) (drop 1 bs)
+    unfolding endFrom
+    closed-quoted [] q = cc
+    closed-quoted (b ∷ bs) q = rw q
 
-  pub fresh-inside : quoted (drop i line) ≡ true → endFrom Fresh i (drop i line) ≡ endFrom Inside (i + 1) (drop (i + 1) line)
-  fresh-inside q = fresh-quoted i (drop i line) q ∙ rw (drop-drop 1 i line)
+    closed-stops : (bs : Bytes) → quoted bs ≡ false → endFrom ed Closed i bs ≡ stopAt i bs
+    unfolding endFrom
+    closed-stops [] q = refl
+    closed-stops (b ∷ bs) q = rw q (closed-bare (eqb b 59) (ltb b 32 || eqb b 127) i (λ t. endFrom ed t (i + 1) bs))
 
--- the line is cut there ---------------------------------------------------------------------------------------------------
+  module _ (line : Bytes) (i : ℕ) where
+    end-byte : (s : State) → i < length line → endFrom ed s i (drop i line) ≡ ended (next s (kindIn ed s (getD line i 0) (drop (i + 1) line))) i (λ t. endFrom ed t (i + 1) (drop (i + 1) line))
+    unfolding endFrom
+    end-byte s h = rw (drop-step 0 line i h)
 
--- what the rest of a line is cut into where a cell has ended
-abbrev pub following : Bytes → Cut
-following [] = cells []
-following (b ∷ bs) = cut bs
+    end-none : (s : State) → length line ≤ i → endFrom ed s i (drop i line) ≡ ended (next s End) i (λ t. Nowhere)
+    unfolding endFrom
+    end-none s h = rw (drop-of-length-le line h)
 
-after-before : (u : Cut) → after u ≡ before [] u
-after-before (faulty n) = refl
-after-before (cells cs) = refl
+    pub plain-last : length line ≤ i → endFrom ed Plain i (drop i line) ≡ At i
+    plain-last h = end-none Plain h
 
-grown-before : (b : ℕ) (c : Bytes) (u : Cut) → grown b (before c u) ≡ before (b ∷ c) u
-grown-before b c (faulty n) = refl
-grown-before b c (cells cs) = refl
+    pub inside-last : length line ≤ i → endFrom ed Inside i (drop i line) ≡ Nowhere
+    inside-last h = end-none Inside h
 
-faulty-from : (s : State) (i : ℕ) (bs : Bytes) → endFrom s i bs ≡ Nowhere → cutFrom s bs ≡ faulty 1
-unfolding endFrom cutFrom
-faulty-from s i [] = go (next s End)
-  where
-    go : (t : State) → ended t i (λ t. Nowhere) ≡ Nowhere → reached t (cells ([] ∷ [])) (λ t. faulty 1) ≡ faulty 1
-    go Over e = cc
-    go Fault e = refl
-    go Fresh e = refl
-    go Plain e = refl
-    go Inside e = refl
-    go Closed e = refl
-faulty-from s i (b ∷ bs) = go (next s (kind b)) (λ t e. ap (grown b) (faulty-from t (i + 1) bs e))
-  where
-    go : (t : State) → ((t : State) → endFrom t (i + 1) bs ≡ Nowhere → grown b (cutFrom t bs) ≡ faulty 1)
-        → ended t i (λ t. endFrom t (i + 1) bs) ≡ Nowhere → reached t (after (cutFrom Fresh bs)) (λ t. grown b (cutFrom t bs)) ≡ faulty 1
-    go Over on e = cc
-    go Fault on e = refl
-    go Fresh on e = on Fresh e
-    go Plain on e = on Plain e
-    go Inside on e = on Inside e
-    go Closed on e = on Closed e
+    pub plain-on : i < length line → stays Plain (kind (getD line i 0)) ≡ true → endFrom ed Plain i (drop i line) ≡ endFrom ed Plain (i + 1) (drop (i + 1) line)
+    plain-on h e = end-byte Plain h ∙ plain-kind (kind (getD line i 0)) i (λ t. endFrom ed t (i + 1) (drop (i + 1) line)) e
 
--- a cell read up to i ends at e: what the rest is cut into
-record Ends (i e : ℕ) (bs : Bytes) (u : Cut) : Type 0 where
-  begun : i ≤ e
-  within : e ≤ i + length bs
-  parted-there : u ≡ before (take (e - i) bs) (following (drop (e - i) bs))
+    pub plain-stop : i < length line → stays Plain (kind (getD line i 0)) ≡ false → endFrom ed Plain i (drop i line) ≡ stopAt i (drop i line)
+    plain-stop h e = end-byte Plain h ∙ plain-stops (kind (getD line i 0)) i (λ t. endFrom ed t (i + 1) (drop (i + 1) line)) e ∙ sym (stop-byte line i h)
 
-ends-here : (i e : ℕ) (bs : Bytes) (u : Cut) → At i ≡ At e → u ≡ before [] (following bs) → Ends i e bs u
-ends-here i e bs u q p =
-    let h : i ≡ e = cc in
-    let z : e - e ≡ 0 = omega arith in
-    record {
-      begun = omega arith;
-      within = omega arith;
-      parted-there = rw (h, z) p;
-    }
+    -- a byte inside quotes, by whether a break stands there
+    pub break-byte : i < length line → breakNext ed (drop i line) ≡ (breaksStand ed && isBreak (getD line i 0) (drop (i + 1) line))
+    break-byte h = rw (drop-step 0 line i h)
 
-ends-later : (i e b : ℕ) (bs : Bytes) (u : Cut) → Ends (i + 1) e bs u → Ends i e (b ∷ bs) (grown b u)
-ends-later i e b bs u s =
-    let z : e - i ≡ suc (e - (i + 1)) = omega (arith, s .begun) in
-    record {
-      begun = omega (arith, s .begun);
-      within = omega (arith, s .within);
-      parted-there = rw z (ap (grown b) (s .parted-there) ∙ grown-before b (take (e - (i + 1)) bs) (following (drop (e - (i + 1)) bs)));
-    }
+    pub inside-on : i < length line → stays Inside (kind (getD line i 0)) ≡ true → endFrom ed Inside i (drop i line) ≡ endFrom ed Inside (i + 1) (drop (i + 1) line)
+    inside-on h q = end-byte Inside h ∙ go (breaksStand ed && isBreak (getD line i 0) (drop (i + 1) line))
+      where
+        go : (u : Bool) → ended (next Inside (if u then Other else kind (getD line i 0))) i (λ t. endFrom ed t (i + 1) (drop (i + 1) line)) ≡ endFrom ed Inside (i + 1) (drop (i + 1) line)
+        go true = refl
+        go false = inside-kind (kind (getD line i 0)) i (λ t. endFrom ed t (i + 1) (drop (i + 1) line)) q
 
-nowhere : (e : ℕ) → Nowhere ≡ At e → ⊥
-nowhere e q = let z : _≡_ {A = ℕ} 0 1 = cc in omega arith
+    pub inside-break : i < length line → breakNext ed (drop i line) ≡ true → endFrom ed Inside i (drop i line) ≡ endFrom ed Inside (i + 1) (drop (i + 1) line)
+    inside-break h q = let p : (breaksStand ed && isBreak (getD line i 0) (drop (i + 1) line)) ≡ true = sym (break-byte h) ∙ q in end-byte Inside h ∙ rw p
 
-ends-from : (s : State) (i e : ℕ) (bs : Bytes) → endFrom s i bs ≡ At e → Ends i e bs (cutFrom s bs)
-unfolding endFrom cutFrom
-ends-from s i e [] = go (next s End)
-  where
-    go : (t : State) → ended t i (λ t. Nowhere) ≡ At e → Ends i e [] (reached t (cells ([] ∷ [])) (λ t. faulty 1))
-    go Over q = ends-here i e [] (cells ([] ∷ [])) q refl
-    go Fault q = absurd (nowhere e q)
-    go Fresh q = absurd (nowhere e q)
-    go Plain q = absurd (nowhere e q)
-    go Inside q = absurd (nowhere e q)
-    go Closed q = absurd (nowhere e q)
-ends-from s i e (b ∷ bs) = go (next s (kind b)) (λ t q. ends-later i e b bs (cutFrom t bs) (ends-from t (i + 1) e bs q))
-  where
-    go : (t : State) → ((t : State) → endFrom t (i + 1) bs ≡ At e → Ends i e (b ∷ bs) (grown b (cutFrom t bs)))
-        → ended t i (λ t. endFrom t (i + 1) bs) ≡ At e → Ends i e (b ∷ bs) (reached t (after (cutFrom Fresh bs)) (λ t. grown b (cutFrom t bs)))
-    go Over on q = ends-here i e (b ∷ bs) (after (cutFrom Fresh bs)) q (after-before (cutFrom Fresh bs))
-    go Fault on q = absurd (nowhere e q)
-    go Fresh on q = on Fresh q
-    go Plain on q = on Plain q
-    go Inside on q = on Inside q
-    go Closed on q = on Closed q
+    pub inside-control : i < length line → stays Inside (kind (getD line i 0)) ≡ false → breakNext ed (drop i line) ≡ false → (getD line i 0 ≡ 34 → ⊥) → endFrom ed Inside i (drop i line) ≡ Nowhere
+    inside-control h q k n =
+        let p : (breaksStand ed && isBreak (getD line i 0) (drop (i + 1) line)) ≡ false = sym (break-byte h) ∙ k in
+        end-byte Inside h
+        ∙ rw (p, kind-bare (getD line i 0) n) (inside-stops (eqb (getD line i 0) 59) (ltb (getD line i 0) 32 || eqb (getD line i 0) 127) i (λ t. endFrom ed t (i + 1) (drop (i + 1) line)) (rw (kind-bare (getD line i 0) n) at q))
 
-module _ (line : Bytes) (from : ℕ) where
-  pub faulty-cell : endFrom Fresh from (drop from line) ≡ Nowhere → cut (drop from line) ≡ faulty 1
-  faulty-cell q = faulty-from Fresh from (drop from line) q
+    inside-quote : i < length line → getD line i 0 ≡ 34 → endFrom ed Inside i (drop i line) ≡ endFrom ed Closed (i + 1) (drop (i + 1) line)
+    inside-quote h e = end-byte Inside h ∙ rw e (go ed)
+      where
+        go : (d : Edition) → ended (next Inside (if breaksStand d && false then Other else Quote)) i (λ t. endFrom ed t (i + 1) (drop (i + 1) line)) ≡ endFrom ed Closed (i + 1) (drop (i + 1) line)
+        go Dino21 = refl
+        go Dino23 = refl
 
-  module _ (e : ℕ) (h : from ≤ length line) (q : endFrom Fresh from (drop from line) ≡ At e) where
-    pub ends-behind : from ≤ e
-    ends-behind = ends-from Fresh from e (drop from line) q .begun
+    pub inside-doubled : i < length line → getD line i 0 ≡ 34 → quoted (drop (i + 1) line) ≡ true → endFrom ed Inside i (drop i line) ≡ endFrom ed Inside (i + 2) (drop (i + 2) line)
+    inside-doubled h e q =
+        let two : i + 1 + 1 ≡ i + 2 = omega arith in
+        inside-quote h e ∙ closed-quoted (i + 1) (drop (i + 1) line) q ∙ rw (drop-drop 1 (i + 1) line, two)
 
-    pub ends-within : e ≤ length line
-    ends-within = let w : length (drop from line) ≡ length line - from = length-drop from line in omega (arith, h, ends-from Fresh from e (drop from line) q .within)
+    pub inside-closed : i < length line → getD line i 0 ≡ 34 → quoted (drop (i + 1) line) ≡ false → endFrom ed Inside i (drop i line) ≡ stopAt (i + 1) (drop (i + 1) line)
+    inside-closed h e q = inside-quote h e ∙ closed-stops (i + 1) (drop (i + 1) line) q
 
-    -- what is found with the whole cell
-    cell-found : (room : ℕ) (whole : Cut) (bounds : List ℕ) (n : ℕ) → Sofar room whole bounds n from (cut (drop from line)) → Sofar room whole bounds n e (after (following (drop e line)))
-    cell-found room whole bounds n s =
-        let cell = take (e - from) (drop from line) in
-        let l : length cell ≡ e - from = length-take-le (e - from) (drop from line) (rw length-drop (omega (arith, h, ends-behind, ends-within))) in
-        let a : from + (e - from) ≡ e = omega (arith, ends-behind) in
-        let d : drop (e - from) (drop from line) ≡ drop e line = drop-drop (e - from) from line ∙ ap (λ (k : ℕ). drop k line) a in
-        let p : cut (drop from line) ≡ grownBy cell (after (following (drop e line))) = ends-from Fresh from e (drop from line) q .parted-there ∙ rw d (sym (grownBy-after cell (following (drop e line)))) in
-        let r : from + length cell ≡ e = rw l a in
-        subst (λ (k : ℕ). Sofar room whole bounds n k (after (following (drop e line)))) r (bytes-more room whole bounds n from (after (following (drop e line))) cell (subst (Sofar room whole bounds n from) p s))
+    pub fresh-inside : quoted (drop i line) ≡ true → endFrom ed Fresh i (drop i line) ≡ endFrom ed Inside (i + 1) (drop (i + 1) line)
+    fresh-inside q = fresh-quoted i (drop i line) q ∙ rw (drop-drop 1 i line)
 
-module _ (line : Bytes) (e : ℕ) where
-  pub following-last : length line ≤ e → following (drop e line) ≡ cells []
-  following-last h = rw (drop-of-length-le line h)
+  -- the line is cut there ---------------------------------------------------------------------------------------------------
 
-  pub following-next : e < length line → following (drop e line) ≡ cut (drop (e + 1) line)
-  following-next h = rw (drop-step 0 line e h)
+  -- what the rest of a line is cut into where a cell has ended
+  abbrev pub following : Bytes → Cut
+  following [] = cells []
+  following (b ∷ bs) = cut ed bs
 
--- one cell more, whose end is noted with the byte that parts it from the next
-pub cell-ended : (line : Bytes) (from e : ℕ) → from ≤ length line → endFrom Fresh from (drop from line) ≡ At e → (room : ℕ) (bounds bounds′ : List ℕ) (n : ℕ)
-    → Sofar room (cut line) bounds n from (cut (drop from line)) → bounds′ ≡ set bounds (n + 1) (e + 1) → (rest : Cut) → following (drop e line) ≡ rest
-    → Sofar room (cut line) bounds′ (n + 1) (e + 1) rest
-cell-ended line from e h q room bounds bounds′ n s g rest f =
-    cell-more room (cut line) bounds n e rest bounds′ (subst (Sofar room (cut line) bounds n e) (ap after f) (cell-found line from e h q room (cut line) bounds n s)) g
+  after-before : (u : Cut) → after u ≡ before [] u
+  after-before (faulty n) = refl
+  after-before (cells cs) = refl
+
+  grown-before : (b : ℕ) (c : Bytes) (u : Cut) → grown b (before c u) ≡ before (b ∷ c) u
+  grown-before b c (faulty n) = refl
+  grown-before b c (cells cs) = refl
+
+  faulty-from : (s : State) (i : ℕ) (bs : Bytes) → endFrom ed s i bs ≡ Nowhere → cutFrom ed s bs ≡ faulty 1
+  unfolding endFrom cutFrom
+  faulty-from s i [] = go (next s End)
+    where
+      go : (t : State) → ended t i (λ t. Nowhere) ≡ Nowhere → reached t (cells ([] ∷ [])) (λ t. faulty 1) ≡ faulty 1
+      go Over e = cc
+      go Fault e = refl
+      go Fresh e = refl
+      go Plain e = refl
+      go Inside e = refl
+      go Closed e = refl
+  faulty-from s i (b ∷ bs) = go (next s (kindIn ed s b bs)) (λ t e. ap (grown b) (faulty-from t (i + 1) bs e))
+    where
+      go : (t : State) → ((t : State) → endFrom ed t (i + 1) bs ≡ Nowhere → grown b (cutFrom ed t bs) ≡ faulty 1)
+          → ended t i (λ t. endFrom ed t (i + 1) bs) ≡ Nowhere → reached t (after (cutFrom ed Fresh bs)) (λ t. grown b (cutFrom ed t bs)) ≡ faulty 1
+      go Over on e = cc
+      go Fault on e = refl
+      go Fresh on e = on Fresh e
+      go Plain on e = on Plain e
+      go Inside on e = on Inside e
+      go Closed on e = on Closed e
+
+  -- a cell read up to i ends at e: what the rest is cut into
+  record Ends (i e : ℕ) (bs : Bytes) (u : Cut) : Type 0 where
+    begun : i ≤ e
+    within : e ≤ i + length bs
+    parted-there : u ≡ before (take (e - i) bs) (following (drop (e - i) bs))
+
+  ends-here : (i e : ℕ) (bs : Bytes) (u : Cut) → At i ≡ At e → u ≡ before [] (following bs) → Ends i e bs u
+  ends-here i e bs u q p =
+      let h : i ≡ e = cc in
+      let z : e - e ≡ 0 = omega arith in
+      record {
+        begun = omega arith;
+        within = omega arith;
+        parted-there = rw (h, z) p;
+      }
+
+  ends-later : (i e b : ℕ) (bs : Bytes) (u : Cut) → Ends (i + 1) e bs u → Ends i e (b ∷ bs) (grown b u)
+  ends-later i e b bs u s =
+      let z : e - i ≡ suc (e - (i + 1)) = omega (arith, s .begun) in
+      record {
+        begun = omega (arith, s .begun);
+        within = omega (arith, s .within);
+        parted-there = rw z (ap (grown b) (s .parted-there) ∙ grown-before b (take (e - (i + 1)) bs) (following (drop (e - (i + 1)) bs)));
+      }
+
+  nowhere : (e : ℕ) → Nowhere ≡ At e → ⊥
+  nowhere e q = let z : _≡_ {A = ℕ} 0 1 = cc in omega arith
+
+  ends-from : (s : State) (i e : ℕ) (bs : Bytes) → endFrom ed s i bs ≡ At e → Ends i e bs (cutFrom ed s bs)
+  unfolding endFrom cutFrom
+  ends-from s i e [] = go (next s End)
+    where
+      go : (t : State) → ended t i (λ t. Nowhere) ≡ At e → Ends i e [] (reached t (cells ([] ∷ [])) (λ t. faulty 1))
+      go Over q = ends-here i e [] (cells ([] ∷ [])) q refl
+      go Fault q = absurd (nowhere e q)
+      go Fresh q = absurd (nowhere e q)
+      go Plain q = absurd (nowhere e q)
+      go Inside q = absurd (nowhere e q)
+      go Closed q = absurd (nowhere e q)
+  ends-from s i e (b ∷ bs) = go (next s (kindIn ed s b bs)) (λ t q. ends-later i e b bs (cutFrom ed t bs) (ends-from t (i + 1) e bs q))
+    where
+      go : (t : State) → ((t : State) → endFrom ed t (i + 1) bs ≡ At e → Ends i e (b ∷ bs) (grown b (cutFrom ed t bs)))
+          → ended t i (λ t. endFrom ed t (i + 1) bs) ≡ At e → Ends i e (b ∷ bs) (reached t (after (cutFrom ed Fresh bs)) (λ t. grown b (cutFrom ed t bs)))
+      go Over on q = ends-here i e (b ∷ bs) (after (cutFrom ed Fresh bs)) q (after-before (cutFrom ed Fresh bs))
+      go Fault on q = absurd (nowhere e q)
+      go Fresh on q = on Fresh q
+      go Plain on q = on Plain q
+      go Inside on q = on Inside q
+      go Closed on q = on Closed q
+
+  module _ (line : Bytes) (from : ℕ) where
+    pub faulty-cell : endFrom ed Fresh from (drop from line) ≡ Nowhere → cut ed (drop from line) ≡ faulty 1
+    faulty-cell q = faulty-from Fresh from (drop from line) q
+
+    module _ (e : ℕ) (h : from ≤ length line) (q : endFrom ed Fresh from (drop from line) ≡ At e) where
+      pub ends-behind : from ≤ e
+      ends-behind = ends-from Fresh from e (drop from line) q .begun
+
+      pub ends-within : e ≤ length line
+      ends-within = let w : length (drop from line) ≡ length line - from = length-drop from line in omega (arith, h, ends-from Fresh from e (drop from line) q .within)
+
+      -- what is found with the whole cell
+      cell-found : (room : ℕ) (whole : Cut) (bounds : List ℕ) (n : ℕ) → Sofar room whole bounds n from (cut ed (drop from line)) → Sofar room whole bounds n e (after (following (drop e line)))
+      cell-found room whole bounds n s =
+          let cell = take (e - from) (drop from line) in
+          let l : length cell ≡ e - from = length-take-le (e - from) (drop from line) (rw length-drop (omega (arith, h, ends-behind, ends-within))) in
+          let a : from + (e - from) ≡ e = omega (arith, ends-behind) in
+          let d : drop (e - from) (drop from line) ≡ drop e line = drop-drop (e - from) from line ∙ ap (λ (k : ℕ). drop k line) a in
+          let p : cut ed (drop from line) ≡ grownBy cell (after (following (drop e line))) = ends-from Fresh from e (drop from line) q .parted-there ∙ rw d (sym (grownBy-after cell (following (drop e line)))) in
+          let r : from + length cell ≡ e = rw l a in
+          subst (λ (k : ℕ). Sofar room whole bounds n k (after (following (drop e line)))) r (bytes-more room whole bounds n from (after (following (drop e line))) cell (subst (Sofar room whole bounds n from) p s))
+
+  module _ (line : Bytes) (e : ℕ) where
+    pub following-last : length line ≤ e → following (drop e line) ≡ cells []
+    following-last h = rw (drop-of-length-le line h)
+
+    pub following-next : e < length line → following (drop e line) ≡ cut ed (drop (e + 1) line)
+    following-next h = rw (drop-step 0 line e h)
+
+  -- one cell more, whose end is noted with the byte that parts it from the next
+  pub cell-ended : (line : Bytes) (from e : ℕ) → from ≤ length line → endFrom ed Fresh from (drop from line) ≡ At e → (room : ℕ) (bounds bounds′ : List ℕ) (n : ℕ)
+      → Sofar room (cut ed line) bounds n from (cut ed (drop from line)) → bounds′ ≡ set bounds (n + 1) (e + 1) → (rest : Cut) → following (drop e line) ≡ rest
+      → Sofar room (cut ed line) bounds′ (n + 1) (e + 1) rest
+  cell-ended line from e h q room bounds bounds′ n s g rest f =
+      cell-more room (cut ed line) bounds n e rest bounds′ (subst (Sofar room (cut ed line) bounds n e) (ap after f) (cell-found line from e h q room (cut ed line) bounds n s)) g

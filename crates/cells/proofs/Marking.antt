@@ -7,6 +7,7 @@ use lib.ListN.{length, take, set, length-append, length-set, drop, getD}
 use lib.Seq.{take-suc-set, take-append-seam, drop-append-seam, getD-take}
 use Rattle.words.specs.Words.{Bytes}
 use Rattle.cells.specs.Marks.{boundsFrom, BoundsOf, answerOf}
+use Rattle.editions.specs.declared.Edition.{Edition}
 use Rattle.cells.specs.Cells.{Cut, faulty, cells, grown, after, parted, cut, cellsOf}
 use Rattle.cells.specs.declared.Answer.the-variants.{Bad, Good}
 use Rattle.cells.specs.declared.Answer.{Answer}
@@ -159,9 +160,9 @@ module _ (sep : ℕ) where
   stands-on line cs room bounds k e b l h =
       rw (← e, bound-at cs room bounds k b l (omega arith), bound-at cs room bounds (suc k) b l h) (stands-from [] 0 cs k refl h)
 
-pub cell-stands : (line : Bytes) (cs : List Bytes) (room : ℕ) (bounds : List ℕ) (k : ℕ) → cut line ≡ cells cs → BoundsOf cs room bounds → length cs < room → k < length cs →
+pub cell-stands : (e : Edition) (line : Bytes) (cs : List Bytes) (room : ℕ) (bounds : List ℕ) (k : ℕ) → cut e line ≡ cells cs → BoundsOf cs room bounds → length cs < room → k < length cs →
     Stands line (getD bounds k 0) (getD bounds (suc k) 0) (getD cs k [])
-cell-stands line cs room bounds k e = stands-on 59 line cs room bounds k (cells-parted line cs e)
+cell-stands e line cs room bounds k q = stands-on 59 line cs room bounds k (cells-parted e line cs q)
 
 -- what an answer says of the line that was cut
 pub good-cells : (u : Cut) (r : Answer) (m : ℕ) → r ≡ answerOf u → r ≡ Good m → u ≡ cells (cellsOf u)

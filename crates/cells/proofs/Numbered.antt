@@ -6,6 +6,7 @@ use native.Mathlib.Omega.{arith}
 use lib.ListN.{length, List·getD-eq-default, getD}
 use borrow.Author.Tests.{ne-eqb}
 use Rattle.words.specs.Words.{Bytes}
+use Rattle.editions.specs.declared.Edition.{Edition}
 use Rattle.cells.specs.Numbered.{cellNumbered, MarksOf}
 use Rattle.cells.specs.Cells.{cells, cut, cellsOf}
 use Rattle.cells.specs.Marks.{BoundsOf, answerOf}
@@ -19,15 +20,15 @@ use Rattle.cells.proofs.Marking.{Stands, cell-stands, good-cells, good-
 pub behind-last : (n : ℕ) (cs : List Bytes) → 1 ≤ n → length cs < n → cellNumbered n cs ≡ []
 behind-last n cs h l = rw (ne-eqb n 0 (λ e. omega arith), List·getD-eq-default cs [] {n = n - 1} (omega arith))
 
-module _ (line : Bytes) (bounds : List ℕ) (count : ℕ) where
+module _ (ed : Edition) (line : Bytes) (bounds : List ℕ) (count : ℕ) where
   -- a cell stands between its bounds
-  pub cell-bounded : (n : ℕ) → MarksOf line bounds count → 1 ≤ n → n ≤ count → Stands line (getD bounds (n - 1) 0) (getD bounds n 0) (cellNumbered n (cellsOf (cut line)))
+  pub cell-bounded : (n : ℕ) → MarksOf ed line bounds count → 1 ≤ n → n ≤ count → Stands line (getD bounds (n - 1) 0) (getD bounds n 0) (cellNumbered n (cellsOf (cut ed line)))
   cell-bounded n m h l =
       let e : suc (n - 1) ≡ n = omega arith in
-      rw (ne-eqb n 0 (λ z. omega arith)) (rw e at (cell-stands line (cellsOf (cut line)) (length bounds) bounds (n - 1) (m .parted) (m .kept) (omega (arith, m .counted, m .room)) (omega (arith, m .counted))))
+      rw (ne-eqb n 0 (λ z. omega arith)) (rw e at (cell-stands ed line (cellsOf (cut ed line)) (length bounds) bounds (n - 1) (m .parted) (m .kept) (omega (arith, m .counted, m .room)) (omega (arith, m .counted))))
 
   -- the bounds of a line whose cells are counted
-  pub marks-of : (r : Answer) → r ≡ answerOf (cut line) → ((cs : List Bytes) → cut line ≡ cells cs → BoundsOf cs (length bounds) bounds) → r ≡ Good count → count < length bounds → MarksOf line bounds count
+  pub marks-of : (r : Answer) → r ≡ answerOf (cut ed line) → ((cs : List Bytes) → cut ed line ≡ cells cs → BoundsOf cs (length bounds) bounds) → r ≡ Good count → count < length bounds → MarksOf ed line bounds count
   marks-of r e b g l =
-      let p : cut line ≡ cells (cellsOf (cut line)) = good-cells (cut line) r count e g in
-      record { parted = p; counted = good-count (cut line) r count e g; room = l; kept = b (cellsOf (cut line)) p }
+      let p : cut ed line ≡ cells (cellsOf (cut ed line)) = good-cells (cut ed line) r count e g in
+      record { parted = p; counted = good-count (cut ed line) r count e g; room = l; kept = b (cellsOf (cut ed line)) p }

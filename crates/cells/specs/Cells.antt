@@ -1,10 +1,12 @@
 -- The cells of a line.
-use mathlib.Core.Bool.{_||_, Bool, false, true}
+use mathlib.Core.Bool.{_||_, _&&_, Bool, false, true}
 use mathlib.Core.List.{List, [], _∷_, _++_}
 use Prim.Native.Nat.{ℕ, suc, _-_}
 use lib.Dec.{eqb, ltb}
 use lib.ListN.{length, take, drop}
 use Rattle.words.specs.Words.{if_then_else_, Bytes}
+use Rattle.editions.specs.declared.Edition.{Edition}
+use Rattle.editions.specs.declared.Edition.the-variants.{Dino21, Dino23}
 use Rattle.cells.specs.declared.Kind.{Kind}
 use Rattle.cells.specs.declared.Kind.the-variants.{Quote, Semicolon, Control, Other, End}
 use Rattle.cells.specs.declared.State.{State}
@@ -44,6 +46,40 @@ next Closed End = Over
 next Over k = Fault
 next Fault k = Fault
 
+-- line breaks ------------------------------------------------------------------------------------------------------------------
+
+-- 2.3: "line breaks may stand inside double quotes"; 2.1: "A line feed always ends the line, quotes or no."
+abbrev pub breaksStand : Edition → Bool
+breaksStand Dino21 = false
+breaksStand Dino23 = true
+
+abbrev pub inside : State → Bool
+inside Fresh = false
+inside Plain = false
+inside Inside = true
+inside Closed = false
+inside Over = false
+inside Fault = false
+
+-- whether a break may stand in a cell that is read so far
+abbrev pub breakable : Edition → State → Bool
+breakable e s = inside s && breaksStand e
+
+-- whether a line feed comes next
+abbrev pub feedNext : Bytes → Bool
+feedNext [] = false
+feedNext (b ∷ bs) = eqb b 10
+
+-- "A break is a line feed, with or without a carriage return before it": a byte of one, by the bytes behind it
+abbrev pub isBreak : ℕ → Bytes → Bool
+isBreak b bs = eqb b 10 || eqb b 13 && feedNext bs
+
+-- "and counts as content": where it may stand, its bytes are as any other
+abbrev pub kindIn : Edition → State → ℕ → Bytes → Kind
+kindIn e s b bs = if breakable e s && isBreak b bs then Other else kind b
+
+-- the cells ---------------------------------------------------------------------------------------------------------------------
+
 -- a line's cells as they stand, quotes and all; or the number of its first faulty cell, from 1
 pub data Cut : Type 0 where
   faulty : ℕ → Cut
@@ -70,12 +106,12 @@ reached Inside over on = on Inside
 reached Closed over on = on Closed
 
 -- the cells of the rest of a line, from a state on
-unfoldable pub cutFrom : State → Bytes → Cut
-cutFrom s [] = reached (next s End) (cells ([] ∷ [])) (λ t. faulty 1)
-cutFrom s (b ∷ bs) = reached (next s (kind b)) (after (cutFrom Fresh bs)) (λ t. grown b (cutFrom t bs))
+unfoldable pub cutFrom : Edition → State → Bytes → Cut
+cutFrom e s [] = reached (next s End) (cells ([] ∷ [])) (λ t. faulty 1)
+cutFrom e s (b ∷ bs) = reached (next s (kindIn e s b bs)) (after (cutFrom e Fresh bs)) (λ t. grown b (cutFrom e t bs))
 
-abbrev pub cut : Bytes → Cut
-cut line = cutFrom Fresh line
+abbrev pub cut : Edition → Bytes → Cut
+cut e line = cutFrom e Fresh line
 
 -- the number of the faulty cell, 0 where there is none
 abbrev pub faultyCell : Cut → ℕ

@@ -6,6 +6,7 @@ use Prim.Native.Nat.{ℕ, _-_, _<_}
 use lib.Dec.{eqb, ltb}
 use lib.ListN.{getD, length}
 use Rattle.words.specs.Words.{Bytes, if_then_else_}
+use Rattle.editions.specs.declared.Edition.{Edition}
 use Rattle.cells.specs.Cells.{cells, cut, cellsOf}
 use Rattle.cells.specs.Marks.{BoundsOf}
 
@@ -18,8 +19,8 @@ abbrev pub beginAt : List ℕ → ℕ → ℕ → ℕ
 beginAt bounds count n = if eqb n 0 then 0 else if ltb count n then 0 else getD bounds (n - 1) 0
 
 -- a line has so many cells, and there is room for their bounds, which are kept
-pub record MarksOf (line : Bytes) (bounds : List ℕ) (count : ℕ) : Type 0 where
-  pub parted : cut line ≡ cells (cellsOf (cut line))
-  pub counted : length (cellsOf (cut line)) ≡ count
+pub record MarksOf (e : Edition) (line : Bytes) (bounds : List ℕ) (count : ℕ) : Type 0 where
+  pub parted : cut e line ≡ cells (cellsOf (cut e line))
+  pub counted : length (cellsOf (cut e line)) ≡ count
   pub room : count < length bounds
-  pub kept : BoundsOf (cellsOf (cut line)) (length bounds) bounds
+  pub kept : BoundsOf (cellsOf (cut e line)) (length bounds) bounds

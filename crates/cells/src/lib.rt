@@ -1,14 +1,16 @@
 // The cells of a line, and their bounds.
 ghost use mathlib.Core.Path.{_≡_};
 ghost use mathlib.Core.List.{List};
-ghost use Prim.Native.Nat.{_<_};
-ghost use lib.ListN.{drop, set, length};
+ghost use Prim.Native.Nat.{_<_, _+_};
+ghost use lib.ListN.{drop, set, length, getD};
 ghost use Rattle.words.specs.Words.{Bytes};
-ghost use Rattle.cells.specs.Cells.{quoted, kind, cells, cut, cellsOf};
+ghost use Rattle.editions.specs.declared.Edition.{Edition};
+ghost use Rattle.cells.specs.Cells.{quoted, kind, cells, cut, cellsOf, isBreak};
 ghost use Rattle.cells.specs.declared.State.the-variants.{Inside, Plain, Fresh};
-ghost use Rattle.cells.specs.Ends.{stays, stopAt, endFrom};
+ghost use Rattle.cells.specs.Ends.{stays, stopAt, endFrom, breakNext};
 ghost use Rattle.cells.specs.Marks.{BoundsOf, answerOf};
 ghost use Rattle.cells.specs.Numbered.{beginAt, cellNumbered, MarksOf};
+use editions::Edition;
 
 // What a byte, or the line's end, is to a cell. The specification alone speaks of kinds and states.
 pub enum Kind {
@@ -40,6 +42,10 @@ pub enum Answer {
     Bad(usize),
     Good(usize),
 }
+
+const LINE_FEED: u8 = 10;
+
+const CARRIAGE_RETURN: u8 = 13;
 
 // Whether a quote stands at a place.
 pub fn quote_at(line: &[u8], i: usize) -> bool
@@ -87,9 +93,9 @@ fn end_at(line: &[u8], i: usize) -> CellEnd
     CellEnd::Nowhere
 }
 
-// The end of a plain cell that is read up to a place.
+// The end of a plain cell that is read up to a place: it has no quotes in which a break may stand.
 fn plain_end(line: &[u8], from: usize) -> CellEnd
-    ensures { λ r. ⌜ r ≡ endFrom Plain from (drop from (now (line .entry))) ⌝ }
+    ensures { λ r. ⌜ ((e : Edition) → r ≡ endFrom e Plain from (drop from (now (line .entry)))) ⌝ }
 {
     let mut i = from;
     'bytes: while i < line.len() {
@@ -102,13 +108,43 @@ fn plain_end(line: &[u8], from: usize) -> CellEnd
     CellEnd::At(i)
 }
 
+// Whether a break begins at a place, with or without its carriage return.
+fn feeds_at(line: &[u8], i: usize) -> bool
+    requires { ⌜ i < length (now line) ⌝ }
+    ensures { λ r. ⌜ r ≡ isBreak (getD (now (line .entry)) i 0) (drop (i + 1) (now (line .entry))) ⌝ }
+{
+    if line[i] == LINE_FEED {
+        return true;
+    }
+    if line[i] != CARRIAGE_RETURN {
+        return false;
+    }
+    if i + 1 < line.len() {
+        return line[i + 1] == LINE_FEED;
+    }
+    false
+}
+
+// Whether a break stands at a place that may stand there, inside quotes: by 2.3 alone.
+fn break_at(edition: Edition, line: &[u8], i: usize) -> bool
+    requires { ⌜ i < length (now line) ⌝ }
+    ensures { λ r. ⌜ r ≡ breakNext edition (drop i (now (line .entry))) ⌝ }
+{
+    match edition {
+        Edition::Dino21 => false,
+        Edition::Dino23 => feeds_at(line, i),
+    }
+}
+
 // The end of a quoted cell that is read up to a place inside its quotes.
-fn quoted_end(line: &[u8], from: usize) -> CellEnd
-    ensures { λ r. ⌜ r ≡ endFrom Inside from (drop from (now (line .entry))) ⌝ }
+fn quoted_end(edition: Edition, line: &[u8], from: usize) -> CellEnd
+    ensures { λ r. ⌜ r ≡ endFrom edition Inside from (drop from (now (line .entry))) ⌝ }
 {
     let mut i = from;
     'bytes: while i < line.len() {
         if stays_inside(line[i]) {
+            i += 1;
+        } else if break_at(edition, line, i) {
             i += 1;
         } else if line[i] != 34 {
             return CellEnd::Nowhere;
@@ -122,11 +158,11 @@ fn quoted_end(line: &[u8], from: usize) -> CellEnd
 }
 
 // The end of the cell that begins at a place.
-fn cell_end(line: &[u8], from: usize) -> CellEnd
-    ensures { λ r. ⌜ r ≡ endFrom Fresh from (drop from (now (line .entry))) ⌝ }
+fn cell_end(edition: Edition, line: &[u8], from: usize) -> CellEnd
+    ensures { λ r. ⌜ r ≡ endFrom edition Fresh from (drop from (now (line .entry))) ⌝ }
 {
     if quote_at(line, from) {
-        return quoted_end(line, from + 1);
+        return quoted_end(edition, line, from + 1);
     }
     plain_end(line, from)
 }
@@ -141,14 +177,14 @@ pub fn note(places: &mut [usize], n: usize, place: usize)
 }
 
 // The cells of a line, one by one: the first faulty one, or how many they are, with their bounds where there is room for them.
-pub fn cells_of(line: &[u8], bounds: &mut [usize]) -> Answer
-    ensures { λ r. ⌜ (r ≡ answerOf (cut (now (line .entry)))) × ((cs : List Bytes) → cut (now (line .entry)) ≡ cells cs → BoundsOf cs (length (now (bounds .exit))) (now (bounds .exit))) ⌝ }
+pub fn cells_of(edition: Edition, line: &[u8], bounds: &mut [usize]) -> Answer
+    ensures { λ r. ⌜ (r ≡ answerOf (cut edition (now (line .entry)))) × ((cs : List Bytes) → cut edition (now (line .entry)) ≡ cells cs → BoundsOf cs (length (now (bounds .exit))) (now (bounds .exit))) ⌝ }
 {
     let mut n: usize = 0;
     let mut from: usize = 0;
     note(bounds, n, from);
     'cells: loop {
-        match cell_end(line, from) {
+        match cell_end(edition, line, from) {
             CellEnd::Nowhere => {
                 return Answer::Bad(n + 1);
             }
@@ -178,10 +214,16 @@ pub fn begin_of(bounds: &[usize], cells: usize, cell: usize) -> usize
     bounds[cell - 1]
 }
 
-// The cell of that number; an empty part of the line where there is none.
-pub fn cell_of<'a, 'b>(line: &'a [u8], bounds: &'b [usize], cells: usize, cell: usize) -> &'a [u8]
-    requires { ⌜ MarksOf (now line) (now bounds) cells ⌝ }
-    ensures { λ r. ⌜ now r ≡ cellNumbered cell (cellsOf (cut (now (line .entry)))) ⌝ }
+// The cell of that number; an empty part of the line where there is none. (The contract alone speaks of the edition, by which the line was cut.)
+pub fn cell_of<'a, 'b>(
+    edition: Edition,
+    line: &'a [u8],
+    bounds: &'b [usize],
+    cells: usize,
+    cell: usize,
+) -> &'a [u8]
+    requires { ⌜ MarksOf edition (now line) (now bounds) cells ⌝ }
+    ensures { λ r. ⌜ now r ≡ cellNumbered cell (cellsOf (cut edition (now (line .entry)))) ⌝ }
 {
     if cell == 0 {
         return &line[0..0];

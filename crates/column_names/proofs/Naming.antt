@@ -13,8 +13,8 @@ use Rattle.words.specs.Words.{Bytes, if_then_else_, same, bytes}
 use Rattle.words.proofs.Lists.{drop-step, every, same-true, and-left, and-right}
 use Rattle.lines.specs.Lines.{onto}
 use Rattle.cells.specs.Cells.{parted}
-use Rattle.tables.specs.declared.Edition.{Edition}
-use Rattle.tables.specs.declared.Edition.the-variants.{Dino21, Dino23}
+use Rattle.editions.specs.declared.Edition.{Edition}
+use Rattle.editions.specs.declared.Edition.the-variants.{Dino21, Dino23}
 use Rattle.tables.specs.declared.Table.{Table}
 use Rattle.tables.specs.Columns.{columnsOf, columnFrom, columnNumber, Column}
 use Rattle.tables.specs.declared.Table.the-variants.{VehicleType, Depot, Stop, StopPoint, Block}

@@ -5,7 +5,7 @@ ghost use lib.ListN.{drop};
 ghost use Rattle.words.specs.Words.{same, if_then_else_};
 ghost use Rattle.tables.specs.Columns.{columnNumber};
 ghost use Rattle.column_names.specs.Naming.{nameLength, namesIn, numberIn};
-use tables::Edition;
+use editions::Edition;
 use tables::STOP_NR;
 use tables::Table;
 use tables::VERSION;

@@ -1,6 +1,7 @@
 -- What the call for a day answers, and what everything lent to it holds behind the call.
 use mathlib.Core.Path.{_≡_}
 use mathlib.Core.List.{List}
+use Prim.Native.Nat.{ℕ}
 use lib.Dec.{eqb}
 use lib.ListN.{length}
 use Rattle.words.specs.Words.{Row, if_then_else_, Bytes}
@@ -25,12 +26,12 @@ abbrev pub thenSlip : Verdict → Bytes → List Row → List Row → Outcome
 thenSlip Accepted s book work = slipCall s book work
 thenSlip (Refused p) s book work = outcome (Refused p) book (cleared work)
 
--- 16 for a book or a working area of another length, "before all else"
-abbrev pub dayCall : Delivery → Bytes → List Row → List Row → Outcome
-dayCall d s book work =
-    if workSized work then thenSlip (readCall d book .verdict) s (readCall d book .book) work
+-- 16 for a book or a working area of another length, "before all else"; `n` is the edition's number
+abbrev pub dayCall : ℕ → Delivery → Bytes → List Row → List Row → Outcome
+dayCall n d s book work =
+    if workSized work then thenSlip (readCall n d book .verdict) s (readCall n d book .book) work
     else outcome (nowhere badLoan) (emptied book) work
 
 -- what the contract of `day` permits: one verdict, one book and one working area behind it
-abbrev pub DayPermits : Delivery → Bytes → List Row → List Row → Outcome → Type 0
-DayPermits d s book work o = o ≡ dayCall d s book work
+abbrev pub DayPermits : ℕ → Delivery → Bytes → List Row → List Row → Outcome → Type 0
+DayPermits n d s book work o = o ≡ dayCall n d s book work

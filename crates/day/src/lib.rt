@@ -21,6 +21,7 @@ fn empty_book(book: &mut [Row])
 
 // A delivery and then the day's slip, which is judged only where the delivery is accepted.
 pub fn day(
+    edition: u64,
     vehicle_type: &[u8],
     depot: &[u8],
     stop: &[u8],
@@ -30,13 +31,21 @@ pub fn day(
     book: &mut [Row],
     work: &mut [Row],
 ) -> Verdict
-    ensures { λ r. ⌜ DayPermits (delivery (now («vehicle_type» .entry)) (now (depot .entry)) (now (stop .entry)) (now («stop_point» .entry)) (now («vehicle_block» .entry))) (now (slip .entry)) (now (book .entry)) (now (work .entry)) (outcome r (now (book .exit)) (now (work .exit))) ⌝ }
+    ensures { λ r. ⌜ DayPermits edition (delivery (now («vehicle_type» .entry)) (now (depot .entry)) (now (stop .entry)) (now («stop_point» .entry)) (now («vehicle_block» .entry))) (now (slip .entry)) (now (book .entry)) (now (work .entry)) (outcome r (now (book .exit)) (now (work .exit))) ⌝ }
 {
     if work.len() != ROWS {
         empty_book(book);
         return Check::bad_loan().on(Place::NO_TABLE, Place::NO_LINE);
     }
-    match delivery::read(vehicle_type, depot, stop, stop_point, vehicle_block, book) {
+    match delivery::read(
+        edition,
+        vehicle_type,
+        depot,
+        stop,
+        stop_point,
+        vehicle_block,
+        book,
+    ) {
         Verdict::Accepted => slips::slip(slip, book, work),
         Verdict::Refused(place) => {
             rows::clear(work);

@@ -1,13 +1,17 @@
 // A delivery read: the tables in their order.
 ghost use mathlib.Core.Path.{_≡_};
+ghost use lib.ListN.{length};
+ghost use Rattle.tables.specs.Parts.{bookRows};
 ghost use Rattle.book.specs.Holding.{Sound, resultOf};
 ghost use Rattle.book.specs.Result.{_▹_};
-ghost use Rattle.book.specs.Book.{empty};
+ghost use Rattle.book.specs.Book.{emptyBy};
 ghost use Rattle.book.specs.Room.{bookOf};
 ghost use Rattle.rules.specs.Points.{NamedIn};
 ghost use Rattle.table_reading.specs.Reading.{tableRead};
 ghost use Rattle.delivery.specs.Delivery.{reading};
-ghost use Rattle.delivery.specs.Calls.{delivery, outcome, ReadPermits};
+ghost use Rattle.delivery.specs.Calls.{delivery, outcome, readOutcome, ReadPermits};
+use editions::Choice;
+use editions::Edition;
 use refusals::Check;
 use refusals::Place;
 use refusals::Verdict;
@@ -26,7 +30,7 @@ fn then_table(earlier: Verdict, bytes: &[u8], t: Table, book: &mut [Row]) -> Ver
     }
 }
 
-// The tables in their order, on an empty book.
+// The tables in their order, on a book without rows, by its edition.
 fn take_tables(
     types: &[u8],
     depots: &[u8],
@@ -35,8 +39,8 @@ fn take_tables(
     blocks: &[u8],
     book: &mut [Row],
 ) -> Verdict
-    requires { ⌜ Sound (now book) × (bookOf (now book) ≡ empty) ⌝ }
-    ensures { λ r. ⌜ Sound (now (book .exit)) × (resultOf r (now (book .exit)) ≡ reading (delivery (now (types .entry)) (now (depots .entry)) (now (stops .entry)) (now (points .entry)) (now (blocks .entry)))) ⌝ }
+    requires { ⌜ Sound (now book) × (bookOf (now book) ≡ emptyBy (bookOf (now book) .edition)) ⌝ }
+    ensures { λ r. ⌜ Sound (now (book .exit)) × (resultOf r (now (book .exit)) ≡ reading (bookOf (now (book .entry)) .edition) (delivery (now (types .entry)) (now (depots .entry)) (now (stops .entry)) (now (points .entry)) (now (blocks .entry)))) ⌝ }
 {
     let a = table_reading::take_table(types, Table::VehicleType, book);
     let b = then_table(a, depots, Table::Depot, book);
@@ -45,8 +49,33 @@ fn take_tables(
     then_table(d, blocks, Table::Block, book)
 }
 
+// The reading by an edition, with a book of its size.
+fn read_by(
+    edition: Edition,
+    types: &[u8],
+    depots: &[u8],
+    stops: &[u8],
+    points: &[u8],
+    blocks: &[u8],
+    book: &mut [Row],
+) -> Verdict
+    requires { ⌜ length (now book) ≡ bookRows ⌝ }
+    ensures { λ r. ⌜ outcome r (now (book .exit)) ≡ readOutcome (reading edition (delivery (now (types .entry)) (now (depots .entry)) (now (stops .entry)) (now (points .entry)) (now (blocks .entry)))) ⌝ }
+{
+    book::begin(book, edition);
+    let verdict = take_tables(types, depots, stops, points, blocks, book);
+    match verdict {
+        Verdict::Accepted => Verdict::Accepted,
+        Verdict::Refused(p) => {
+            book::clear(book);
+            Verdict::Refused(p)
+        }
+    }
+}
+
 // The reading of a delivery: its verdict, and the book that it leaves.
 pub fn read(
+    edition: u64,
     vehicle_type: &[u8],
     depot: &[u8],
     stop: &[u8],
@@ -54,18 +83,25 @@ pub fn read(
     vehicle_block: &[u8],
     book: &mut [Row],
 ) -> Verdict
-    ensures { λ r. ⌜ ReadPermits (delivery (now («vehicle_type» .entry)) (now (depot .entry)) (now (stop .entry)) (now («stop_point» .entry)) (now («vehicle_block» .entry))) (now (book .entry)) (outcome r (now (book .exit))) ⌝ }
+    ensures { λ r. ⌜ ReadPermits edition (delivery (now («vehicle_type» .entry)) (now (depot .entry)) (now (stop .entry)) (now («stop_point» .entry)) (now («vehicle_block» .entry))) (now (book .entry)) (outcome r (now (book .exit))) ⌝ }
 {
     if book.len() != BOOK_ROWS {
         return Check::bad_loan().on(Place::NO_TABLE, Place::NO_LINE);
     }
-    book::clear(book);
-    let verdict = take_tables(vehicle_type, depot, stop, stop_point, vehicle_block, book);
-    match verdict {
-        Verdict::Accepted => Verdict::Accepted,
-        Verdict::Refused(p) => {
+    let choice = Edition::numbered(edition);
+    match choice {
+        Choice::Chosen(e) => read_by(
+            e,
+            vehicle_type,
+            depot,
+            stop,
+            stop_point,
+            vehicle_block,
+            book,
+        ),
+        Choice::Unknown => {
             book::clear(book);
-            Verdict::Refused(p)
+            Check::unknown_edition().on(Place::NO_TABLE, Place::NO_LINE)
         }
     }
 }

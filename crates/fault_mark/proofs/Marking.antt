@@ -5,21 +5,20 @@ use mathlib.Core.Bool.{Bool, true, false}
 use Prim.Native.Nat.{ℕ, zero, suc, _+_, _-_, _≤_, _<_}
 use native.Mathlib.Omega.{arith}
 use lib.ListN.{length, drop, getD, drop-of-length-le, length-drop, take}
-use lib.Dec.{ltb}
-use borrow.Author.Tests.{eq-eqb, ne-eqb, lt-ltb, le-ltb, ltb-true, ltb-false}
+use borrow.Author.Tests.{eq-eqb, ne-eqb, lt-ltb, le-ltb}
 use Rattle.words.specs.Words.{Bytes, if_then_else_}
 use Rattle.words.proofs.Lists.{drop-step, part-length}
 use Rattle.refusals.specs.declared.Place.{Place}
-use Rattle.lines.specs.Lines.{lines, headLine, lineStart}
-use Rattle.lines.specs.Ends.{lineAt}
+use Rattle.lines.specs.Lines.{lines, headLine, startsOn, rowOn, lineStart}
+use Rattle.lines.specs.Ends.{lineAt, RowBegin}
 use Rattle.lines.specs.declared.Line.{Line}
-use Rattle.lines.proofs.Lining.{line-from, start-within, start-past}
-use Rattle.lines.proofs.Starting.{line-row}
+use Rattle.lines.proofs.Lining.{line-from}
+use Rattle.lines.proofs.Starting.{starts-past}
 use Rattle.cells.specs.Cells.{kind, faulty, cut, cellsOf}
 use Rattle.cells.specs.declared.Kind.{Kind}
 use Rattle.cells.specs.declared.State.{State}
 use Rattle.cells.specs.declared.State.the-variants.{Fresh}
-use Rattle.tables.specs.declared.Edition.the-variants.{Dino21}
+use Rattle.editions.specs.declared.Edition.{Edition}
 use Rattle.tables.specs.declared.Table.{Table}
 use Rattle.tables.specs.Columns.{numbered}
 use Rattle.tables.specs.declared.Named.{Named}
@@ -136,15 +135,15 @@ module _ (k i : ℕ) (h : Header) where
   unfolding placeFrom
   place-end l = rw (drop-of-length-le h l)
 
-module _ (t : Table) (head : Bytes) where
-  pub named-faulty : (n : ℕ) → cut head ≡ faulty n → columnsNamed t head ≡ []
+module _ (ed : Edition) (t : Table) (head : Bytes) where
+  pub named-faulty : (n : ℕ) → cut ed head ≡ faulty n → columnsNamed ed t head ≡ []
   named-faulty n e = rw e
 
-  pub named-wide : 32 < length (cellsOf (cut head)) → columnsNamed t head ≡ []
-  named-wide l = let h : 32 < length (header Dino21 t (cellsOf (cut head))) = omega (arith, header-length Dino21 t (cellsOf (cut head))) in rw (lt-ltb 32 (length (header Dino21 t (cellsOf (cut head)))) h)
+  pub named-wide : 32 < length (cellsOf (cut ed head)) → columnsNamed ed t head ≡ []
+  named-wide l = let h : 32 < length (header ed t (cellsOf (cut ed head))) = omega (arith, header-length ed t (cellsOf (cut ed head))) in rw (lt-ltb 32 (length (header ed t (cellsOf (cut ed head)))) h)
 
-  pub named-few : length (cellsOf (cut head)) ≤ 32 → columnsNamed t head ≡ header Dino21 t (cellsOf (cut head))
-  named-few l = let h : length (header Dino21 t (cellsOf (cut head))) ≤ 32 = omega (arith, header-length Dino21 t (cellsOf (cut head))) in rw (le-ltb 32 (length (header Dino21 t (cellsOf (cut head)))) h)
+  pub named-few : length (cellsOf (cut ed head)) ≤ 32 → columnsNamed ed t head ≡ header ed t (cellsOf (cut ed head))
+  named-few l = let h : length (header ed t (cellsOf (cut ed head))) ≤ 32 = omega (arith, header-length ed t (cellsOf (cut ed head))) in rw (le-ltb 32 (length (header ed t (cellsOf (cut ed head)))) h)
 
 module _ (second : Bool) (k : ℕ) (named : Header) where
   pub none-found : named ≡ [] → 0 ≡ (if second then secondPlace k named else placeFrom 0 k named)
@@ -162,81 +161,83 @@ module _ (second : Bool) (k : ℕ) (named : Header) where
     pub first-found : second ≡ false → (r : ℕ) → r ≡ placeFrom 0 k (drop 0 h) → r ≡ (if second then secondPlace k named else placeFrom 0 k named)
     first-found b r g = rw (b, e) g
 
-module _ (t : Table) (head : Bytes) (number k : ℕ) where
-  pub cell-none : k ≡ 0 → 0 ≡ cellNamed t head number k
+module _ (ed : Edition) (t : Table) (head : Bytes) (number k : ℕ) where
+  pub cell-none : k ≡ 0 → 0 ≡ cellNamed ed t head number k
   unfolding cellNamed
   cell-none e = rw (eq-eqb k 0 e)
 
   module _ (some : k ≡ 0 → ⊥) where
-    pub cell-missing : number ≡ 2 → 0 ≡ cellNamed t head number k
+    pub cell-missing : number ≡ 2 → 0 ≡ cellNamed ed t head number k
     unfolding cellNamed
     cell-missing e = rw (ne-eqb k 0 some, eq-eqb number 2 e)
 
     module _ (there : number ≡ 2 → ⊥) where
-      pub cell-twice : number ≡ 3 → (r w : ℕ) → r ≡ w → w ≡ secondPlace k (columnsNamed t head) → r ≡ cellNamed t head number k
+      pub cell-twice : number ≡ 3 → (r w : ℕ) → r ≡ w → w ≡ secondPlace k (columnsNamed ed t head) → r ≡ cellNamed ed t head number k
       unfolding cellNamed
       cell-twice e r w f g = f ∙ g ∙ rw (ne-eqb k 0 some, ne-eqb number 2 there, eq-eqb number 3 e)
 
       module _ (once : number ≡ 3 → ⊥) where
-        pub cell-quoted : number ≡ 6 → k ≡ cellNamed t head number k
+        pub cell-quoted : number ≡ 6 → k ≡ cellNamed ed t head number k
         unfolding cellNamed
         cell-quoted e = rw (ne-eqb k 0 some, ne-eqb number 2 there, ne-eqb number 3 once, eq-eqb number 6 e)
 
-        pub cell-other : (number ≡ 6 → ⊥) → (r w : ℕ) → r ≡ w → w ≡ placeFrom 0 k (columnsNamed t head) → r ≡ cellNamed t head number k
+        pub cell-other : (number ≡ 6 → ⊥) → (r w : ℕ) → r ≡ w → w ≡ placeFrom 0 k (columnsNamed ed t head) → r ≡ cellNamed ed t head number k
         unfolding cellNamed
         cell-other e r w f g = f ∙ g ∙ rw (ne-eqb k 0 some, ne-eqb number 2 there, ne-eqb number 3 once, ne-eqb number 6 e)
 
 -- the line of a place --------------------------------------------------------------------------------------------------------
 
-module _ (t : Table) (s : Bytes) (p : Place) where
-  pub line-none : p .line ≡ 0 → Nothing ≡ markedOf t s p
+module _ (ed : Edition) (t : Table) (s : Bytes) (p : Place) where
+  -- no row starts on it
+  none-here : startsOn ed (p .line) 1 (lines ed s) ≡ false → Nothing ≡ markedOf ed t s p
   unfolding markedOf
-  line-none e = rw (eq-eqb (p .line) 0 e)
+  none-here e = rw e
 
-  module _ (some : p .line ≡ 0 → ⊥) where
-    last-line : lineStart (suc (p .line - 1)) s ≡ lineStart (p .line) s
-    last-line = let e : suc (p .line - 1) ≡ p .line = omega arith in rw e
+  pub line-none : p .line ≡ 0 → Nothing ≡ markedOf ed t s p
+  line-none e = none-here (starts-past ed (p .line) 1 (lines ed s) (omega arith))
 
-    pub line-past : length s ≤ lineStart (p .line) s → Nothing ≡ markedOf t s p
-    unfolding markedOf
-    line-past l = go (ltb (length (lines s)) (p .line)) refl
+  module _ (start : ℕ) (b : RowBegin ed (p .line) s start) where
+    pub line-past : length s ≤ start → Nothing ≡ markedOf ed t s p
+    line-past l = go (startsOn ed (p .line) 1 (lines ed s)) refl
       where
-        go : (b : Bool) → ltb (length (lines s)) (p .line) ≡ b → Nothing ≡ markedOf t s p
-        go true q = rw (ne-eqb (p .line) 0 some, q)
-        go false q =
-            let m : p .line ≤ length (lines s) = ltb-false (length (lines s)) (p .line) q in
-            absurd (omega (arith, start-within (p .line - 1) s (omega arith), last-line))
+        go : (q : Bool) → startsOn ed (p .line) 1 (lines ed s) ≡ q → Nothing ≡ markedOf ed t s p
+        go true e = absurd (omega (arith, b .inside e))
+        go false e = none-here e
 
-    line-here : lineStart (p .line) s < length s
-        → markedOf t s p ≡ markedOn (getD (lines s) (p .line - 1) []) (lineStart (p .line) s) (lineStart (p .line) s + length (getD (lines s) (p .line - 1) [])) (cellNamed t (headLine (lines s)) (p .number) (p .column))
-    unfolding markedOf
-    line-here l = go (ltb (length (lines s)) (p .line)) refl
-      where
-        go : (b : Bool) → ltb (length (lines s)) (p .line) ≡ b
-            → markedOf t s p ≡ markedOn (getD (lines s) (p .line - 1) []) (lineStart (p .line) s) (lineStart (p .line) s + length (getD (lines s) (p .line - 1) [])) (cellNamed t (headLine (lines s)) (p .number) (p .column))
-        go false q = rw (ne-eqb (p .line) 0 some, q)
-        go true q =
-            let m : length (lines s) < p .line = ltb-true (length (lines s)) (p .line) q in
-            absurd (omega (arith, start-past (p .line - 1) s (omega arith), last-line))
+    module _ (h : start < length s) where
+      one-here : startsOn ed (p .line) 1 (lines ed s) ≡ true
+      one-here = go (startsOn ed (p .line) 1 (lines ed s)) refl
+        where
+          go : (q : Bool) → startsOn ed (p .line) 1 (lines ed s) ≡ q → q ≡ true
+          go true e = refl
+          go false e = absurd (omega (arith, b .none e))
 
-    pub line-marked : (start cell : ℕ) (r : Line) → start ≡ lineStart (p .line) s → start < length s → r ≡ lineAt s start → cell ≡ cellNamed t (headLine (lines s)) (p .number) (p .column)
-        → markedOn (take (r .end - start) (drop start s)) start (r .end) cell ≡ markedOf t s p
-    line-marked start cell r e h f g =
-        let row : Bytes = getD (lines s) (p .line - 1) [] in
-        let q : take (r .end - start) (drop start s) ≡ row = line-row (p .line) s start r (omega arith) e f in
-        let l = line-from s start r h f in
-        let n : r .end ≡ lineStart (p .line) s + length row = omega (arith, part-length s start (r .end) (l .high), ap length q, l .low, e) in
-        ap (λ (x : Bytes). markedOn x start (r .end) cell) q
-        ∙ ap (λ (x : ℕ). markedOn row x (r .end) cell) e
-        ∙ ap (λ (x : ℕ). markedOn row (lineStart (p .line) s) x cell) n
-        ∙ ap (λ (x : ℕ). markedOn row (lineStart (p .line) s) (lineStart (p .line) s + length row) x) g
-        ∙ sym (line-here (omega arith))
+      line-here : markedOf ed t s p
+          ≡ markedOn (rowOn ed (p .line) 1 (lines ed s)) (lineStart (p .line) s) (lineStart (p .line) s + length (rowOn ed (p .line) 1 (lines ed s))) (cellNamed ed t (headLine (lines ed s)) (p .number) (p .column))
+      unfolding markedOf
+      line-here = rw one-here
 
-module _ (s : Bytes) (p : Place) (n : Named) (e : n ≡ numbered (p .table)) where
-  pub marked-known : (t : Table) → n ≡ Known t → markedOf t s p ≡ markedIn s p
+      pub line-marked : (cell : ℕ) (r : Line) → r ≡ lineAt ed s start → cell ≡ cellNamed ed t (headLine (lines ed s)) (p .number) (p .column)
+          → markedOn (take (r .end - start) (drop start s)) start (r .end) cell ≡ markedOf ed t s p
+      line-marked cell r f g =
+          let row : Bytes = rowOn ed (p .line) 1 (lines ed s) in
+          let l = line-from ed s start r h f in
+          let m = b .first one-here in
+          let z : take (r .end - start) (drop start s) ∷ lines ed (drop (r .next) s) ≡ row ∷ m .0 = sym (l .is) ∙ m .1 in
+          let q : take (r .end - start) (drop start s) ≡ row = cc in
+          let e : start ≡ lineStart (p .line) s = b .start one-here in
+          let n : r .end ≡ lineStart (p .line) s + length row = omega (arith, part-length s start (r .end) (l .high), ap length q, l .low, e) in
+          ap (λ (x : Bytes). markedOn x start (r .end) cell) q
+          ∙ ap (λ (x : ℕ). markedOn row x (r .end) cell) e
+          ∙ ap (λ (x : ℕ). markedOn row (lineStart (p .line) s) x cell) n
+          ∙ ap (λ (x : ℕ). markedOn row (lineStart (p .line) s) (lineStart (p .line) s + length row) x) g
+          ∙ sym line-here
+
+module _ (ed : Edition) (s : Bytes) (p : Place) (n : Named) (e : n ≡ numbered (p .table)) where
+  pub marked-known : (t : Table) → n ≡ Known t → markedOf ed t s p ≡ markedIn ed s p
   unfolding markedIn
-  marked-known t g = ap (λ (z : Named). markedBy z s p) (sym g ∙ e)
+  marked-known t g = ap (λ (z : Named). markedBy ed z s p) (sym g ∙ e)
 
-  pub marked-unknown : n ≡ Unknown → Nothing ≡ markedIn s p
+  pub marked-unknown : n ≡ Unknown → Nothing ≡ markedIn ed s p
   unfolding markedIn
-  marked-unknown g = ap (λ (z : Named). markedBy z s p) (sym g ∙ e)
+  marked-unknown g = ap (λ (z : Named). markedBy ed z s p) (sym g ∙ e)

@@ -1,18 +1,18 @@
 -- Where a place of refusal stands in its table's text, for a person's eye: the line, and the cell on it.
-use mathlib.Core.Bool.{Bool, true, false, _||_}
+use mathlib.Core.Bool.{Bool, true, false}
 use mathlib.Core.Path.{_≡_}
 use mathlib.Core.List.{[], _∷_}
 use Prim.Native.Nat.{ℕ, suc, zero, _-_, _+_}
-use lib.ListN.{drop, take, length, getD}
+use lib.ListN.{drop, take, length}
 use lib.Dec.{eqb, ltb}
 use Rattle.words.specs.Words.{Bytes, if_then_else_}
 use Rattle.refusals.specs.declared.Place.{Place}
-use Rattle.lines.specs.Lines.{lines, headLine, lineStart}
+use Rattle.lines.specs.Lines.{lines, headLine, startsOn, rowOn, lineStart}
 use Rattle.cells.specs.declared.State.{State}
 use Rattle.cells.specs.declared.State.the-variants.{Fresh, Plain, Inside, Closed, Over, Fault}
 use Rattle.cells.specs.Cells.{next, kind, cut, cellsOf}
 use Rattle.cells.specs.declared.Kind.{Kind}
-use Rattle.tables.specs.declared.Edition.the-variants.{Dino21}
+use Rattle.editions.specs.declared.Edition.{Edition}
 use Rattle.tables.specs.declared.Table.{Table}
 use Rattle.tables.specs.declared.Named.{Named}
 use Rattle.tables.specs.declared.Named.the-variants.{Known, Unknown}
@@ -87,8 +87,8 @@ numberedCell n line = if eqb n 0 then [] else take (cellEnd n line - cellBegin n
 -- the cell that a place names ----------------------------------------------------------------------------------------------
 
 -- the columns that a header's cells name; "more than 32 header cells" are not looked at
-abbrev pub columnsNamed : Table → Bytes → Header
-columnsNamed t head = if ltb mostCells (length (header Dino21 t (cellsOf (cut head)))) then [] else header Dino21 t (cellsOf (cut head))
+abbrev pub columnsNamed : Edition → Table → Bytes → Header
+columnsNamed e t head = if ltb mostCells (length (header e t (cellsOf (cut e head)))) then [] else header e t (cellsOf (cut e head))
 
 -- the second cell that names a column, 0 where there is none
 abbrev pub secondPlace : ℕ → Header → ℕ
@@ -96,13 +96,13 @@ secondPlace k h = placeFrom (placeFrom 0 k h) k (drop (placeFrom 0 k h) h)
 
 -- the cell, counted from 1, of a number of refusal and a column; 0 where it is of no cell. 2, a column that is missing, has none; 3, a column
 -- that comes twice, is of the second one; 6 names the "cell counted from 1"; any other the column by its number
-unfoldable pub cellNamed : Table → Bytes → ℕ → ℕ → ℕ
-cellNamed t head number k =
+unfoldable pub cellNamed : Edition → Table → Bytes → ℕ → ℕ → ℕ
+cellNamed e t head number k =
     if eqb k 0 then 0
     else if eqb number 2 then 0
-    else if eqb number 3 then secondPlace k (columnsNamed t head)
+    else if eqb number 3 then secondPlace k (columnsNamed e t head)
     else if eqb number 6 then k
-    else placeFrom 0 k (columnsNamed t head)
+    else placeFrom 0 k (columnsNamed e t head)
 
 -- the mark -----------------------------------------------------------------------------------------------------------------
 
@@ -112,24 +112,25 @@ markedOn line start end cell =
     if eqb cell 0 then Line start end
     else Cell start end (cellBegin cell line) (cellEnd cell line)
 
--- nothing where the place names no line, or one that the text does not have
-unfoldable pub markedOf : Table → Bytes → Place → Mark
-markedOf t s p =
-    let line = getD (lines s) (p .line - 1) [] in
-    if eqb (p .line) 0 || ltb (length (lines s)) (p .line) then Nothing
-    else markedOn line (lineStart (p .line) s) (lineStart (p .line) s + length line) (cellNamed t (headLine (lines s)) (p .number) (p .column))
+-- the header or the row that starts on the place's line; nothing where the place names no line, or one on which none starts
+unfoldable pub markedOf : Edition → Table → Bytes → Place → Mark
+markedOf e t s p =
+    let line = rowOn e (p .line) 1 (lines e s) in
+    if startsOn e (p .line) 1 (lines e s)
+    then markedOn line (lineStart (p .line) s) (lineStart (p .line) s + length line) (cellNamed e t (headLine (lines e s)) (p .number) (p .column))
+    else Nothing
 
-abbrev pub markedBy : Named → Bytes → Place → Mark
-markedBy (Known t) s p = markedOf t s p
-markedBy Unknown s p = Nothing
+abbrev pub markedBy : Edition → Named → Bytes → Place → Mark
+markedBy e (Known t) s p = markedOf e t s p
+markedBy e Unknown s p = Nothing
 
--- what is marked of a table's text for a place in it
-unfoldable pub markedIn : Bytes → Place → Mark
-markedIn s p = markedBy (numbered (p .table)) s p
+-- what is marked of a table's text, by its edition, for a place in it
+unfoldable pub markedIn : Edition → Bytes → Place → Mark
+markedIn e s p = markedBy e (numbered (p .table)) s p
 
 -- what the contracts of `marked` and `cell_numbered` permit: one mark, and one cell
-abbrev pub MarkPermits : Bytes → Place → Mark → Type 0
-MarkPermits s p m = m ≡ markedIn s p
+abbrev pub MarkPermits : Edition → Bytes → Place → Mark → Type 0
+MarkPermits e s p m = m ≡ markedIn e s p
 
 abbrev pub NumberedPermits : ℕ → Bytes → Bytes → Type 0
 NumberedPermits n line part = part ≡ numberedCell n line

@@ -11,15 +11,15 @@ ghost use Rattle.fault_mark.specs.Marks.{past, over, resumed, sizeFrom, 
 use cells::Answer;
 use cells::Kind;
 use cells::State;
+use editions::Edition;
 use header::BOUNDS;
 use header::MOST_CELLS;
 use refusals::Place;
-use tables::Edition;
 use tables::Named;
 use tables::Table;
 
-// What is marked of a text: nothing, or a line from start to end, or such a line and a cell on it, which begins and ends so many bytes behind the
-// line's start.
+// What is marked of a text: nothing, or a line from start to end, by 2.3 with the breaks in it, or such a line and a cell on it, which begins and
+// ends so many bytes behind the line's start.
 pub enum Mark {
     Nothing,
     Line {
@@ -162,6 +162,7 @@ fn cell_begin(line: &[u8], others: u64) -> usize
 
 // The first cell of a header, behind some, that names a column, counted from 1; 0 where there is none.
 fn named_behind(
+    edition: Edition,
     head: &[u8],
     bounds: &[usize],
     cells: usize,
@@ -169,15 +170,15 @@ fn named_behind(
     column: u64,
     behind: usize,
 ) -> usize
-    requires { ⌜ MarksOf (now head) (now bounds) cells ⌝ }
-    ensures { λ r. ⌜ r ≡ placeFrom behind column (drop behind (header Edition.Dino21 t (cellsOf (cut (now (head .entry)))))) ⌝ }
+    requires { ⌜ MarksOf edition (now head) (now bounds) cells ⌝ }
+    ensures { λ r. ⌜ r ≡ placeFrom behind column (drop behind (header edition t (cellsOf (cut edition (now (head .entry)))))) ⌝ }
 {
     let mut i = behind;
     'names: while i < cells {
         let named = column_names::column_of(
-            Edition::Dino21,
+            edition,
             t,
-            contents::stretch_of(cells::cell_of(head, bounds, cells, i + 1)),
+            contents::stretch_of(cells::cell_of(edition, head, bounds, cells, i + 1)),
         );
         if header::wide(named) == column {
             return i + 1;
@@ -188,20 +189,20 @@ fn named_behind(
 }
 
 // The cell of a header that names a column, the first or the second one.
-fn named_cell(head: &[u8], t: Table, column: u64, second: bool) -> usize
-    ensures { λ r. ⌜ r ≡ (if second then secondPlace column (columnsNamed t (now (head .entry))) else placeFrom 0 column (columnsNamed t (now (head .entry)))) ⌝ }
+fn named_cell(edition: Edition, head: &[u8], t: Table, column: u64, second: bool) -> usize
+    ensures { λ r. ⌜ r ≡ (if second then secondPlace column (columnsNamed edition t (now (head .entry))) else placeFrom 0 column (columnsNamed edition t (now (head .entry)))) ⌝ }
 {
     let mut bounds = [0usize; BOUNDS];
-    let answer = cells::cells_of(head, &mut bounds);
+    let answer = cells::cells_of(edition, head, &mut bounds);
     match answer {
         Answer::Bad(_) => 0,
         Answer::Good(cells) => {
             if MOST_CELLS < cells {
                 return 0;
             }
-            let first = named_behind(head, &bounds, cells, t, column, 0);
+            let first = named_behind(edition, head, &bounds, cells, t, column, 0);
             if second {
-                return named_behind(head, &bounds, cells, t, column, first);
+                return named_behind(edition, head, &bounds, cells, t, column, first);
             }
             first
         }
@@ -209,8 +210,8 @@ fn named_cell(head: &[u8], t: Table, column: u64, second: bool) -> usize
 }
 
 // The cell that a fault is of, counted from 1; 0 where it is of none.
-fn faulty_cell(head: &[u8], t: Table, number: u64, column: u64) -> u64
-    ensures { λ r. ⌜ r ≡ cellNamed t (now (head .entry)) number column ⌝ }
+fn faulty_cell(edition: Edition, head: &[u8], t: Table, number: u64, column: u64) -> u64
+    ensures { λ r. ⌜ r ≡ cellNamed edition t (now (head .entry)) number column ⌝ }
 {
     if column == 0 {
         return 0;
@@ -219,12 +220,12 @@ fn faulty_cell(head: &[u8], t: Table, number: u64, column: u64) -> u64
         return 0;
     }
     if number == Place::COLUMN_TWICE {
-        return header::wide(named_cell(head, t, column, true));
+        return header::wide(named_cell(edition, head, t, column, true));
     }
     if number == Place::QUOTE_FAULT {
         return column;
     }
-    header::wide(named_cell(head, t, column, false))
+    header::wide(named_cell(edition, head, t, column, false))
 }
 
 // The cell of that number on a line, counted from 1; an empty part of it where there is none.
@@ -255,31 +256,31 @@ fn marked_cell(line: &[u8], start: usize, end: usize, cell: u64) -> Mark
     }
 }
 
-fn marked_line(text: &[u8], t: Table, place: Place) -> Mark
-    ensures { λ r. ⌜ r ≡ markedOf t (now (text .entry)) place ⌝ }
+fn marked_line(edition: Edition, text: &[u8], t: Table, place: Place) -> Mark
+    ensures { λ r. ⌜ r ≡ markedOf edition t (now (text .entry)) place ⌝ }
 {
     if place.line == 0 {
         return Mark::Nothing;
     }
-    let start = lines::line_begin(text, place.line);
+    let start = lines::row_begin(edition, text, place.line);
     if text.len() <= start {
         return Mark::Nothing;
     }
-    let head = lines::next_line(text, 0);
+    let head = lines::next_line(edition, text, 0);
     let head_end = head.end;
-    let cell = faulty_cell(&text[0..head_end], t, place.number, place.column);
-    let line = lines::next_line(text, start);
+    let cell = faulty_cell(edition, &text[0..head_end], t, place.number, place.column);
+    let line = lines::next_line(edition, text, start);
     let end = line.end;
     marked_cell(&text[start..end], start, end, cell)
 }
 
-// What is marked of a table's text for a place in it.
-pub fn marked(text: &[u8], place: Place) -> Mark
-    ensures { λ r. ⌜ MarkPermits (now (text .entry)) place r ⌝ }
+// What is marked of a table's text, by its edition, for a place in it.
+pub fn marked(edition: Edition, text: &[u8], place: Place) -> Mark
+    ensures { λ r. ⌜ MarkPermits edition (now (text .entry)) place r ⌝ }
 {
     let named = Table::numbered(place.table);
     match named {
-        Named::Known(t) => marked_line(text, t, place),
+        Named::Known(t) => marked_line(edition, text, t, place),
         Named::Unknown => Mark::Nothing,
     }
 }

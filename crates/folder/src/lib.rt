@@ -3,14 +3,15 @@ ghost use Rattle.folder.specs.Folder.{DayOfTexts};
 use refusals::Verdict;
 use rows::Row;
 
-// The delivery of the working folder and then its slip; a file that cannot be opened counts as empty.
-pub fn day(book: &mut [Row], work: &mut [Row]) -> Verdict
-    ensures { λ r. ⌜ DayOfTexts r (now (book .entry)) (now (book .exit)) (now (work .entry)) (now (work .exit)) ⌝ }
+// The delivery of the working folder by an edition, and then its slip; a file that cannot be opened counts as empty.
+pub fn day(edition: u64, book: &mut [Row], work: &mut [Row]) -> Verdict
+    ensures { λ r. ⌜ DayOfTexts edition r (now (book .entry)) (now (book .exit)) (now (work .entry)) (now (work .exit)) ⌝ }
 {
     let mut room = [0u8; files::ROOM];
     let n = files::load_delivery(&mut room, false);
     let slip = files::load_slip(&mut room);
     day::day(
+        edition,
         files::text(&room, files::VEHICLE_TYPE, n.types),
         files::text(&room, files::DEPOT, n.depots),
         files::text(&room, files::STOP, n.stops),

@@ -17,13 +17,13 @@ use Rattle.refusals.specs.declared.Check.the-variants.{Passes, Fails}
 use Rattle.lines.specs.Lines.{longLine}
 use Rattle.cells.specs.Cells.{content, stretch, cut, cellsOf}
 use Rattle.cells.specs.Numbered.{cellNumbered}
-use Rattle.tables.specs.declared.Edition.{Edition}
+use Rattle.editions.specs.declared.Edition.{Edition}
 use Rattle.tables.specs.Columns.{Column, noColumn, columnNumber}
 use Rattle.tables.specs.declared.Table.{Table}
 use Rattle.tables.proofs.Figures.{columns-few}
 use Rattle.tables.proofs.Names.{column-number-most}
-use Rattle.header.specs.Header.{member, Header, repeated, placeFrom, missingFrom, missing, header, badCut, mostCells, headerCheck}
-use Rattle.header.specs.Heading.{placesFrom, mostColumns, headerPlaces, places, lineCheck, namesCheck, headed, heading}
+use Rattle.header.specs.Header.{member, Header, repeated, placeFrom, missingFrom, missing, header, badCut, lineCheck, mostCells, headerCheck}
+use Rattle.header.specs.Heading.{placesFrom, mostColumns, headerPlaces, places, namesCheck, headed, heading}
 use Rattle.header.specs.declared.Heading.{Heading}
 use Rattle.header.proofs.Cutting.{check-order}
 use Rattle.header.proofs.Quoting.{number-of-content}
@@ -232,32 +232,32 @@ names-kept ed t h at e g p = rw (names-pass ed t h e g, p)
 
 module _ (ed : Edition) (t : Table) (line : Bytes) where
   -- 4, 3, 2 come behind 17 and 6
-  header-behind : headerCheck ed t line ≡ lineCheck line ⊳ (tooManyCells when ltb mostCells (length (header ed t (cellsOf (cut line)))) ⊳ namesCheck ed t (header ed t (cellsOf (cut line))))
+  header-behind : headerCheck ed t line ≡ lineCheck ed line ⊳ (tooManyCells when ltb mostCells (length (header ed t (cellsOf (cut ed line)))) ⊳ namesCheck ed t (header ed t (cellsOf (cut ed line))))
   unfolding headerCheck
-  header-behind = sym (check-order (lineTooLong when longLine line) (badCut (cut line)) (tooManyCells when ltb mostCells (length (header ed t (cellsOf (cut line)))) ⊳ namesCheck ed t (header ed t (cellsOf (cut line)))))
+  header-behind = sym (check-order (lineTooLong when longLine line) (badCut (cut ed line)) (tooManyCells when ltb mostCells (length (header ed t (cellsOf (cut ed line)))) ⊳ namesCheck ed t (header ed t (cellsOf (cut ed line)))))
 
-  pub header-refused : (n k : ℕ) → lineCheck line ≡ Fails n k → headerCheck ed t line ≡ Fails n k
+  pub header-refused : (n k : ℕ) → lineCheck ed line ≡ Fails n k → headerCheck ed t line ≡ Fails n k
   header-refused n k e = header-behind ∙ rw e
 
-  module _ (e : lineCheck line ≡ Passes) where
-    pub header-wide : mostCells < length (cellsOf (cut line)) → headerCheck ed t line ≡ tooManyCells
-    header-wide l = header-behind ∙ rw (e, header-length ed t (cellsOf (cut line)), lt-ltb mostCells (length (cellsOf (cut line))) l)
+  module _ (e : lineCheck ed line ≡ Passes) where
+    pub header-wide : mostCells < length (cellsOf (cut ed line)) → headerCheck ed t line ≡ tooManyCells
+    header-wide l = header-behind ∙ rw (e, header-length ed t (cellsOf (cut ed line)), lt-ltb mostCells (length (cellsOf (cut ed line))) l)
 
-    pub header-names : length (cellsOf (cut line)) ≤ mostCells → headerCheck ed t line ≡ namesCheck ed t (header ed t (cellsOf (cut line)))
-    header-names l = header-behind ∙ rw (e, header-length ed t (cellsOf (cut line)), le-ltb mostCells (length (cellsOf (cut line))) l)
+    pub header-names : length (cellsOf (cut ed line)) ≤ mostCells → headerCheck ed t line ≡ namesCheck ed t (header ed t (cellsOf (cut ed line)))
+    header-names l = header-behind ∙ rw (e, header-length ed t (cellsOf (cut ed line)), le-ltb mostCells (length (cellsOf (cut ed line))) l)
 
   -- a header that passes has at most `mostCells`
-  pub header-few : headerCheck ed t line ≡ Passes → length (cellsOf (cut line)) ≤ mostCells
-  header-few p = go (lineCheck line) refl (ltb mostCells (length (cellsOf (cut line)))) refl
+  pub header-few : headerCheck ed t line ≡ Passes → length (cellsOf (cut ed line)) ≤ mostCells
+  header-few p = go (lineCheck ed line) refl (ltb mostCells (length (cellsOf (cut ed line)))) refl
     where
-      never : headerCheck ed t line ≡ Passes → (n k : ℕ) → headerCheck ed t line ≡ Fails n k → length (cellsOf (cut line)) ≤ mostCells
+      never : headerCheck ed t line ≡ Passes → (n k : ℕ) → headerCheck ed t line ≡ Fails n k → length (cellsOf (cut ed line)) ≤ mostCells
       never q n k f = let z : _≡_ {A = ℕ} 0 1 = cc in absurd (let y : ⊥ = omega arith in y)
 
-      go : (c : Check) → lineCheck line ≡ c → (b : Bool) → ltb mostCells (length (cellsOf (cut line))) ≡ b → length (cellsOf (cut line)) ≤ mostCells
+      go : (c : Check) → lineCheck ed line ≡ c → (b : Bool) → ltb mostCells (length (cellsOf (cut ed line))) ≡ b → length (cellsOf (cut ed line)) ≤ mostCells
       go (Fails n k) e b q = never p n k (header-refused n k e)
-      go Passes e false q = ltb-false mostCells (length (cellsOf (cut line))) q
-      go Passes e true q = never p 4 0 (header-wide e (ltb-true mostCells (length (cellsOf (cut line))) q))
+      go Passes e false q = ltb-false mostCells (length (cellsOf (cut ed line))) q
+      go Passes e true q = never p 4 0 (header-wide e (ltb-true mostCells (length (cellsOf (cut ed line))) q))
 
 -- what is kept of a header that passes
-pub heading-kept : (ed : Edition) (t : Table) (line : Bytes) → headerCheck ed t line ≡ Passes → heading ed t line .at ≡ places (header ed t (cellsOf (cut line)))
+pub heading-kept : (ed : Edition) (t : Table) (line : Bytes) → headerCheck ed t line ≡ Passes → heading ed t line .at ≡ places (header ed t (cellsOf (cut ed line)))
 heading-kept ed t line p = rw p

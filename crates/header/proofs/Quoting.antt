@@ -9,7 +9,7 @@ use borrow.Author.Tests.{eqb-true, not-true}
 use Rattle.words.specs.Words.{Bytes, same, if_then_else_}
 use Rattle.words.proofs.Lists.{and-left, and-right, every}
 use Rattle.cells.specs.Cells.{once, quoted, stretch, content}
-use Rattle.tables.specs.declared.Edition.{Edition}
+use Rattle.editions.specs.declared.Edition.{Edition}
 use Rattle.tables.specs.Columns.{Column, columnFrom, columnsOf, columnNumber}
 use Rattle.tables.specs.declared.Table.{Table}
 use Rattle.tables.proofs.Names.{quoteless, unquoted, all-unquoted}

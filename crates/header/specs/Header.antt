@@ -10,7 +10,7 @@ use Rattle.refusals.specs.declared.Check.{Check}
 use Rattle.refusals.specs.declared.Verdict.{Verdict}
 use Rattle.lines.specs.Lines.{lines, headLine, overlong, longLine}
 use Rattle.cells.specs.Cells.{content, Cut, faultyCell, cellsOf, cut}
-use Rattle.tables.specs.declared.Edition.{Edition}
+use Rattle.editions.specs.declared.Edition.{Edition}
 use Rattle.tables.specs.Columns.{columnNumber, Column, columnsOf, number}
 use Rattle.tables.specs.declared.Table.{Table}
 
@@ -42,12 +42,16 @@ missing e t h = missingFrom 1 (columnsOf e t) h
 abbrev pub badCut : Cut → Check
 badCut u = quoteFault (faultyCell u) when ltb 0 (faultyCell u)
 
+-- 17, then 6, of any line of a table
+abbrev pub lineCheck : Edition → Bytes → Check
+lineCheck e line = lineTooLong when longLine line ⊳ badCut (cut e line)
+
 -- 17, 6, and 7, "cell count differs from header", of a line behind the header
-abbrev pub cutCheck : Header → Bytes → Check
-cutCheck h line =
+abbrev pub cutCheck : Edition → Header → Bytes → Check
+cutCheck e h line =
     lineTooLong when longLine line
-    ⊳ badCut (cut line)
-    ⊳ cellCount when not (eqb (length (cellsOf (cut line))) (length h))
+    ⊳ badCut (cut e line)
+    ⊳ cellCount when not (eqb (length (cellsOf (cut e line))) (length h))
 
 -- 4: "more than 32 header cells"
 abbrev pub mostCells : ℕ
@@ -56,7 +60,7 @@ mostCells = 32
 -- "header 6, 4, 3, 2", and 17 "first among header and line checks"
 unfoldable pub headerCheck : Edition → Table → Bytes → Check
 headerCheck e t line =
-    let u = cut line in
+    let u = cut e line in
     let h = header e t (cellsOf u) in
     lineTooLong when longLine line
     ⊳ badCut u
@@ -86,13 +90,13 @@ contents e t h cs = contentsFrom 1 (columnsOf e t) h cs
 
 -- the header of a text
 abbrev pub headerOf : Edition → Table → Bytes → Header
-headerOf e t s = header e t (cellsOf (cut (headLine (lines s))))
+headerOf e t s = header e t (cellsOf (cut e (headLine (lines e s))))
 
 -- "in each 1; header", 17, "6, 4, 3, 2": what is judged before the rows
 abbrev pub topFaults : Edition → Table → Bytes → Verdict
 topFaults e t s =
     inText (number t) (textTooLong when overlong s)
-    before inHeader (number t) (headerCheck e t (headLine (lines s)))
+    before inHeader (number t) (headerCheck e t (headLine (lines e s)))
 
 -- the cell of column k, counted from 1, behind i cells; 0 where there is none
 unfoldable pub placeFrom : ℕ → ℕ → Header → ℕ

@@ -8,14 +8,13 @@ use lib.Dec.{ltb}
 use Rattle.words.specs.Words.{Bytes}
 use Rattle.refusals.specs.declared.Check.{Check}
 use Rattle.refusals.specs.declared.Check.the-variants.{Passes, Fails}
-use Rattle.refusals.specs.Verdicts.{_⊳_, _when_, columnMissing, columnTwice, lineTooLong}
-use Rattle.lines.specs.Lines.{longLine}
+use Rattle.refusals.specs.Verdicts.{_⊳_, _when_, columnMissing, columnTwice}
 use Rattle.cells.specs.Cells.{cut, cellsOf}
 use Rattle.cells.specs.Numbered.{MarksOf}
-use Rattle.tables.specs.declared.Edition.{Edition}
+use Rattle.editions.specs.declared.Edition.{Edition}
 use Rattle.tables.specs.Listing.{columnRoom}
 use Rattle.tables.specs.declared.Table.{Table}
-use Rattle.header.specs.Header.{Header, placeFrom, header, badCut, headerCheck, repeated, missing}
+use Rattle.header.specs.Header.{Header, placeFrom, header, lineCheck, headerCheck, repeated, missing}
 use Rattle.header.specs.declared.CutLine.{CutLine}
 use Rattle.header.specs.declared.Heading.{Heading}
 use Rattle.header.specs.declared.Noted.{Noted}
@@ -46,22 +45,18 @@ headed Passes h = record { check = Passes; at = places h }
 headed (Fails n k) h = record { check = Fails n k; at = replicate headerPlaces 0 }
 
 abbrev pub heading : Edition → Table → Bytes → Heading
-heading e t line = headed (headerCheck e t line) (header e t (cellsOf (cut line)))
+heading e t line = headed (headerCheck e t line) (header e t (cellsOf (cut e line)))
 
 -- the names of a header: the column that comes twice, and the places where none does
 pub record NamesOf (h : Header) (names : Noted) : Type 0 where
   pub twice : names .twice ≡ repeated [] h
   pub noted : names .twice ≡ 0 → names .at ≡ places h
 
--- 17, then 6, of any line of a table
-abbrev pub lineCheck : Bytes → Check
-lineCheck line = lineTooLong when longLine line ⊳ badCut (cut line)
-
 -- a line cut into its cells: how many they are, and their bounds where there is room for them
-pub record LineCut (line : Bytes) (bounds : List ℕ) (c : CutLine) : Type 0 where
-  pub is : c .check ≡ lineCheck line
-  pub counted : c .check ≡ Passes → length (cellsOf (cut line)) ≡ c .cells
-  pub marks : c .check ≡ Passes → c .cells < length bounds → MarksOf line bounds (c .cells)
+pub record LineCut (e : Edition) (line : Bytes) (bounds : List ℕ) (c : CutLine) : Type 0 where
+  pub is : c .check ≡ lineCheck e line
+  pub counted : c .check ≡ Passes → length (cellsOf (cut e line)) ≡ c .cells
+  pub marks : c .check ≡ Passes → c .cells < length bounds → MarksOf e line bounds (c .cells)
 
 -- 3, then 2, of a header's names
 abbrev pub namesCheck : Edition → Table → Header → Check

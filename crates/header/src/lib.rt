@@ -13,6 +13,7 @@ ghost use Rattle.header.specs.Heading.{headed, headerPlaces, places, Lin
 ghost use Rattle.header.specs.Header.{missing, header};
 ghost use Rattle.header.specs.Top.{TopOf};
 use cells::Answer;
+use editions::Edition;
 use lines::MOST_BYTES;
 use lines::MOST_LINE;
 use refusals::Check;
@@ -20,7 +21,6 @@ use refusals::Place;
 use refusals::Verdict;
 use tables::COLUMN_ROOM;
 use tables::Columns;
-use tables::Edition;
 use tables::Table;
 
 // What is kept of a header: at place 0 how many cells it has, and at the place of each column the cell that names it, counted from 1, or 0.
@@ -44,11 +44,13 @@ pub struct Heading {
     pub at: Places,
 }
 
-// The top of a table's text: what is judged before its rows, what is kept of the header, and where the rows begin.
+// The top of a table's text: what is judged before its rows, what is kept of the header, where the rows begin, and on which line the
+// first one starts.
 pub struct Top {
     pub verdict: Verdict,
     pub at: Places,
     pub next: usize,
+    pub line: u64,
 }
 
 // The most cells that a header has, and room for their bounds.
@@ -127,8 +129,8 @@ fn lowest_missing(edition: Edition, t: Table, columns: &Columns, at: &Places) ->
 
 // The names of a header from left to right, up to a known column that comes again.
 fn note_names(line: &[u8], bounds: &[usize], cells: usize, edition: Edition, t: Table) -> Noted
-    requires { ⌜ MarksOf (now line) (now bounds) cells ⌝ }
-    ensures { λ r. ⌜ NamesOf (header edition t (cellsOf (cut (now (line .entry))))) r ⌝ }
+    requires { ⌜ MarksOf edition (now line) (now bounds) cells ⌝ }
+    ensures { λ r. ⌜ NamesOf (header edition t (cellsOf (cut edition (now (line .entry))))) r ⌝ }
 {
     let mut at = NO_PLACES;
     at[0] = cells;
@@ -138,7 +140,7 @@ fn note_names(line: &[u8], bounds: &[usize], cells: usize, edition: Edition, t: 
         let column = column_names::column_of(
             edition,
             t,
-            contents::stretch_of(cells::cell_of(line, bounds, cells, i + 1)),
+            contents::stretch_of(cells::cell_of(edition, line, bounds, cells, i + 1)),
         );
         if comes_again(&at, column) {
             twice = column;
@@ -160,8 +162,8 @@ fn map_names(
     t: Table,
     columns: &Columns,
 ) -> Heading
-    requires { ⌜ MarksOf (now line) (now bounds) cells × (now columns ≡ listed edition t) ⌝ }
-    ensures { λ r. ⌜ r ≡ headed (namesCheck edition t (header edition t (cellsOf (cut (now (line .entry)))))) (header edition t (cellsOf (cut (now (line .entry))))) ⌝ }
+    requires { ⌜ MarksOf edition (now line) (now bounds) cells × (now columns ≡ listed edition t) ⌝ }
+    ensures { λ r. ⌜ r ≡ headed (namesCheck edition t (header edition t (cellsOf (cut edition (now (line .entry)))))) (header edition t (cellsOf (cut edition (now (line .entry))))) ⌝ }
 {
     let names = note_names(line, bounds, cells, edition, t);
     let twice = names.twice;
@@ -180,8 +182,8 @@ fn map_names(
 }
 
 // 17 and 6, of any line of a table. The bounds of its cells are kept where the caller has room for them.
-pub fn cut_line(line: &[u8], bounds: &mut [usize]) -> CutLine
-    ensures { λ r. ⌜ LineCut (now (line .entry)) (now (bounds .exit)) r ⌝ }
+pub fn cut_line(edition: Edition, line: &[u8], bounds: &mut [usize]) -> CutLine
+    ensures { λ r. ⌜ LineCut edition (now (line .entry)) (now (bounds .exit)) r ⌝ }
 {
     if MOST_LINE < line.len() {
         return CutLine {
@@ -189,7 +191,7 @@ pub fn cut_line(line: &[u8], bounds: &mut [usize]) -> CutLine
             cells: 0,
         };
     }
-    let answer = cells::cells_of(line, bounds);
+    let answer = cells::cells_of(edition, line, bounds);
     match answer {
         Answer::Bad(cell) => CutLine {
             check: Check::quote_fault(wide(cell)),
@@ -208,7 +210,7 @@ pub fn read_header(line: &[u8], edition: Edition, t: Table, columns: &Columns) -
     ensures { λ r. ⌜ r ≡ heading edition t (now (line .entry)) ⌝ }
 {
     let mut bounds = [0usize; BOUNDS];
-    let cut = cut_line(line, &mut bounds);
+    let cut = cut_line(edition, line, &mut bounds);
     let check = cut.check;
     let cells = cut.cells;
     match check {
@@ -236,14 +238,21 @@ pub fn read_top(bytes: &[u8], edition: Edition, t: Table, columns: &Columns) -> 
             verdict,
             at: NO_PLACES,
             next: 0,
+            line: 0,
         };
     }
-    let l = lines::next_line(bytes, 0);
+    let l = lines::next_line(edition, bytes, 0);
     let end = l.end;
     let next = l.next;
     let heading = read_header(&bytes[0..end], edition, t, columns);
     let check = heading.check;
     let at = heading.at;
     let verdict = check.on(t.number(), Place::HEADER_LINE);
-    Top { verdict, at, next }
+    let line = lines::line_after(edition, Place::HEADER_LINE, &bytes[0..end]);
+    Top {
+        verdict,
+        at,
+        next,
+        line,
+    }
 }

@@ -6,27 +6,28 @@ use Prim.Native.Nat.{ℕ, _-_, _≤_, suc, _+_, _<_, zero}
 use native.Mathlib.Omega.{arith}
 use lib.ListN.{drop, replicate, length, take, take-append-drop, getD, drop-of-length-le}
 use lib.Seq.{length-take-le, getD-take}
-use lib.Dec.{eqb, leb}
+use lib.Dec.{eqb, leb, lit≤}
 use borrow.Author.Tests.{eq-eqb, ne-eqb, lt-leb, le-leb, eqb-true}
 use Rattle.words.specs.Words.{Row, same, all}
-use Rattle.words.proofs.Lists.{drop-step, and-left, and-right}
+use Rattle.words.proofs.Lists.{drop-step, and-left, and-right, same-refl, same-true}
 use Rattle.refusals.specs.Verdicts.{passes}
-use Rattle.rows.specs.Rows.{wide, rising}
+use Rattle.rows.specs.Rows.{wide, rising, column}
 use Rattle.rows.specs.Room.{filled, used, sameRows}
 use Rattle.rows.specs.Spots.{Holds, holds}
 use Rattle.rows.proofs.Room.{used-within, true-holds, holds-true, sameRows-refl, sameRows-true}
-use Rattle.tables.specs.declared.Edition.the-variants.{Dino21}
+use Rattle.editions.specs.declared.Edition.{Edition}
+use Rattle.editions.specs.declared.Edition.the-variants.{Dino21, Dino23}
 use Rattle.tables.specs.Columns.{inRange, columnsOf, keptWidth, Column, columnAt, noColumn, keyWidth}
 use Rattle.tables.specs.declared.Rules.{Rules}
 use Rattle.tables.specs.declared.Table.{Table}
-use Rattle.tables.specs.Parts.{partOf, tables, room, bookRows}
+use Rattle.tables.specs.Parts.{partOf, tables, room, bookRows, marksAt}
 use Rattle.tables.specs.declared.Table.the-variants.{Block}
 use Rattle.tables.proofs.Figures.{kept-columns, kept-few, part-below}
 use Rattle.tables.proofs.Parts.{in-order}
 use Rattle.book.specs.Book.{Book, rows}
-use Rattle.book.specs.Room.{laid, part, bookOf}
+use Rattle.book.specs.Room.{laid, part, bookOf, mark, marks, editionOf}
 use Rattle.book.specs.Holding.{Sound}
-use Rattle.book.proofs.Laying.{length-part, rows-part, part-laid, Orderly, orderly-book, laid-book}
+use Rattle.book.proofs.Laying.{length-part, rows-part, part-laid, marks-laid, Orderly, orderly-book, laid-book}
 use Rattle.rules.specs.Rules.{timeFault, unknown}
 use Rattle.keeping.specs.Keeping.{ranged, lawful, lawfulTable, lawfulBook, keepsRule}
 
@@ -76,30 +77,30 @@ range-below x n h = rw (lt-leb (x .low) n h)
 pub range-from : (x : Rules) (n : ℕ) → x .low ≤ n → inRange x n ≡ leb n (x .high)
 range-from x n h = rw (le-leb (x .low) n h)
 
-abbrev pub rangedFrom : ℕ → Table → Row → Bool
-rangedFrom i t row = ranged (drop i (columnsOf Dino21 t)) (drop i (take (keptWidth t) row))
+abbrev pub rangedFrom : Edition → ℕ → Table → Row → Bool
+rangedFrom e i t row = ranged (drop i (columnsOf e t)) (drop i (take (keptWidth t) row))
 
-module _ (t : Table) (row : Row) (long : length row ≡ 11) (i : ℕ) where
-  ranged-step : i < keptWidth t → rangedFrom i t row ≡ (inRange (columnAt Dino21 t i .rules) (getD row i 0) && rangedFrom (i + 1) t row)
+module _ (e : Edition) (t : Table) (row : Row) (long : length row ≡ 11) (i : ℕ) where
+  ranged-step : i < keptWidth t → rangedFrom e i t row ≡ (inRange (columnAt e t i .rules) (getD row i 0) && rangedFrom e (i + 1) t row)
   unfolding ranged
   ranged-step h =
       let few : keptWidth t ≤ length row = omega (arith, kept-few t) in
-      let c : i < length (columnsOf Dino21 t) = omega (arith, kept-columns Dino21 t) in
+      let c : i < length (columnsOf e t) = omega (arith, kept-columns e t) in
       let n : i < length (take (keptWidth t) row) = rw (length-take-le (keptWidth t) row few) h in
-      rw (drop-step noColumn (columnsOf Dino21 t) i c, drop-step 0 (take (keptWidth t) row) i n, getD-take (keptWidth t) row i 0 h)
+      rw (drop-step noColumn (columnsOf e t) i c, drop-step 0 (take (keptWidth t) row) i n, getD-take (keptWidth t) row i 0 h)
 
-  pub ranged-next : i < keptWidth t → inRange (columnAt Dino21 t i .rules) (getD row i 0) ≡ true → rangedFrom i t row ≡ rangedFrom (i + 1) t row
-  ranged-next h e = ranged-step h ∙ rw e
+  pub ranged-next : i < keptWidth t → inRange (columnAt e t i .rules) (getD row i 0) ≡ true → rangedFrom e i t row ≡ rangedFrom e (i + 1) t row
+  ranged-next h f = ranged-step h ∙ rw f
 
-  pub ranged-not : i < keptWidth t → inRange (columnAt Dino21 t i .rules) (getD row i 0) ≡ false → rangedFrom i t row ≡ false
-  ranged-not h e = ranged-step h ∙ rw e
+  pub ranged-not : i < keptWidth t → inRange (columnAt e t i .rules) (getD row i 0) ≡ false → rangedFrom e i t row ≡ false
+  ranged-not h f = ranged-step h ∙ rw f
 
-  pub ranged-end : keptWidth t ≤ i → rangedFrom i t row ≡ true
+  pub ranged-end : keptWidth t ≤ i → rangedFrom e i t row ≡ true
   unfolding ranged
   ranged-end h =
       let few : keptWidth t ≤ length row = omega (arith, kept-few t) in
       let n : length (take (keptWidth t) row) ≤ i = rw (length-take-le (keptWidth t) row few) h in
-      rw (drop-of-length-le (take (keptWidth t) row) n) (none (drop i (columnsOf Dino21 t)))
+      rw (drop-of-length-le (take (keptWidth t) row) n) (none (drop i (columnsOf e t)))
     where
       none : (xs : List Column) → ranged xs [] ≡ true
       none [] = refl
@@ -111,15 +112,40 @@ module _ (t : Table) (b : Book) (row : Row) where
   pub lawful-rest : same row (wide (take (keptWidth t) row)) ≡ false → lawful t b row ≡ false
   lawful-rest e = rw e
 
-  pub lawful-range : same row (wide (take (keptWidth t) row)) ≡ true → ranged (columnsOf Dino21 t) (take (keptWidth t) row) ≡ false → lawful t b row ≡ false
+  pub lawful-range : same row (wide (take (keptWidth t) row)) ≡ true → ranged (columnsOf (b .edition) t) (take (keptWidth t) row) ≡ false → lawful t b row ≡ false
   lawful-range e f = rw (e, f)
 
-  module _ (e : same row (wide (take (keptWidth t) row)) ≡ true) (f : ranged (columnsOf Dino21 t) (take (keptWidth t) row) ≡ true) where
+  module _ (e : same row (wide (take (keptWidth t) row)) ≡ true) (f : ranged (columnsOf (b .edition) t) (take (keptWidth t) row) ≡ true) where
     pub lawful-time : timeFault t row ≡ true → lawful t b row ≡ false
     lawful-time g = rw (e, f, g)
 
     pub lawful-known : timeFault t row ≡ false → lawful t b row ≡ passes (unknown t row b)
     lawful-known g = rw (e, f, g)
+
+-- the row of marks -------------------------------------------------------------------------------------------------------------------
+
+-- no edition has a mark above that of 2.3
+mark-most : (e : Edition) → mark e ≤ 1
+mark-most Dino21 = lit≤ tt
+mark-most Dino23 = lit≤ tt
+
+-- a mark up to it is that of the edition it tells
+mark-told : (n : ℕ) → n ≤ 1 → mark (editionOf (n ∷ [])) ≡ n
+mark-told zero h = refl
+mark-told (suc zero) h = refl
+mark-told (suc (suc n)) h = absurd (omega arith)
+
+pub marks-above : (row : Row) → 1 < column 1 row → same row (marks (editionOf row)) ≡ false
+marks-above row h = go (same row (marks (editionOf row))) refl
+  where
+    go : (b : Bool) → same row (marks (editionOf row)) ≡ b → b ≡ false
+    go true e = absurd (omega (arith, ap (column 1) (same-true row (marks (editionOf row)) e), mark-most (editionOf row)))
+    go false e = refl
+
+pub marks-rest : (row : Row) → column 1 row ≤ 1 → same row (wide (take 1 row)) ≡ same row (marks (editionOf row))
+unfolding same
+marks-rest [] h = refl
+marks-rest (n ∷ ns) h = ap (λ (m : ℕ). same (n ∷ ns) (wide (m ∷ []))) (sym (mark-told n h))
 
 -- all rows, from place i on --------------------------------------------------------------------------------------------------------------
 
@@ -185,7 +211,7 @@ module _ (xs : List Row) where
 
     -- what keeps the rule is sound
     pub keeps-sound : Sound xs
-    keeps-sound = record { long = keeps-length; tables = table }
+    keeps-sound = record { long = keeps-length; tables = table; marked = ap (λ (l : List Row). getD l marksAt []) keeps-laid ∙ marks-laid book few }
       where
         table : (t : Table) → Holds (keyWidth t) (part t xs)
         table t =
@@ -219,8 +245,16 @@ module _ (xs : List Row) where
   pub breaks-rows : (t : Table) → lawfulRows t ≡ false → keepsRule xs ≡ false
   breaks-rows t e = breaks-where (lawfulRows t) e (λ k. keeps-rows k t)
 
-  pub parts-sound : length xs ≡ bookRows → ((t : Table) → holds (keyWidth t) (part t xs) ≡ true) → Sound xs
-  parts-sound l h = record { long = l; tables = λ t. holds-true (keyWidth t) (part t xs) (h t) }
+  -- the row of marks, tested
+  abbrev pub marked : Bool
+  marked = same (getD xs marksAt []) (marks (book .edition))
+
+  pub breaks-marks : marked ≡ false → keepsRule xs ≡ false
+  breaks-marks e = breaks-where marked e (λ k. ap (same (getD xs marksAt [])) (sym (keeps-sound k .marked)) ∙ same-refl (getD xs marksAt []))
+
+  pub parts-sound : length xs ≡ bookRows → marked ≡ true → ((t : Table) → holds (keyWidth t) (part t xs) ≡ true) → Sound xs
+  parts-sound l m h =
+      record { long = l; tables = λ t. holds-true (keyWidth t) (part t xs) (h t); marked = same-true (getD xs marksAt []) (marks (book .edition)) m }
 
   -- of a sound slice the rows are left to be asked
   pub sound-keeps : Sound xs → ((t : Table) → lawfulRows t ≡ true) → keepsRule xs ≡ true
@@ -239,5 +273,5 @@ module _ (xs : List Row) where
   abbrev pub held : Table → Bool
   held t = holds (keyWidth t) (part t xs)
 
-  pub all-parts : length xs ≡ bookRows → ((t : Table) → held t ≡ true) → (r : Bool) → r ≡ true → (r ≡ true → Sound xs) × (r ≡ false → keepsRule xs ≡ false)
-  all-parts l h r e = ((λ k. parts-sound l h), (λ k. let z : _≡_ {A = ℕ} 0 1 = cc in absurd (omega arith)))
+  pub all-parts : length xs ≡ bookRows → marked ≡ true → ((t : Table) → held t ≡ true) → (r : Bool) → r ≡ true → (r ≡ true → Sound xs) × (r ≡ false → keepsRule xs ≡ false)
+  all-parts l m h r e = ((λ k. parts-sound l m h), (λ k. let z : _≡_ {A = ℕ} 0 1 = cc in absurd (omega arith)))

@@ -10,7 +10,6 @@ use Rattle.words.specs.Words.{Row, same, all}
 use Rattle.words.proofs.Lists.{and-left, and-right}
 use Rattle.refusals.specs.Verdicts.{passes}
 use Rattle.rows.specs.Rows.{wide}
-use Rattle.tables.specs.declared.Edition.the-variants.{Dino21}
 use Rattle.tables.specs.Columns.{columnsOf, keptWidth}
 use Rattle.tables.specs.declared.Table.the-variants.{StopPoint, Block}
 use Rattle.tables.specs.Parts.{tables}
@@ -24,7 +23,7 @@ pub points-named : (b : Book) (xs : List Row) → all (lawful StopPoint b) xs �
 unfolding all
 points-named b [] e = refl
 points-named b (x ∷ xs) e =
-    let front = same x (wide (take (keptWidth StopPoint) x)) && ranged (columnsOf Dino21 StopPoint) (take (keptWidth StopPoint) x) && not (timeFault StopPoint x) in
+    let front = same x (wide (take (keptWidth StopPoint) x)) && ranged (columnsOf (b .edition) StopPoint) (take (keptWidth StopPoint) x) && not (timeFault StopPoint x) in
     let here : passes (unknown StopPoint x b) ≡ true = and-right front (passes (unknown StopPoint x b)) (and-left (lawful StopPoint b x) (all (lawful StopPoint b) xs) e) in
     rw (here, points-named b xs (and-right (lawful StopPoint b x) (all (lawful StopPoint b) xs) e))
 

@@ -7,7 +7,6 @@ use Rattle.words.specs.Words.{Row, same, all}
 use Rattle.refusals.specs.Verdicts.{passes}
 use Rattle.rows.specs.Rows.{wide, rising}
 use Rattle.rows.specs.Room.{sameRows}
-use Rattle.tables.specs.declared.Edition.the-variants.{Dino21}
 use Rattle.tables.specs.Columns.{Column, inRange, columnsOf, keptWidth, keyWidth}
 use Rattle.tables.specs.declared.Table.{Table}
 use Rattle.tables.specs.Parts.{room, tables, bookRows}
@@ -21,11 +20,11 @@ ranged [] row = true
 ranged (x ∷ xs) [] = true
 ranged (x ∷ xs) (n ∷ ns) = inRange (x .rules) n && ranged xs ns
 
--- the row could stand in its table of this book
+-- the row could stand in its table of this book, by the columns of the edition "which the book keeps"
 abbrev pub lawful : Table → Book → Row → Bool
 lawful t b row =
     same row (wide (take (keptWidth t) row))
-    && ranged (columnsOf Dino21 t) (take (keptWidth t) row)
+    && ranged (columnsOf (b .edition) t) (take (keptWidth t) row)
     && not (timeFault t row)
     && passes (unknown t row b)
 

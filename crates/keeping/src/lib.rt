@@ -1,24 +1,27 @@
 // The test of the book rule.
 ghost use mathlib.Core.Path.{_≡_};
+ghost use mathlib.Core.List.{[]};
 ghost use mathlib.Core.Bool.{true, false};
-ghost use lib.ListN.{take, length};
+ghost use Prim.Native.Nat.{_≤_};
+ghost use lib.ListN.{take, length, getD};
 ghost use Rattle.words.specs.Words.{same, all};
-ghost use Rattle.rows.specs.Rows.{wide};
+ghost use Rattle.rows.specs.Rows.{wide, rowNumbers};
 ghost use Rattle.rows.specs.Spots.{holds};
 ghost use Rattle.tables.specs.Columns.{inRange, columnsOf, keptWidth, keyWidth};
 ghost use Rattle.tables.specs.Listing.{listed};
-ghost use Rattle.tables.specs.Parts.{bookRows};
-ghost use Rattle.book.specs.Room.{bookOf, part};
+ghost use Rattle.tables.specs.Parts.{bookRows, marksAt};
+ghost use Rattle.book.specs.Room.{bookOf, part, marks};
 ghost use Rattle.book.specs.Holding.{Sound};
 ghost use Rattle.book.specs.Book.{rows};
 ghost use Rattle.rules.specs.Points.{Referable};
 ghost use Rattle.keeping.specs.Keeping.{ranged, lawful, keepsRule};
+use editions::Edition;
 use refusals::Check;
 use rows::NUMBERS;
 use rows::Row;
 use tables::BOOK_ROWS;
 use tables::Columns;
-use tables::Edition;
+use tables::MARKS;
 use tables::Rules;
 use tables::Table;
 
@@ -33,8 +36,7 @@ fn in_range(rules: Rules, n: u64) -> bool
 
 // Whether each number that the book keeps of a row is in its column's range.
 fn in_ranges(t: Table, columns: &Columns, row: Row) -> bool
-    requires { ⌜ now columns ≡ listed Edition.Dino21 t ⌝ }
-    ensures { λ r. ⌜ r ≡ ranged (columnsOf Edition.Dino21 t) (take (keptWidth t) row) ⌝ }
+    ensures { λ r. ⌜ ((e : Edition) → now (columns .entry) ≡ listed e t → r ≡ ranged (columnsOf e t) (take (keptWidth t) row)) ⌝ }
 {
     let n = t.kept();
     let mut within = true;
@@ -50,12 +52,13 @@ fn in_ranges(t: Table, columns: &Columns, row: Row) -> bool
     within
 }
 
-// Whether a row is zero behind the numbers that the book keeps.
-fn rest_zero(t: Table, row: Row) -> bool
-    ensures { λ r. ⌜ r ≡ same row (wide (take (keptWidth t) row)) ⌝ }
+// Whether a row is zero behind the numbers that the book keeps of it.
+fn rest_zero(kept: usize, row: Row) -> bool
+    requires { ⌜ kept ≤ rowNumbers ⌝ }
+    ensures { λ r. ⌜ r ≡ same row (wide (take kept row)) ⌝ }
 {
     let mut zero = true;
-    let mut i = t.kept();
+    let mut i = kept;
     'columns: while i < NUMBERS {
         if row[i] != 0 {
             zero = false;
@@ -68,10 +71,11 @@ fn rest_zero(t: Table, row: Row) -> bool
 
 // Whether a row could stand in its table of this book.
 fn is_lawful(book: &[Row], t: Table, columns: &Columns, row: Row) -> bool
-    requires { ⌜ Sound (now book) × Referable t (bookOf (now book)) × (now columns ≡ listed Edition.Dino21 t) ⌝ }
+    requires { ⌜ Sound (now book) × Referable t (bookOf (now book)) × (now columns ≡ listed (bookOf (now book) .edition) t) ⌝ }
     ensures { λ r. ⌜ r ≡ lawful t (bookOf (now (book .entry))) row ⌝ }
 {
-    if !rest_zero(t, row) {
+    let kept = t.kept();
+    if !rest_zero(kept, row) {
         return false;
     }
     if !in_ranges(t, columns, row) {
@@ -93,7 +97,8 @@ fn lawful_rows(book: &[Row], t: Table) -> bool
     requires { ⌜ Sound (now book) × Referable t (bookOf (now book)) ⌝ }
     ensures { λ r. ⌜ r ≡ all (lawful t (bookOf (now (book .entry)))) (rows t (bookOf (now (book .entry)))) ⌝ }
 {
-    let columns = t.column_rules(Edition::Dino21);
+    let edition = book::edition_of(book);
+    let columns = t.column_rules(edition);
     let n = book::count_rows(book, t);
     let mut good = true;
     let mut i = 0;
@@ -118,11 +123,26 @@ fn holding(book: &[Row], t: Table) -> bool
     rows::holding(table, k)
 }
 
-// Whether a slice holds the tables, where nobody vouches for it.
+// Whether the row of marks is that of an edition.
+fn marked(book: &[Row]) -> bool
+    requires { ⌜ length (now book) ≡ bookRows ⌝ }
+    ensures { λ r. ⌜ r ≡ same (getD (now (book .entry)) marksAt []) (marks (bookOf (now (book .entry)) .edition)) ⌝ }
+{
+    let row = book[MARKS];
+    if row[0] > book::MARK_23 {
+        return false;
+    }
+    rest_zero(1, row)
+}
+
+// Whether a slice holds the tables and an edition, where nobody vouches for it.
 fn all_tables(book: &[Row]) -> bool
     ensures { λ r. ⌜ (r ≡ true → Sound (now (book .entry))) × (r ≡ false → keepsRule (now (book .entry)) ≡ false) ⌝ }
 {
     if book.len() != BOOK_ROWS {
+        return false;
+    }
+    if !marked(book) {
         return false;
     }
     let mut good = true;

@@ -5,14 +5,17 @@ use Rattle.book.specs.Result.{Result, _▹_}
 use Rattle.table_reading.specs.Reading.{tableRead}
 use Rattle.delivery.specs.Delivery.{reading}
 use Rattle.writer.specs.Writing.{written}
-use Rattle.promises.specs.Promises.{ReadsBack, WritesAgain}
+use Rattle.promises.specs.Promises.{ReadsBack, WritesAgain, EditionKept}
 use Rattle.promises.proofs.DeliveryLaws.{Accepted, left-by, blocks-back}
 
 pub reads-back : ReadsBack
 unfolding reading
-reads-back d b e =
-    let a : Accepted d b = left-by d b e in
+reads-back ed d b e =
+    let a : Accepted ed d b = left-by ed d b e in
     ap (λ (r : Result). r ▹ tableRead Block (written b)) (a .before-blocks) ∙ blocks-back b (b .blocks) (a .standing Block)
 
 pub writes-again : WritesAgain
-writes-again d b c e f = let g : c ≡ b = cc (reads-back d b e) in ap written g
+writes-again ed d b c e f = let g : c ≡ b = cc (reads-back ed d b e) in ap written g
+
+pub edition-kept : EditionKept
+edition-kept ed d b e = left-by ed d b e .by

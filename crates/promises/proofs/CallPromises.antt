@@ -15,14 +15,20 @@ use Rattle.refusals.specs.Verdicts.{_when_, nowhere, badLoan, place, _before_, 
 use Rattle.refusals.specs.declared.Verdict.{Verdict}
 use Rattle.numbers.specs.Putting.{put}
 use Rattle.rows.specs.Room.{zeros}
+use Rattle.editions.specs.Editions.{choice}
+use Rattle.editions.specs.declared.Choice.{Choice}
+use Rattle.editions.specs.declared.Choice.the-variants as choice-is
+use Rattle.editions.specs.declared.Edition.{Edition}
+use Rattle.tables.specs.Parts.{bookRows}
 use Rattle.book.specs.Book.{empty, Book}
 use Rattle.book.specs.Room.{laid, bookOf}
 use Rattle.book.specs.Result.{Result, leaves, refused, unless}
 use Rattle.book.proofs.Laying.{sound-laid, orderly-empty, book-laid}
 use Rattle.keeping.specs.Keeping.{keepsRule}
 use Rattle.delivery.specs.Delivery.{Delivery, reading, Left}
-use Rattle.delivery.specs.Calls.{readOutcome, readCall}
+use Rattle.delivery.specs.Calls.{readOutcome, readBy, readCall}
 use Rattle.delivery.specs.Calls as reading-is
+use Rattle.cell_question.specs.CellQuestion.{cellAsked}
 use Rattle.slips.specs.Calls.{slipOutcome, workSized, cleared, slipCall, Outcome, outcome}
 use Rattle.slips.specs.Slips.{posting, kept, posted}
 use Rattle.day.specs.Calls.{thenSlip, emptied, dayCall}
@@ -40,18 +46,27 @@ use Rattle.promises.proofs.BackPromises.{reads-back}
 
 -- a reading --------------------------------------------------------------------------------------------------------------
 
-pub read-sized : (d : Delivery) (slice : List Row) → length slice ≡ 2560 → readCall d slice ≡ readOutcome (reading d)
-read-sized d slice n = rw (eq-eqb (length slice) 2560 n)
+pub read-sized : (n : ℕ) (e : Edition) (d : Delivery) (slice : List Row) → choice n ≡ choice-is.Chosen e → length slice ≡ bookRows → readCall n d slice ≡ readOutcome (reading e d)
+read-sized n e d slice c m = rw (eq-eqb (length slice) bookRows m, c)
 
 empties : (r : Result) (p : Place) → readOutcome r .verdict ≡ Refused p → readOutcome r .book ≡ laid empty
 empties (refused q) p h = refl
 empties (leaves b) p h = let z : _≡_ {A = ℕ} 0 1 = cc in let y : ⊥ = omega arith in absurd y
 
+-- by what the number chooses
+empties-by : (c : Choice) (d : Delivery) (p : Place) → readBy c d .verdict ≡ Refused p → readBy c d .book ≡ laid empty
+empties-by (choice-is.Chosen e) d p h = empties (reading e d) p h
+empties-by choice-is.Unknown d p h = refl
+
 pub refused-reading-empties : promises.RefusedReadingEmpties
-refused-reading-empties d slice p n = rw (eq-eqb (length slice) 2560 n) (empties (reading d) p)
+refused-reading-empties n d slice p m = rw (eq-eqb (length slice) bookRows m) (empties-by (choice n) d p)
+
+pub unknown-edition-refused : promises.UnknownEditionRefused
+unfolding cellAsked
+unknown-edition-refused n u = (λ d slice m. rw (eq-eqb (length slice) bookRows m, u), λ s table line k. rw u)
 
 pub wrong-book-stays : promises.WrongBookStays
-wrong-book-stays d slice n = let e : eqb (length slice) 2560 ≡ false = ne-eqb (length slice) 2560 n in (rw e, rw e)
+wrong-book-stays n d slice m = let e : eqb (length slice) bookRows ≡ false = ne-eqb (length slice) bookRows m in (rw e, rw e)
 
 -- a slip -----------------------------------------------------------------------------------------------------------------
 
@@ -114,15 +129,19 @@ bad-book-refused book h =
 
 -- lengths ----------------------------------------------------------------------------------------------------------------
 
-read-length : (d : Delivery) (slice : List Row) → length (readCall d slice .book) ≡ length slice
-read-length d slice = go (eqb (length slice) 2560) refl
+read-length : (n : ℕ) (d : Delivery) (slice : List Row) → length (readCall n d slice .book) ≡ length slice
+read-length n d slice = go (eqb (length slice) bookRows) refl
   where
-    long : (r : Result) → reading d ≡ r → length (readOutcome r .book) ≡ 2560
-    long (refused p) e = sound-laid empty orderly-empty .long
-    long (leaves b) e = sound-laid b (standing-orderly b (left-standing b (d, e))) .long
+    long : (e : Edition) (r : Result) → reading e d ≡ r → length (readOutcome r .book) ≡ bookRows
+    long e (refused p) q = sound-laid empty orderly-empty .long
+    long e (leaves b) q = sound-laid b (standing-orderly b (left-standing b (e, (d, q)))) .long
 
-    go : (q : Bool) → eqb (length slice) 2560 ≡ q → length (readCall d slice .book) ≡ length slice
-    go true e = rw e (long (reading d) refl ∙ sym (eqb-true (length slice) 2560 e))
+    chosen : (c : Choice) → length (readBy c d .book) ≡ bookRows
+    chosen (choice-is.Chosen e) = long e (reading e d) refl
+    chosen choice-is.Unknown = sound-laid empty orderly-empty .long
+
+    go : (q : Bool) → eqb (length slice) bookRows ≡ q → length (readCall n d slice .book) ≡ length slice
+    go true e = rw e (chosen (choice n) ∙ sym (eqb-true (length slice) bookRows e))
     go false e = rw e
 
 -- what an accepted slip leaves is again a book that some delivery leaves
@@ -181,23 +200,23 @@ then-length Accepted s book work = (slip-length s book work, work-length s book 
 then-length (Refused p) s book work = (refl, cleared-length work)
 
 emptied-length : (book : List Row) → length (emptied book) ≡ length book
-emptied-length book = go (eqb (length book) 2560) refl
+emptied-length book = go (eqb (length book) bookRows) refl
   where
-    go : (q : Bool) → eqb (length book) 2560 ≡ q → length (emptied book) ≡ length book
-    go true e = rw e (sound-laid empty orderly-empty .long ∙ sym (eqb-true (length book) 2560 e))
+    go : (q : Bool) → eqb (length book) bookRows ≡ q → length (emptied book) ≡ length book
+    go true e = rw e (sound-laid empty orderly-empty .long ∙ sym (eqb-true (length book) bookRows e))
     go false e = rw e
 
-day-length : (d : Delivery) (s : Bytes) (book work : List Row) → (length (dayCall d s book work .book) ≡ length book) × (length (dayCall d s book work .work) ≡ length work)
-day-length d s book work = go (workSized work)
+day-length : (n : ℕ) (d : Delivery) (s : Bytes) (book work : List Row) → (length (dayCall n d s book work .book) ≡ length book) × (length (dayCall n d s book work .work) ≡ length work)
+day-length n d s book work = go (workSized work)
   where
     read : reading-is.Outcome
-    read = readCall d book
+    read = readCall n d book
 
     day : Bool → Outcome
     day q = if q then thenSlip (read .verdict) s (read .book) work else outcome (nowhere badLoan) (emptied book) work
 
     go : (q : Bool) → (length (day q .book) ≡ length book) × (length (day q .work) ≡ length work)
-    go true = let l = then-length (read .verdict) s (read .book) work in (l .0 ∙ read-length d book, l .1)
+    go true = let l = then-length (read .verdict) s (read .book) work in (l .0 ∙ read-length n d book, l .1)
     go false = (emptied-length book, refl)
 
 pub lengths-kept : promises.LengthsKept
@@ -224,14 +243,14 @@ write-call-answers b out l = (
 )
 
 pub calls-read-back : promises.CallsReadBack
-calls-read-back d b book out e m h =
-    let r : readCall d book ≡ readOutcome (leaves b) = rw (eq-eqb (length book) 2560 m, e) in
-    let w : writeCall (readCall d book .book) out ≡ writing.outcome Accepted (length (written b)) (put (written b) out) =
-    ap (λ (z : reading-is.Outcome). writeCall (z .book) out) r ∙ write-call-answers b out (d, e) .0 h in
-    let text : take (writeCall (readCall d book .book) out .size) (writeCall (readCall d book .book) out .out) ≡ written b =
+calls-read-back n ed d b book out c e m h =
+    let r : readCall n d book ≡ readOutcome (leaves b) = read-sized n ed d book c m ∙ ap readOutcome e in
+    let w : writeCall (readCall n d book .book) out ≡ writing.outcome Accepted (length (written b)) (put (written b) out) =
+    ap (λ (z : reading-is.Outcome). writeCall (z .book) out) r ∙ write-call-answers b out (ed, (d, e)) .0 h in
+    let text : take (writeCall (readCall n d book .book) out .size) (writeCall (readCall n d book .book) out .out) ≡ written b =
     ap (λ (z : writing.Outcome). take (z .size) (z .out)) w ∙ take-seam (written b) (drop (length (written b)) out) in
-    ap (λ (s : Bytes). readCall (promises.with-blocks s d) book) text
-    ∙ rw (eq-eqb (length book) 2560 m, reads-back d b e) (sym (ap readOutcome e))
+    ap (λ (s : Bytes). readCall n (promises.with-blocks s d) book) text
+    ∙ read-sized n ed (promises.with-blocks (written b) d) book c m ∙ ap readOutcome (reads-back ed d b e) ∙ sym r
 
 -- a run of slip calls ----------------------------------------------------------------------------------------------------
 
@@ -256,7 +275,7 @@ called (s ∷ ss) b work l n =
     ∙ called ss (posted s b) (slipCall s (laid b) work .work) (rule-kept b s l) (work-length s (laid b) work ∙ n)
 
 pub calls-read-afresh : promises.CallsReadAfresh
-calls-read-afresh d b ss book work e m n =
-    let after : promises.slipsCalled ss (readCall d book .book) work ≡ laid (promises.run ss b) =
-    ap (λ (z : List Row). promises.slipsCalled ss z work) (rw (eq-eqb (length book) 2560 m, e)) ∙ called ss b work (d, e) n in
-    (after, after ∙ rw (eq-eqb (length book) 2560 m, run-reads-afresh d b ss e))
+calls-read-afresh k ed d b ss book work c e m n =
+    let after : promises.slipsCalled ss (readCall k d book .book) work ≡ laid (promises.run ss b) =
+    ap (λ (z : List Row). promises.slipsCalled ss z work) (ap (λ (o : reading-is.Outcome). o .book) (read-sized k ed d book c m ∙ ap readOutcome e)) ∙ called ss b work (ed, (d, e)) n in
+    (after, after ∙ sym (ap (λ (o : reading-is.Outcome). o .book) (read-sized k ed (promises.with-blocks (written (promises.run ss b)) d) book c m ∙ ap readOutcome (run-reads-afresh ed d b ss e))))

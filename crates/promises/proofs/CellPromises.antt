@@ -1,26 +1,30 @@
 -- Demand 2: the question for a cell agrees with the reading. Assumes nothing.
 use mathlib.Core.Path.{_≡_, refl, ap, sym, _∙_, subst}
 use mathlib.Core.List.{List, [], _∷_, map}
-use mathlib.Core.Bool.{false, Bool, true}
+use mathlib.Core.Bool.{false, Bool, true, not}
 use Prim.Native.Nat.{ℕ, zero, suc, _+_, _<_, _≤_, _-_}
 use native.Mathlib.Omega.{arith}
 use lib.ListN.{length, getD, take, replicate, length-map, List·getD-append, List·getD-map}
-use lib.Dec.{eqb}
+use lib.Dec.{eqb, ltb}
 use lib.Seq.{getD-take, length-take-le}
 use borrow.Author.Tests.{ne-eqb, le-ltb}
 use Rattle.words.specs.Words.{Bytes, Row, if_then_else_}
 use Rattle.refusals.proofs.Chaining.{both}
 use Rattle.refusals.specs.declared.Check.the-variants.{Passes}
-use Rattle.refusals.specs.Verdicts.{_⊳_, _when_, tooManyRows}
+use Rattle.refusals.specs.Verdicts.{_⊳_, _when_, _before_, placed, tooManyRows, lineTooLong, cellCount}
 use Rattle.refusals.specs.declared.Verdict.the-variants.{Accepted}
 use Rattle.refusals.specs.declared.Cell.{Cell}
 use Rattle.refusals.specs.declared.Cell.the-variants.{Number}
-use Rattle.lines.specs.Lines.{rowLines, lines}
+use Rattle.lines.specs.Lines.{lineAfter, startsOn, longLine}
 use Rattle.cells.specs.Cells.{content, cut, cellsOf}
 use Rattle.numbers.specs.Numbers.{value, valueFrom}
 use Rattle.rows.specs.Rows.{column}
 use Rattle.rows.proofs.Rising.{rising-true}
-use Rattle.tables.specs.declared.Edition.the-variants.{Dino21}
+use Rattle.editions.specs.Editions.{choice}
+use Rattle.editions.specs.declared.Choice.{Choice}
+use Rattle.editions.specs.declared.Choice.the-variants.{Chosen}
+use Rattle.editions.specs.declared.Edition.{Edition}
+use Rattle.editions.specs.declared.Edition.the-variants.{Dino21, Dino23}
 use Rattle.tables.specs.Columns.{number, numbered, Column, noColumn, columnsOf, columnAt, keptWidth, keyWidth}
 use Rattle.tables.specs.declared.Table.{Table}
 use Rattle.tables.specs.declared.Table.the-variants.{VehicleType, Depot, Stop, StopPoint, Block}
@@ -36,17 +40,20 @@ use Rattle.values.proofs.Values.{check-kept, kept-check}
 use Rattle.book.specs.Book.{Book, full, rows}
 use Rattle.book.specs.Result.{leaves}
 use Rattle.rules.specs.Rules.{ruled}
-use Rattle.header.specs.Header.{Header, under, contentsFrom, cutCheck, contents, headerOf, topFaults}
+use Rattle.header.specs.Header.{Header, under, contentsFrom, badCut, lineCheck, cutCheck, contents, headerOf, topFaults}
 use Rattle.row_line.specs.RowLine.{rowRead}
 use Rattle.table_lines.specs.Reading.{judged}
+use Rattle.table_reading.specs.Reading.{tableRead}
 use Rattle.delivery.specs.Delivery.{Delivery, reading}
-use Rattle.cell_question.specs.CellQuestion.{answered, cellSaid, cellAt, cellVerdict, cellStart, tableCell, askedOf, cellAsked, cellPaper}
-use Rattle.promises.specs.Promises.{rowLinesOf, rowAt, textOf, CellsAccepted, CellsAgree}
+use Rattle.cell_question.specs.CellQuestion.{answered, cellSaid, isEquip, meant, firstLine, lineAsked, cellAt, firstAbove, above, cellVerdict, cellStart, tableCell, askedOf, askedIn, cellAsked, cellPaper}
+use Rattle.cell_question.specs.declared.CellAnswer.{CellAnswer}
+use Rattle.promises.specs.Promises.{onward, rowLinesOf, rowStart, rowStep, rowAt, textOf, CellsAccepted, CellsAgree}
 use Rattle.promises.proofs.DeliveryLaws.{ReadTo, left-by}
-use Rattle.promises.proofs.ExactPromises.{accepted-exactly}
+use Rattle.promises.proofs.TextLaws.{row-on}
+use Rattle.promises.proofs.ExactPromises.{accepted-exactly, step-edition}
 use Rattle.promises.proofs.RowPromises.{rows-exactly, found-copy, copy-at}
 
-pub numbered-known : (t : Table) → numbered (number t) ≡ Known t
+numbered-known : (t : Table) → numbered (number t) ≡ Known t
 numbered-known VehicleType = refl
 numbered-known Depot = refl
 numbered-known Stop = refl
@@ -82,132 +89,194 @@ some-content x s true e r h =
     let f = rw (e, r) at (kept-check 0 x s h) in
     let z : _≡_ {A = ℕ} 0 1 = cc in let y : ⊥ = omega arith in absurd y
 
--- the lines --------------------------------------------------------------------------------------------------------------
+-- a text that is read -----------------------------------------------------------------------------------------------------------
 
-lines-long : (ls : List Bytes) (i : ℕ) → i < length (rowLines ls) → 2 + i ≤ length ls
-lines-long [] i h = absurd (omega arith)
-lines-long (l ∷ ls) i h = omega arith
+-- nothing is wrong before its rows, and each row passes 17, 6 and 7, and 8 of each cell
+record Checked (e : Edition) (t : Table) (s : Bytes) : Type 0 where
+  top : topFaults e t s ≡ Accepted
+  cutting : (i : ℕ) → i < length (rowLinesOf e s) → cutCheck e (headerOf e t s) (getD (rowLinesOf e s) i []) ≡ Passes
+  cells : (i : ℕ) → i < length (rowLinesOf e s) → badCell 1 (columnsOf e t) (contents e t (headerOf e t s) (cellsOf (cut e (getD (rowLinesOf e s) i [])))) ≡ Passes
 
-line-at : (ls : List Bytes) (i : ℕ) → i < length (rowLines ls) → getD ls (2 + i - 1) [] ≡ getD (rowLines ls) i []
-line-at [] i h = absurd (omega arith)
-line-at (l ∷ ls) i h = let m : 2 + i - 1 ≡ suc i = omega arith in rw m
+judged-checked : (t : Table) (h : Header) (line : Bytes) (b : Book) → judged t h line b ≡ Passes →
+    (cutCheck (b .edition) h line ≡ Passes) × (badCell 1 (columnsOf (b .edition) t) (contents (b .edition) t h (cellsOf (cut (b .edition) line))) ≡ Passes)
+unfolding judged
+judged-checked t h line b pass =
+    let e = b .edition in
+    let said = contents e t h (cellsOf (cut e line)) in
+    let row = rowRead e t h line in
+    let p5 = both (tooManyRows when full t b) (cutCheck e h line ⊳ badCell 1 (columnsOf e t) said ⊳ ruled t row b) pass in
+    let p6 = both (cutCheck e h line) (badCell 1 (columnsOf e t) said ⊳ ruled t row b) (p5 .1) in
+    (p6 .0, both (badCell 1 (columnsOf e t) said) (ruled t row b) (p6 .1) .0)
 
--- a cell of a line that is accepted ----------------------------------------------------------------------------------------
+-- by the edition of the book on which it is read
+module _ (t : Table) (s : Bytes) (b c : Book) (h : tableRead t s b ≡ leaves c) where
+  abbrev rows-behind : List Bytes
+  rows-behind = rowLinesOf (b .edition) s
 
-module _ (t : Table) (s : Bytes) (i n : ℕ) (b : Book)
-    (top : topFaults Dino21 t s ≡ Accepted) (on : i < length (rowLinesOf s)) (pass : judged t (headerOf Dino21 t s) (getD (rowLinesOf s) i []) b ≡ Passes) (known-column : n < length (columnsOf Dino21 t))
+  abbrev heading : Header
+  heading = headerOf (b .edition) t s
+
+  line-checked : (i : ℕ) → i < length rows-behind →
+      (cutCheck (b .edition) heading (getD rows-behind i []) ≡ Passes)
+      × (badCell 1 (columnsOf (b .edition) t) (contents (b .edition) t heading (cellsOf (cut (b .edition) (getD rows-behind i [])))) ≡ Passes)
+  line-checked i on =
+      let l : Bytes = getD rows-behind i [] in
+      let x : Book = onward (rowStep (b .edition) t s) (take i rows-behind) b in
+      subst (λ (z : Edition). (cutCheck z heading l ≡ Passes) × (badCell 1 (columnsOf z t) (contents z t heading (cellsOf (cut z l))) ≡ Passes))
+      (step-edition (b .edition) t s (take i rows-behind) b) (judged-checked t heading l x (accepted-exactly t s b c .0 h .1 .passing i on))
+
+  table-checked : Checked (b .edition) t s
+  table-checked = record { top = accepted-exactly t s b c .0 h .0; cutting = λ i on. line-checked i on .0; cells = λ i on. line-checked i on .1 }
+
+-- so by 2.3 no row above a line has a fault that comes first
+none-above : (e : Edition) (table line i : ℕ) (ls : List Bytes) → ((j : ℕ) → j < length ls → lineCheck e (getD ls j []) ≡ Passes) → firstAbove e table line i ls ≡ Accepted
+unfolding firstAbove
+none-above e table line i [] h = refl
+none-above e table line i (l ∷ ls) h = rw (h 0 (omega arith)) (go (ltb i line) (none-above e table line (lineAfter e i l) ls (λ j g. h (suc j) (omega arith))))
   where
-    abbrev line : Bytes
-    line = getD (rowLinesOf s) i []
+    go : (q : Bool) → firstAbove e table line (lineAfter e i l) ls ≡ Accepted → (placed table i (Passes when q) before firstAbove e table line (lineAfter e i l) ls) ≡ Accepted
+    go true ih = ih
+    go false ih = ih
 
-    abbrev said : List Bytes
-    said = contents Dino21 t (headerOf Dino21 t s) (cellsOf (cut line))
+-- 17 and 6 are first in what a row must pass
+line-first : (e : Edition) (h : Header) (line : Bytes) → cutCheck e h line ≡ Passes → lineCheck e line ≡ Passes
+line-first e h line pass =
+    let count = cellCount when not (eqb (length (cellsOf (cut e line))) (length h)) in
+    let p17 = both (lineTooLong when longLine line) (badCut (cut e line) ⊳ count) pass in
+    let p6 = both (badCut (cut e line)) count (p17 .1) in
+    rw (p17 .0, p6 .0)
 
-    abbrev rules : Rules
-    rules = columnAt Dino21 t n .rules
+clear-above : (e : Edition) (t : Table) (s : Bytes) (line : ℕ) → Checked e t s → above e t s line ≡ Accepted
+clear-above Dino21 t s line c = refl
+clear-above Dino23 t s line c = none-above Dino23 (number t) line (firstLine Dino23 s) (rowLinesOf Dino23 s) (λ i on. line-first Dino23 (headerOf Dino23 t s) (getD (rowLinesOf Dino23 s) i []) (c .cutting i on))
 
-    checks : (cutCheck (headerOf Dino21 t s) line ≡ Passes) × (badCell 1 (columnsOf Dino21 t) said ≡ Passes)
-    unfolding judged
-    checks =
-        let row = rowRead Dino21 t (headerOf Dino21 t s) line in
-        let p5 = both (tooManyRows when full t b) (cutCheck (headerOf Dino21 t s) line ⊳ badCell 1 (columnsOf Dino21 t) said ⊳ ruled t row b) pass in
-        let p6 = both (cutCheck (headerOf Dino21 t s) line) (badCell 1 (columnsOf Dino21 t) said ⊳ ruled t row b) (p5 .1) in
-        (p6 .0, both (badCell 1 (columnsOf Dino21 t) said) (ruled t row b) (p6 .1) .0)
+-- a cell of a text that is read --------------------------------------------------------------------------------------------------
 
-    -- the cell is the one that the reading sees
-    cell-same : cellAt t s (2 + i) (suc n) ≡ under (suc n) (headerOf Dino21 t s) (cellsOf (cut line))
-    cell-same = ap (λ (l : Bytes). under (suc n) (headerOf Dino21 t s) (cellsOf (cut l))) (line-at (lines s) i on)
+-- no column that the book keeps is the access equipment
+kept-plain : (t : Table) (n : ℕ) → n < keptWidth t → isEquip t (suc n) ≡ false
+kept-plain VehicleType n h = ne-eqb (suc n) 11 (λ k. omega arith)
+kept-plain Depot n h = refl
+kept-plain Stop n h = refl
+kept-plain StopPoint n h = refl
+kept-plain Block n h = refl
 
-    content-same : getD said n [] ≡ content (under (suc n) (headerOf Dino21 t s) (cellsOf (cut line)))
-    content-same =
-        contents-at 1 (columnsOf Dino21 t) (headerOf Dino21 t s) (cellsOf (cut line)) n known-column
-        ∙ (let m : 1 + n ≡ suc n = omega arith in ap (λ (k : ℕ). content (under k (headerOf Dino21 t s) (cellsOf (cut line)))) m)
+module _ (e : Edition) (t : Table) (s : Bytes) (i n : ℕ) (checked : Checked e t s) (on : i < length (rowLinesOf e s)) (known-column : n < length (columnsOf e t)) where
+  abbrev line : Bytes
+  line = getD (rowLinesOf e s) i []
 
-    good : breaks rules (content (under (suc n) (headerOf Dino21 t s) (cellsOf (cut line)))) ≡ false
-    good =
-        subst (λ (c : Bytes). breaks rules c ≡ false) content-same
-        (good-at 1 (columnsOf Dino21 t) said n known-column (omega (arith, known-column, contents-long 1 (columnsOf Dino21 t) (headerOf Dino21 t s) (cellsOf (cut line)))) (checks .1))
+  abbrev at : ℕ
+  at = rowStart e s i
 
-    decimal-column : n < keptWidth t → (rules .sort ≡ Decimal) × (rules .required ≡ true)
-    decimal-column kept = (kept-decimal Dino21 t n kept, kept-required Dino21 t n kept)
+  abbrev said : List Bytes
+  said = contents e t (headerOf e t s) (cellsOf (cut e line))
 
-    -- the number in the row
-    row-number : n < keptWidth t → column (suc n) (rowRead Dino21 t (headerOf Dino21 t s) line) ≡ value (content (under (suc n) (headerOf Dino21 t s) (cellsOf (cut line))))
-    unfolding valueFrom
-    row-number kept =
-        let m : suc n - 1 ≡ n = omega arith in
-        let ns : Row = map value (take (keptWidth t) said) in
-        let all : length said ≡ length (columnsOf Dino21 t) = contents-long 1 (columnsOf Dino21 t) (headerOf Dino21 t s) (cellsOf (cut line)) in
-        let long : length ns ≡ keptWidth t = length-map (take (keptWidth t) said) value ∙ length-take-le (keptWidth t) said (omega (arith, kept-columns Dino21 t)) in
-        ap (λ (k : ℕ). getD (rowRead Dino21 t (headerOf Dino21 t s) line) k 0) m
-        ∙ List·getD-append ns (replicate (11 - length ns) 0) 0 n (omega arith)
-        ∙ List·getD-map value (take (keptWidth t) said) n []
-        ∙ ap value (getD-take (keptWidth t) said n [] kept ∙ content-same)
+  abbrev cell : Bytes
+  cell = under (suc n) (headerOf e t s) (cellsOf (cut e line))
 
-    accepted-cell : cellVerdict t s (2 + i) (suc n) ≡ Accepted
-    unfolding cellVerdict
-    accepted-cell =
-        let m : suc n - 1 ≡ n = omega arith in
-        let long : 2 + i ≤ length (lines s) = lines-long (lines s) i on in
-        let known : suc n ≤ length (columnsOf Dino21 t) = omega (arith, known-column) in
-        rw (
-          ne-eqb (suc n) 0 (λ z. omega arith),
-          le-ltb (length (columnsOf Dino21 t)) (suc n) known,
-          top,
-          le-ltb (2 + i) 2 (omega arith),
-          le-ltb (length (lines s)) (2 + i) long,
-          line-at (lines s) i on,
-          checks .0,
-          m,
-          kept-check (suc n) rules (content (under (suc n) (headerOf Dino21 t s) (cellsOf (cut line)))) good,
-        )
+  abbrev rules : Rules
+  rules = columnAt e t n .rules
 
-    cell-number : n < keptWidth t → cellSaid (columnAt Dino21 t (suc n - 1) .rules .sort) (cellStart t s (2 + i) (suc n)) (cellAt t s (2 + i) (suc n)) ≡ Number (column (suc n) (rowRead Dino21 t (headerOf Dino21 t s) line))
-    cell-number kept =
-        let m : suc n - 1 ≡ n = omega arith in
-        let c : Bytes = under (suc n) (headerOf Dino21 t s) (cellsOf (cut line)) in
-        let some : eqb (length (content c)) 0 ≡ false = some-content rules (content c) (eqb (length (content c)) 0) refl (decimal-column kept .1) good in
-        ap (λ (k : ℕ). cellSaid (columnAt Dino21 t k .rules .sort) (cellStart t s (2 + i) (suc n)) (cellAt t s (2 + i) (suc n))) m
-        ∙ ap (λ (z : Sort). cellSaid z (cellStart t s (2 + i) (suc n)) (cellAt t s (2 + i) (suc n))) (decimal-column kept .0)
-        ∙ ap (λ (z : Bytes). cellSaid Decimal (cellStart t s (2 + i) (suc n)) z) cell-same
-        ∙ ap (λ (q : Bool). if q then Cell.Empty else Number (value (content c))) some
-        ∙ ap (λ (z : ℕ). Number z) (sym (row-number kept))
+  -- the row is found on its line
+  found-row : (lineAsked e at s ≡ line) × (startsOn e at (firstLine e s) (rowLinesOf e s) ≡ true)
+  found-row = row-on e (firstLine e s) (rowLinesOf e s) i on
 
-    cell-answered : n < keptWidth t → cellAsked s (number t) (2 + i) (suc n) ≡ answered Accepted (Number (column (suc n) (rowRead Dino21 t (headerOf Dino21 t s) line)))
-    unfolding cellAsked tableCell
-    cell-answered kept =
-        ap (λ (z : Named). askedOf z s (2 + i) (suc n)) (numbered-known t)
-        ∙ rw accepted-cell (ap (λ (z : Cell). answered Accepted z) (cell-number kept))
+  -- and the cell is the one that the reading sees
+  cell-same : cellAt e t s at (suc n) ≡ cell
+  cell-same = ap (λ (l : Bytes). under (suc n) (headerOf e t s) (cellsOf (cut e l))) (found-row .0)
 
-    cell-accepted : cellAsked s (number t) (2 + i) (suc n) .verdict ≡ Accepted
-    unfolding cellAsked tableCell
-    cell-accepted = ap (λ (z : Named). askedOf z s (2 + i) (suc n) .verdict) (numbered-known t) ∙ rw accepted-cell
+  content-same : getD said n [] ≡ content cell
+  content-same =
+      contents-at 1 (columnsOf e t) (headerOf e t s) (cellsOf (cut e line)) n known-column
+      ∙ (let m : 1 + n ≡ suc n = omega arith in ap (λ (k : ℕ). content (under k (headerOf e t s) (cellsOf (cut e line)))) m)
+
+  good : breaks rules (content cell) ≡ false
+  good =
+      subst (λ (c : Bytes). breaks rules c ≡ false) content-same
+      (good-at 1 (columnsOf e t) said n known-column (omega (arith, known-column, contents-long 1 (columnsOf e t) (headerOf e t s) (cellsOf (cut e line)))) (checked .cells i on))
+
+  -- the number in the row
+  row-number : n < keptWidth t → column (suc n) (rowRead e t (headerOf e t s) line) ≡ value (content cell)
+  unfolding valueFrom
+  row-number kept =
+      let m : suc n - 1 ≡ n = omega arith in
+      let ns : Row = map value (take (keptWidth t) said) in
+      let all : length said ≡ length (columnsOf e t) = contents-long 1 (columnsOf e t) (headerOf e t s) (cellsOf (cut e line)) in
+      let long : length ns ≡ keptWidth t = length-map (take (keptWidth t) said) value ∙ length-take-le (keptWidth t) said (omega (arith, kept-columns e t)) in
+      ap (λ (k : ℕ). getD (rowRead e t (headerOf e t s) line) k 0) m
+      ∙ List·getD-append ns (replicate (11 - length ns) 0) 0 n (omega arith)
+      ∙ List·getD-map value (take (keptWidth t) said) n []
+      ∙ ap value (getD-take (keptWidth t) said n [] kept ∙ content-same)
+
+  accepted-cell : cellVerdict e t s at (suc n) ≡ Accepted
+  unfolding cellVerdict
+  accepted-cell =
+      let m : suc n - 1 ≡ n = omega arith in
+      let known : suc n ≤ length (columnsOf e t) = omega (arith, known-column) in
+      rw (
+        ne-eqb (suc n) 0 (λ z. omega arith),
+        le-ltb (length (columnsOf e t)) (suc n) known,
+        checked .top,
+        clear-above e t s at checked,
+        found-row .1,
+        found-row .0,
+        checked .cutting i on,
+        m,
+        kept-check (suc n) rules (content cell) good,
+      )
+
+  cell-number : n < keptWidth t →
+      meant e (isEquip t (suc n)) (cellSaid (columnAt e t (suc n - 1) .rules .sort) (cellStart e t s at (suc n)) (cellAt e t s at (suc n))) ≡ Number (column (suc n) (rowRead e t (headerOf e t s) line))
+  cell-number kept =
+      let m : suc n - 1 ≡ n = omega arith in
+      let begin : ℕ = cellStart e t s at (suc n) in
+      let some : eqb (length (content cell)) 0 ≡ false = some-content rules (content cell) (eqb (length (content cell)) 0) refl (kept-required e t n kept) good in
+      ap (λ (q : Bool). meant e q (cellSaid (columnAt e t (suc n - 1) .rules .sort) begin (cellAt e t s at (suc n)))) (kept-plain t n kept)
+      ∙ ap (λ (k : ℕ). cellSaid (columnAt e t k .rules .sort) begin (cellAt e t s at (suc n))) m
+      ∙ ap (λ (z : Sort). cellSaid z begin (cellAt e t s at (suc n))) (kept-decimal e t n kept)
+      ∙ ap (λ (z : Bytes). cellSaid Decimal begin z) cell-same
+      ∙ ap (λ (q : Bool). if q then Cell.Empty else Number (value (content cell))) some
+      ∙ ap (λ (z : ℕ). Number z) (sym (row-number kept))
+
+  cell-answered : n < keptWidth t → tableCell e t s at (suc n) ≡ answered Accepted (Number (column (suc n) (rowRead e t (headerOf e t s) line)))
+  unfolding tableCell
+  cell-answered kept = rw accepted-cell (ap (λ (z : Cell). answered Accepted z) (cell-number kept))
+
+  cell-accepted : tableCell e t s at (suc n) .verdict ≡ Accepted
+  unfolding tableCell
+  cell-accepted = rw accepted-cell
+
+-- the question by the edition's number and the table's
+pub asked-of : (n : ℕ) (e : Edition) (t : Table) (s : Bytes) (line k : ℕ) → choice n ≡ Chosen e → cellAsked n s (number t) line k ≡ tableCell e t s line k
+unfolding cellAsked
+asked-of n e t s line k chosen = ap (λ (z : Choice). askedIn z s (number t) line k) chosen ∙ ap (λ (z : Named). askedOf e z s line k) (numbered-known t)
 
 -- from the column's number to its place
-module _ (d : Delivery) (b : Book) (t : Table) (i : ℕ) (e : reading d ≡ leaves b) (h : i < length (rowLinesOf (textOf t d))) where
-  line-taken : (x : Book) × (topFaults Dino21 t (textOf t d) ≡ Accepted) × (judged t (headerOf Dino21 t (textOf t d)) (getD (rowLinesOf (textOf t d)) i []) x ≡ Passes)
-  line-taken =
-      let r : ReadTo t (textOf t d) b = left-by d b e .tables t in
-      let f = accepted-exactly t (textOf t d) (r .before) (r .after) .0 (r .read) in
-      (_, f .0, f .1 .passing i h)
+module _ (n : ℕ) (e : Edition) (d : Delivery) (b : Book) (t : Table) (i : ℕ) (chosen : choice n ≡ Chosen e) (r : reading e d ≡ leaves b) (on : i < length (rowLinesOf e (textOf t d))) where
+  abbrev text : Bytes
+  text = textOf t d
 
-  cells-at : (k : ℕ) → 1 ≤ k → k ≤ keptWidth t → cellAsked (textOf t d) (number t) (2 + i) k ≡ answered Accepted (Number (column k (rowAt t (textOf t d) i)))
+  text-checked : Checked e t text
+  text-checked =
+      let u : ReadTo e t text b = left-by e d b r .tables t in
+      subst (λ (z : Edition). Checked z t text) (u .by) (table-checked t text (u .before) (u .after) (u .read))
+
+  cells-at : (k : ℕ) → 1 ≤ k → k ≤ keptWidth t → cellAsked n text (number t) (rowStart e text i) k ≡ answered Accepted (Number (column k (rowAt e t text i)))
   cells-at zero low high = absurd (omega arith)
-  cells-at (suc n) low high =
-      cell-answered t (textOf t d) i n (line-taken .0) (line-taken .1) h (line-taken .2) (omega (arith, kept-columns Dino21 t)) (omega arith)
+  cells-at (suc k) low high =
+      asked-of n e t text (rowStart e text i) (suc k) chosen ∙ cell-answered e t text i k text-checked on (omega (arith, kept-columns e t)) (omega arith)
 
-  accepted-at : (k : ℕ) → 1 ≤ k → k ≤ length (columnsOf Dino21 t) → cellAsked (textOf t d) (number t) (2 + i) k .verdict ≡ Accepted
+  accepted-at : (k : ℕ) → 1 ≤ k → k ≤ length (columnsOf e t) → cellAsked n text (number t) (rowStart e text i) k .verdict ≡ Accepted
   accepted-at zero low high = absurd (omega arith)
-  accepted-at (suc n) low high = cell-accepted t (textOf t d) i n (line-taken .0) (line-taken .1) h (line-taken .2) (omega arith)
+  accepted-at (suc k) low high = ap (λ (z : CellAnswer). z .verdict) (asked-of n e t text (rowStart e text i) (suc k) chosen) ∙ cell-accepted e t text i k text-checked on (omega arith)
 
 pub cells-accepted : CellsAccepted
-cells-accepted d b t i k e h low high = accepted-at d b t i e h k low high
+cells-accepted n e d b t i k chosen r on low high = accepted-at n e d b t i chosen r on k low high
 
 pub cells-agree : CellsAgree
-cells-agree d b t i k e h low high =
+cells-agree n e d b t i k chosen r on low high =
     let s : Bytes = textOf t d in
-    let x = rows-exactly d b t e in (
-      ap cellPaper (cells-at d b t i e h k low high),
-      found-copy (keyWidth t) (rowAt t s i) (rows t b) (rising-true (keyWidth t) (rows t b) (left-by d b e .standing t .rising))
-          (omega (arith, x .2 (rowAt t s i), copy-at (rowRead Dino21 t (headerOf Dino21 t s)) (rowLinesOf s) i h)),
+    let x = rows-exactly e d b t r in (
+      ap cellPaper (cells-at n e d b t i chosen r on k low high),
+      found-copy (keyWidth t) (rowAt e t s i) (rows t b) (rising-true (keyWidth t) (rows t b) (left-by e d b r .standing t .rising))
+          (omega (arith, x .2 (rowAt e t s i), copy-at (rowRead e t (headerOf e t s)) (rowLinesOf e s) i on)),
     )

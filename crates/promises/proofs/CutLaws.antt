@@ -2,6 +2,7 @@
 use mathlib.Core.Path.{_≡_, refl, _∙_}
 use mathlib.Core.List.{[], _∷_, List, _++_, append-nil}
 use Rattle.words.specs.Words.{Bytes}
+use Rattle.editions.specs.declared.Edition.{Edition}
 use Rattle.cells.specs.Cells.{kind, Cut, grown, cells, after, cutFrom, cut, parted}
 use Rattle.cells.specs.declared.Kind.the-variants.{Other}
 use Rattle.cells.specs.declared.State.the-variants.{Fresh, Plain}
@@ -23,28 +24,28 @@ unfolding grownBy
 grownBy-cells [] cs e = refl
 grownBy-cells (b ∷ bs) cs e = rw (grownBy-cells bs cs e)
 
-plain-semi : (c : Bytes) (rest : Bytes) → AllPlain c → cutFrom Plain (c ++ (59 ∷ rest)) ≡ grownBy c (after (cutFrom Fresh rest))
+plain-semi : (ed : Edition) (c : Bytes) (rest : Bytes) → AllPlain c → cutFrom ed Plain (c ++ (59 ∷ rest)) ≡ grownBy c (after (cutFrom ed Fresh rest))
 unfolding cutFrom grownBy AllPlain
-plain-semi [] rest h = refl
-plain-semi (b ∷ bs) rest h = rw (h .0, plain-semi bs rest (h .1))
+plain-semi ed [] rest h = refl
+plain-semi ed (b ∷ bs) rest h = rw (h .0, plain-semi ed bs rest (h .1))
 
-plain-end : (c : Bytes) → AllPlain c → cutFrom Plain c ≡ grownBy c (cells ([] ∷ []))
+plain-end : (ed : Edition) (c : Bytes) → AllPlain c → cutFrom ed Plain c ≡ grownBy c (cells ([] ∷ []))
 unfolding cutFrom grownBy AllPlain
-plain-end [] h = refl
-plain-end (b ∷ bs) h = rw (h .0, plain-end bs (h .1))
+plain-end ed [] h = refl
+plain-end ed (b ∷ bs) h = rw (h .0, plain-end ed bs (h .1))
 
-fresh-semi : (c : Bytes) (rest : Bytes) → AllPlain c → cutFrom Fresh (c ++ (59 ∷ rest)) ≡ grownBy c (after (cutFrom Fresh rest))
+fresh-semi : (ed : Edition) (c : Bytes) (rest : Bytes) → AllPlain c → cutFrom ed Fresh (c ++ (59 ∷ rest)) ≡ grownBy c (after (cutFrom ed Fresh rest))
 unfolding cutFrom grownBy AllPlain
-fresh-semi [] rest h = refl
-fresh-semi (b ∷ bs) rest h = rw (h .0, plain-semi bs rest (h .1))
+fresh-semi ed [] rest h = refl
+fresh-semi ed (b ∷ bs) rest h = rw (h .0, plain-semi ed bs rest (h .1))
 
-fresh-end : (c : Bytes) → AllPlain c → cutFrom Fresh c ≡ grownBy c (cells ([] ∷ []))
+fresh-end : (ed : Edition) (c : Bytes) → AllPlain c → cutFrom ed Fresh c ≡ grownBy c (cells ([] ∷ []))
 unfolding cutFrom grownBy AllPlain
-fresh-end [] h = refl
-fresh-end (b ∷ bs) h = rw (h .0, plain-end bs (h .1))
+fresh-end ed [] h = refl
+fresh-end ed (b ∷ bs) h = rw (h .0, plain-end ed bs (h .1))
 
-pub cut-parted : (c : Bytes) (cs : List Bytes) → EachPlain (c ∷ cs) → cut (parted 59 (c ∷ cs)) ≡ cells (c ∷ cs)
+pub cut-parted : (ed : Edition) (c : Bytes) (cs : List Bytes) → EachPlain (c ∷ cs) → cut ed (parted 59 (c ∷ cs)) ≡ cells (c ∷ cs)
 unfolding parted EachPlain
-cut-parted c [] h = fresh-end c (h .0) ∙ grownBy-cells c [] [] ∙ rw append-nil
-cut-parted c (e ∷ es) h =
-    fresh-semi c (parted 59 (e ∷ es)) (h .0) ∙ rw (cut-parted e es (h .1)) (grownBy-cells c (e ∷ es) [] ∙ rw append-nil)
+cut-parted ed c [] h = fresh-end ed c (h .0) ∙ grownBy-cells c [] [] ∙ rw append-nil
+cut-parted ed c (e ∷ es) h =
+    fresh-semi ed c (parted 59 (e ∷ es)) (h .0) ∙ rw (cut-parted ed e es (h .1)) (grownBy-cells c (e ∷ es) [] ∙ rw append-nil)

@@ -10,14 +10,15 @@ use lib.Dec.{eqb}
 use borrow.Author.Tests.{eqb-true, eqb-false}
 use Rattle.words.specs.Words.{Bytes, Row}
 use Rattle.rows.specs.Rows.{rising as rises}
+use Rattle.editions.specs.declared.Edition.{Edition}
 use Rattle.tables.specs.declared.Table.{Table}
 use Rattle.tables.specs.declared.Table.the-variants.{VehicleType, Depot, Stop, StopPoint, Block}
 use Rattle.tables.specs.Parts.{partOf, tables}
 use Rattle.tables.proofs.Figures.{part-below}
 use Rattle.tables.proofs.Parts as parts
-use Rattle.book.specs.Book.{Book, rows, empty, with-rows}
+use Rattle.book.specs.Book.{Book, rows, emptyBy, with-rows}
 use Rattle.book.specs.Result.{leaves, _▹_}
-use Rattle.book.proofs.Laying.{rows-empty, rows-apart}
+use Rattle.book.proofs.Laying.{rows-begun, rows-apart}
 use Rattle.rules.specs.Rules.{unknownOf}
 use Rattle.rules.proofs.Referring.{unknown-before}
 use Rattle.table_reading.specs.Reading.{tableRead}
@@ -36,10 +37,10 @@ nothing-held : (t : Table) (b : Book) → Held t b []
 unfolding EachGood rises
 nothing-held t b = record { rising = refl; good = tt; size = omega arith }
 
-pub in-order : (d : Delivery) (b : Book) → reading d ≡ leaves b → InOrder d b
+pub in-order : (ed : Edition) (d : Delivery) (b : Book) → reading ed d ≡ leaves b → InOrder ed d b
 unfolding reading
-in-order d b e =
-    let r1 = tableRead VehicleType (d .types) empty in
+in-order ed d b e =
+    let r1 = tableRead VehicleType (d .types) (emptyBy ed) in
     let r2 = r1 ▹ tableRead Depot (d .depots) in
     let r3 = r2 ▹ tableRead Stop (d .stops) in
     let r4 = r3 ▹ tableRead StopPoint (d .points) in
@@ -60,8 +61,9 @@ in-order d b e =
     }
 
 -- a table's text is read to its rows in the book
-pub record ReadTo (t : Table) (s : Bytes) (b : Book) : Type 0 where
+pub record ReadTo (ed : Edition) (t : Table) (s : Bytes) (b : Book) : Type 0 where
   pub before : Book
+  pub by : before .edition ≡ ed
   pub after : Book
   pub bare : rows t before ≡ []
   pub read : tableRead t s before ≡ leaves after
@@ -70,13 +72,14 @@ pub record ReadTo (t : Table) (s : Bytes) (b : Book) : Type 0 where
 -- table by table --------------------------------------------------------------------------------------------------------
 
 -- behind the first n tables: each of them stands by right, as its text has it, and the others are empty
-record Behind (n : ℕ) (d : Delivery) (b : Book) : Type 0 where
+record Behind (n : ℕ) (ed : Edition) (d : Delivery) (b : Book) : Type 0 where
+  by : b .edition ≡ ed
   held : (t : Table) → partOf t < n → Held t b (rows t b)
-  read : (t : Table) → partOf t < n → ReadTo t (textOf t d) b
+  read : (t : Table) → partOf t < n → ReadTo ed t (textOf t d) b
   bare : (t : Table) → n ≤ partOf t → rows t b ≡ []
 
-behind-none : (d : Delivery) → Behind 0 d empty
-behind-none d = record { held = λ t l. absurd (omega arith); read = λ t l. absurd (omega arith); bare = λ t l. rows-empty t }
+behind-none : (ed : Edition) (d : Delivery) → Behind 0 ed d (emptyBy ed)
+behind-none ed d = record { by = refl; held = λ t l. absurd (omega arith); read = λ t l. absurd (omega arith); bare = λ t l. rows-begun ed t }
 
 -- a table's part tells it
 same-part : (t u : Table) → partOf t ≡ partOf u → t ≡ u
@@ -89,12 +92,15 @@ own-or-before t u l = go (eqb (partOf t) (partOf u)) refl
     go true e = inl (same-part t u (eqb-true (partOf t) (partOf u) e))
     go false e = let n : partOf t ≡ partOf u → ⊥ = eqb-false (partOf t) (partOf u) e in inr (omega (arith, n))
 
-module _ (t : Table) (d : Delivery) (b c : Book) (k : Behind (partOf t) d b) (e : tableRead t (textOf t d) b ≡ leaves c) where
+module _ (t : Table) (ed : Edition) (d : Delivery) (b c : Book) (k : Behind (partOf t) ed d b) (e : tableRead t (textOf t d) b ≡ leaves c) where
   own-bare : rows t b ≡ []
   own-bare = k .bare t (omega arith)
 
   read-apart : (c ≡ with-rows t (rows t c) b) × Held t c (rows t c)
   read-apart = held-table t (textOf t d) b c (subst (λ (z : List Row). Held t b z) (sym own-bare) (nothing-held t b)) e
+
+  same-edition : b .edition ≡ c .edition
+  same-edition = sym (ap (λ (z : Book). z .edition) (read-apart .0))
 
   other-rows : (u : Table) → (partOf u ≡ partOf t → ⊥) → rows u c ≡ rows u b
   other-rows u n = ap (rows u) (read-apart .0) ∙ rows-apart t u (rows t c) b n
@@ -102,42 +108,45 @@ module _ (t : Table) (d : Delivery) (b c : Book) (k : Behind (partOf t) d b) (e 
   earlier-held : (u : Table) → partOf u < partOf t → Held u c (rows u c)
   earlier-held u l =
       subst (λ (z : List Row). Held u c z) (sym (other-rows u (λ q. omega arith)))
-      (held-moved u b c (unknown-before u b c (λ v m. sym (other-rows v (λ q. omega arith)))) (rows u b) (k .held u l))
+      (held-moved u b c same-edition (unknown-before u b c (λ v m. sym (other-rows v (λ q. omega arith)))) (rows u b) (k .held u l))
 
-  earlier-read : (u : Table) → partOf u < partOf t → ReadTo u (textOf u d) c
+  earlier-read : (u : Table) → partOf u < partOf t → ReadTo ed u (textOf u d) c
   earlier-read u l =
-      let r : ReadTo u (textOf u d) b = k .read u l in
-      record { before = r .before; after = r .after; bare = r .bare; read = r .read; same = r .same ∙ sym (other-rows u (λ q. omega arith)) }
+      let r : ReadTo ed u (textOf u d) b = k .read u l in
+      record { before = r .before; by = r .by; after = r .after; bare = r .bare; read = r .read; same = r .same ∙ sym (other-rows u (λ q. omega arith)) }
 
-  own-read : ReadTo t (textOf t d) c
-  own-read = record { before = b; after = c; bare = own-bare; read = e; same = refl }
+  own-read : ReadTo ed t (textOf t d) c
+  own-read = record { before = b; by = k .by; after = c; bare = own-bare; read = e; same = refl }
 
-  behind-next : Behind (suc (partOf t)) d c
+  behind-next : Behind (suc (partOf t)) ed d c
   behind-next =
       record {
+        by = sym same-edition ∙ k .by;
         held = λ u l. ⊎-elim (λ q. subst (λ (v : Table). Held v c (rows v c)) q (read-apart .1)) (earlier-held u) (own-or-before t u l);
-        read = λ u l. ⊎-elim (λ q. subst (λ (v : Table). ReadTo v (textOf v d) c) q own-read) (earlier-read u) (own-or-before t u l);
+        read = λ u l. ⊎-elim (λ q. subst (λ (v : Table). ReadTo ed v (textOf v d) c) q own-read) (earlier-read u) (own-or-before t u l);
         bare = λ u l. other-rows u (λ q. omega arith) ∙ k .bare u (omega arith);
       }
 
 -- an accepted delivery: what the tables before the blocks leave, the book, and each table
-pub record Accepted (d : Delivery) (b : Book) : Type 0 where
-  pub before-blocks : (leaves empty ▹ tableRead VehicleType (d .types) ▹ tableRead Depot (d .depots) ▹ tableRead Stop (d .stops) ▹ tableRead StopPoint (d .points)) ≡ leaves (with-rows Block [] b)
+pub record Accepted (ed : Edition) (d : Delivery) (b : Book) : Type 0 where
+  pub by : b .edition ≡ ed
+  pub before-blocks : (leaves (emptyBy ed) ▹ tableRead VehicleType (d .types) ▹ tableRead Depot (d .depots) ▹ tableRead Stop (d .stops) ▹ tableRead StopPoint (d .points)) ≡ leaves (with-rows Block [] b)
   pub standing : Standing b
-  pub tables : (t : Table) → ReadTo t (textOf t d) b
+  pub tables : (t : Table) → ReadTo ed t (textOf t d) b
 
-pub left-by : (d : Delivery) (b : Book) → reading d ≡ leaves b → Accepted d b
-left-by d b e =
-    let o : InOrder d b = in-order d b e in
+pub left-by : (ed : Edition) (d : Delivery) (b : Book) → reading ed d ≡ leaves b → Accepted ed d b
+left-by ed d b e =
+    let o : InOrder ed d b = in-order ed d b e in
     let b4 : Book = o .behind-points in
-    let k1 = behind-next VehicleType d empty (o .behind-types) (behind-none d) (o .types) in
-    let k2 = behind-next Depot d (o .behind-types) (o .behind-depots) k1 (o .depots) in
-    let k3 = behind-next Stop d (o .behind-depots) (o .behind-stops) k2 (o .stops) in
-    let k4 = behind-next StopPoint d (o .behind-stops) b4 k3 (o .points) in
-    let k5 = behind-next Block d b4 b k4 (o .blocks) in
+    let k1 = behind-next VehicleType ed d (emptyBy ed) (o .behind-types) (behind-none ed d) (o .types) in
+    let k2 = behind-next Depot ed d (o .behind-types) (o .behind-depots) k1 (o .depots) in
+    let k3 = behind-next Stop ed d (o .behind-depots) (o .behind-stops) k2 (o .stops) in
+    let k4 = behind-next StopPoint ed d (o .behind-stops) b4 k3 (o .points) in
+    let k5 = behind-next Block ed d b4 b k4 (o .blocks) in
     let apart : with-rows Block [] b ≡ b4 =
-    ap (λ (z : Book). with-rows Block [] z) (read-apart Block d b4 b k4 (o .blocks) .0) ∙ ap (λ (z : List Row). with-rows Block z b4) (sym (own-bare Block d b4 b k4 (o .blocks))) in
+    ap (λ (z : Book). with-rows Block [] z) (read-apart Block ed d b4 b k4 (o .blocks) .0) ∙ ap (λ (z : List Row). with-rows Block z b4) (sym (own-bare Block ed d b4 b k4 (o .blocks))) in
     record {
+      by = k5 .by;
       before-blocks = rw (o .types, o .depots, o .stops, o .points) (ap (λ (z : Book). leaves z) (sym apart));
       standing = λ t. k5 .held t (part-below t);
       tables = λ t. k5 .read t (part-below t);
@@ -164,16 +173,17 @@ blocks-back b ys h = ap (λ (s : Bytes). tableRead Block s (with-rows Block [] b
 abbrev pub plainDelivery : Book → Delivery
 plainDelivery b = record { types = plainText VehicleType (b .types); depots = plainText Depot (b .depots); stops = plainText Stop (b .stops); points = plainText StopPoint (b .points); blocks = written b }
 
-pub plain-read : (b : Book) → Standing b → reading (plainDelivery b) ≡ leaves b
+pub plain-read : (b : Book) → Standing b → reading (b .edition) (plainDelivery b) ≡ leaves b
 unfolding reading unknownOf
 plain-read b h =
-    let b1 : Book = with-rows VehicleType (b .types) empty in
+    let none : Book = emptyBy (b .edition) in
+    let b1 : Book = with-rows VehicleType (b .types) none in
     let b2 : Book = with-rows Depot (b .depots) b1 in
     let b3 : Book = with-rows Stop (b .stops) b2 in
     rw (
-      table-back VehicleType empty (b .types) (held-moved VehicleType b empty (λ row. refl) (b .types) (h VehicleType)),
-      table-back Depot b1 (b .depots) (held-moved Depot b b1 (λ row. refl) (b .depots) (h Depot)),
-      table-back Stop b2 (b .stops) (held-moved Stop b b2 (λ row. refl) (b .stops) (h Stop)),
-      table-back StopPoint b3 (b .points) (held-moved StopPoint b b3 (λ row. refl) (b .points) (h StopPoint)),
+      table-back VehicleType none (b .types) (held-moved VehicleType b none refl (λ row. refl) (b .types) (h VehicleType)),
+      table-back Depot b1 (b .depots) (held-moved Depot b b1 refl (λ row. refl) (b .depots) (h Depot)),
+      table-back Stop b2 (b .stops) (held-moved Stop b b2 refl (λ row. refl) (b .stops) (h Stop)),
+      table-back StopPoint b3 (b .points) (held-moved StopPoint b b3 refl (λ row. refl) (b .points) (h StopPoint)),
     )
     (blocks-back b (b .blocks) (h Block))

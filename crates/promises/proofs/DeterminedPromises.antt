@@ -6,18 +6,18 @@ use Rattle.promises.specs.Promises.{Determined, DeterminedForC}
 
 pub determined : Determined
 determined = (
-  λ d book one other e f. e ∙ sym f,
-  λ s table line k one other e f. e ∙ sym f,
-  λ s table line k one other e f. e ∙ sym f,
+  λ n d book one other e f. e ∙ sym f,
+  λ n s table line k one other e f. e ∙ sym f,
+  λ n s table line k one other e f. e ∙ sym f,
   λ s book work one other e f. e ∙ sym f,
-  λ d s book work one other e f. e ∙ sym f,
+  λ n d s book work one other e f. e ∙ sym f,
   λ book version type one other e f. e ∙ sym f,
   λ book version day depot block one other e f. e ∙ sym f,
   λ book out one other e f. e ∙ sym f,
   λ v book out one other e f. e ∙ sym f,
-  λ s p one other e f. e ∙ sym f,
+  λ edition s p one other e f. e ∙ sym f,
   λ n line one other e f. e ∙ sym f,
-  λ s one other e f. e ∙ sym f,
+  λ n s one other e f. e ∙ sym f,
   λ c s one other e f. e ∙ sym f,
 )
 
@@ -42,9 +42,9 @@ told-two A B n p call rest one other t e d u f g = is one t e d ∙ sym (is othe
 
 pub determined-for-c : DeterminedForC
 determined-for-c = (
-  λ d book one other e f. told _ _ _ _ one other (e .0) (e .1) (f .0) (f .1),
+  λ n d book one other e f. told _ _ _ _ one other (e .0) (e .1) (f .0) (f .1),
   λ s book work one other e f. told-two _ _ _ _ _ _ one other (e .0) (e .1) (e .2) (f .0) (f .1) (f .2),
-  λ s table line k one other e f. told _ _ _ _ one other (e .0) (e .1) (f .0) (f .1),
+  λ n s table line k one other e f. told _ _ _ _ one other (e .0) (e .1) (f .0) (f .1),
   λ book version type one other e f. told _ _ _ _ one other (e .0) (e .1) (f .0) (f .1),
   λ book version day depot block one other e f. told _ _ _ _ one other (e .0) (e .1) (f .0) (f .1),
   λ book out one other e f. told-two _ _ _ _ _ _ one other (e .0) (e .1) (e .2) (f .0) (f .1) (f .2),

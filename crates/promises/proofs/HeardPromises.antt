@@ -17,16 +17,16 @@ use Rattle.refusals.specs.declared.Check.the-variants.{Passes, Fails}
 use Rattle.refusals.specs.declared.Place.{Place}
 use Rattle.refusals.specs.declared.Verdict.{Verdict}
 use Rattle.refusals.specs.declared.Verdict.the-variants.{Accepted, Refused}
-use Rattle.lines.specs.Lines.{lines, headLine, rowLines, overlong, mostBytes}
-use Rattle.tables.specs.declared.Edition.the-variants.{Dino21}
+use Rattle.lines.specs.Lines.{lineAfter, lines, headLine, rowLines, overlong, mostBytes}
+use Rattle.editions.specs.declared.Edition.{Edition}
 use Rattle.tables.specs.Columns.{number}
 use Rattle.tables.specs.declared.Table.{Table}
 use Rattle.tables.specs.declared.Table.the-variants.{VehicleType, Depot, Stop, StopPoint, Block}
-use Rattle.book.specs.Book.{Book, empty, entered}
+use Rattle.book.specs.Book.{Book, emptyBy, entered}
 use Rattle.book.specs.Result.{Result, refused, leaves, unless, _▹_}
 use Rattle.header.specs.Header.{Header, headerOf, headerCheck}
 use Rattle.row_line.specs.RowLine.{rowRead}
-use Rattle.table_lines.specs.Reading.{judged, lineAfter, rowsRead}
+use Rattle.table_lines.specs.Reading.{judged, rowsRead}
 use Rattle.table_reading.specs.Reading.{tableRead}
 use Rattle.delivery.specs.Delivery.{reading}
 use Rattle.radio.specs.Radio.{lengthCheck, heard, Course, stopped, going, Radio, awaits, counted, finished, next, announced, partTaken, closing, closed, hearing, hears, over as all-over, byteHeard, Call, announce, part, close, start, after, verdictOf, standing}
@@ -98,7 +98,7 @@ own-unless t i (Fails n k) r h = refl
 own-rows : (t : Table) (h : Header) (i : ℕ) (ls : List Bytes) (b : Book) → Own t (rowsRead t h i ls b)
 unfolding rowsRead
 own-rows t h i [] b = tt
-own-rows t h i (l ∷ ls) b = own-unless t i (judged t h l b) _ (own-rows t h (lineAfter i l) ls (entered t (rowRead Dino21 t h l) b))
+own-rows t h i (l ∷ ls) b = own-unless t i (judged t h l b) _ (own-rows t h (lineAfter (b .edition) i l) ls (entered t (rowRead (b .edition) t h l) b))
 
 unless-before : (v w : Verdict) (r : Result) → unless v (unless w r) ≡ unless (v before w) r
 unless-before Accepted w r = refl
@@ -107,8 +107,8 @@ unless-before (Refused p) w r = refl
 own-table : (t : Table) (s : Bytes) (b : Book) → Own t (tableRead t s b)
 unfolding tableRead
 own-table t s b =
-    subst (Own t) (unless-before (inText (number t) (textTooLong when overlong s)) (inHeader (number t) (headerCheck Dino21 t (headLine (lines s)))) (rowsRead t (headerOf Dino21 t s) (lineAfter 1 (headLine (lines s))) (rowLines (lines s)) b))
-    (own-unless t 0 (textTooLong when overlong s) _ (own-unless t 1 (headerCheck Dino21 t (headLine (lines s))) _ (own-rows t (headerOf Dino21 t s) (lineAfter 1 (headLine (lines s))) (rowLines (lines s)) b)))
+    subst (Own t) (unless-before (inText (number t) (textTooLong when overlong s)) (inHeader (number t) (headerCheck (b .edition) t (headLine (lines (b .edition) s)))) (rowsRead t (headerOf (b .edition) t s) (lineAfter (b .edition) 1 (headLine (lines (b .edition) s))) (rowLines (lines (b .edition) s)) b))
+    (own-unless t 0 (textTooLong when overlong s) _ (own-unless t 1 (headerCheck (b .edition) t (headLine (lines (b .edition) s))) _ (own-rows t (headerOf (b .edition) t s) (lineAfter (b .edition) 1 (headLine (lines (b .edition) s))) (rowLines (lines (b .edition) s)) b)))
 
 own-heard : (t : Table) (a : ℕ) (s : Bytes) (b : Book) → Own t (heard t a s b)
 own-heard t a s b = own-unless t 0 (lengthCheck a (length s)) (tableRead t s b) (own-table t s b)
@@ -134,29 +134,29 @@ five-runs v w x y z k =
     run-join v (w ++ (x ++ (y ++ z))) k ∙ run-join w (x ++ (y ++ z)) (run v k) ∙ run-join x (y ++ z) (run w (run v k)) ∙ run-join y z (run x (run w (run v k)))
 
 -- what stands before the last table
-pub record Four (a : Table → ℕ) (ps : Table → List Bytes) : Type 0 where
+pub record Four (ed : Edition) (a : Table → ℕ) (ps : Table → List Bytes) : Type 0 where
   pub result : Result
   pub clear : Clear Block result
-  pub stands : run (callsFor a ps StopPoint) (run (callsFor a ps Stop) (run (callsFor a ps Depot) (run (callsFor a ps VehicleType) start))) ≡ awaits Block result
-  pub last : (result ▹ heard Block (a Block) (joined (ps Block))) ≡ hearing (sendingOf a ps)
+  pub stands : run (callsFor a ps StopPoint) (run (callsFor a ps Stop) (run (callsFor a ps Depot) (run (callsFor a ps VehicleType) (start ed)))) ≡ awaits Block result
+  pub last : (result ▹ heard Block (a Block) (joined (ps Block))) ≡ hearing ed (sendingOf a ps)
 
-pub four-heard : (a : Table → ℕ) (ps : Table → List Bytes) → Four a ps
+pub four-heard : (ed : Edition) (a : Table → ℕ) (ps : Table → List Bytes) → Four ed a ps
 unfolding hearing sendingOf
-four-heard a ps =
+four-heard ed a ps =
     let table : Table → Radio → Radio = λ t k. run (callsFor a ps t) k in
     let s : Table → Bytes = λ t. joined (ps t) in
-    let r1 : Result = leaves empty ▹ heard VehicleType (a VehicleType) (s VehicleType) in
+    let r1 : Result = leaves (emptyBy ed) ▹ heard VehicleType (a VehicleType) (s VehicleType) in
     let r2 : Result = r1 ▹ heard Depot (a Depot) (s Depot) in
     let r3 : Result = r2 ▹ heard Stop (a Stop) (s Stop) in
     let r4 : Result = r3 ▹ heard StopPoint (a StopPoint) (s StopPoint) in
-    let first : (u : Table) → eqb 1 (number u) ≡ false → Clear u r1 = λ u e. clear-on VehicleType u (a VehicleType) (s VehicleType) (leaves empty) e tt in
+    let first : (u : Table) → eqb 1 (number u) ≡ false → Clear u r1 = λ u e. clear-on VehicleType u (a VehicleType) (s VehicleType) (leaves (emptyBy ed)) e tt in
     let second : (u : Table) → eqb 1 (number u) ≡ false → eqb 2 (number u) ≡ false → Clear u r2 = λ u e f. clear-on Depot u (a Depot) (s Depot) r1 f (first u e) in
     let third : (u : Table) → eqb 1 (number u) ≡ false → eqb 2 (number u) ≡ false → eqb 3 (number u) ≡ false → Clear u r3 = λ u e f g. clear-on Stop u (a Stop) (s Stop) r2 g (second u e f) in
     record {
       result = r4;
       clear = clear-on StopPoint Block (a StopPoint) (s StopPoint) r3 refl (third Block refl refl refl);
       stands =
-          ap (λ (k : Radio). table StopPoint (table Stop (table Depot k))) (table-heard VehicleType (a VehicleType) (ps VehicleType) (leaves empty) tt)
+          ap (λ (k : Radio). table StopPoint (table Stop (table Depot k))) (table-heard VehicleType (a VehicleType) (ps VehicleType) (leaves (emptyBy ed)) tt)
           ∙ ap (λ (k : Radio). table StopPoint (table Stop k)) (table-heard Depot (a Depot) (ps Depot) r1 (first Depot refl))
           ∙ ap (λ (k : Radio). table StopPoint k) (table-heard Stop (a Stop) (ps Stop) r2 (second Stop refl refl))
           ∙ table-heard StopPoint (a StopPoint) (ps StopPoint) r3 (third StopPoint refl refl refl);
@@ -165,9 +165,9 @@ four-heard a ps =
 
 pub delivery-heard : DeliveryHeard
 unfolding callsOf
-delivery-heard a ps =
-    let f : Four a ps = four-heard a ps in
-    five-runs (callsFor a ps VehicleType) (callsFor a ps Depot) (callsFor a ps Stop) (callsFor a ps StopPoint) (callsFor a ps Block) start
+delivery-heard ed a ps =
+    let f : Four ed a ps = four-heard ed a ps in
+    five-runs (callsFor a ps VehicleType) (callsFor a ps Depot) (callsFor a ps Stop) (callsFor a ps StopPoint) (callsFor a ps Block) (start ed)
     ∙ ap (λ (k : Radio). run (callsFor a ps Block) k) (f .stands)
     ∙ table-heard Block (a Block) (ps Block) (f .result) (f .clear) ∙ ap (λ (r : Result). all-over r) (f .last)
 
@@ -177,8 +177,8 @@ unfolding tableRead
 heard-read t a s b e = rw (e, eq-eqb (length s) (length s) refl) (go (ltb mostBytes (length s)))
   where
     go : (q : Bool) →
-        unless (inText (number t) (textTooLong when q ⊳ Passes)) (unless (inText (number t) (textTooLong when q) before inHeader (number t) (headerCheck Dino21 t (headLine (lines s)))) (rowsRead t (headerOf Dino21 t s) (lineAfter 1 (headLine (lines s))) (rowLines (lines s)) b))
-        ≡ unless (inText (number t) (textTooLong when q) before inHeader (number t) (headerCheck Dino21 t (headLine (lines s)))) (rowsRead t (headerOf Dino21 t s) (lineAfter 1 (headLine (lines s))) (rowLines (lines s)) b)
+        unless (inText (number t) (textTooLong when q ⊳ Passes)) (unless (inText (number t) (textTooLong when q) before inHeader (number t) (headerCheck (b .edition) t (headLine (lines (b .edition) s)))) (rowsRead t (headerOf (b .edition) t s) (lineAfter (b .edition) 1 (headLine (lines (b .edition) s))) (rowLines (lines (b .edition) s)) b))
+        ≡ unless (inText (number t) (textTooLong when q) before inHeader (number t) (headerCheck (b .edition) t (headLine (lines (b .edition) s)))) (rowsRead t (headerOf (b .edition) t s) (lineAfter (b .edition) 1 (headLine (lines (b .edition) s))) (rowLines (lines (b .edition) s)) b)
     go true = refl
     go false = refl
 
@@ -188,12 +188,12 @@ then-read t a s q (leaves b) e f = rw f (heard-read t a s b e)
 
 pub heard-as-read : HeardAsRead
 unfolding hearing reading
-heard-as-read d e =
+heard-as-read ed d e =
     then-read Block (d .announced Block) (d .sent Block) _ _ (e Block)
     (then-read StopPoint (d .announced StopPoint) (d .sent StopPoint) _ _ (e StopPoint)
     (then-read Stop (d .announced Stop) (d .sent Stop) _ _ (e Stop)
     (then-read Depot (d .announced Depot) (d .sent Depot) _ _ (e Depot)
-    (then-read VehicleType (d .announced VehicleType) (d .sent VehicleType) (leaves empty) (leaves empty) (e VehicleType) refl))))
+    (then-read VehicleType (d .announced VehicleType) (d .sent VehicleType) (leaves (emptyBy ed)) (leaves (emptyBy ed)) (e VehicleType) refl))))
 
 -- behind a fault -----------------------------------------------------------------------------------------------------------
 

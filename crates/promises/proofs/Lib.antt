@@ -17,12 +17,12 @@ pub mod SlipPromises
 pub mod CasePromises
 pub mod ExactPromises
 pub mod RowPromises
+pub mod TextLaws
 pub mod CellPromises
 pub mod CallPromises
 pub mod StorePromises
 pub mod RuledOutPromises
 pub mod DeterminedPromises
-pub mod TextLaws
 pub mod NumberedPromises
 pub mod SheetPromises
 pub mod StretchLaws

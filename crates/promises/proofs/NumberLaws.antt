@@ -30,7 +30,7 @@ unfolding Unbroken EachDigit
 digits-unbroken [] h = tt
 digits-unbroken (b ∷ bs) h =
     let p : 48 ≤ b = h .0 in
-    (ne-eqb b 10 (λ e. omega arith), ne-eqb b 13 (λ e. omega arith), digits-unbroken bs (h .2))
+    (ne-eqb b 10 (λ e. omega arith), ne-eqb b 13 (λ e. omega arith), ne-eqb b 34 (λ e. omega arith), digits-unbroken bs (h .2))
 
 -- a number of the column's width and range has no fault
 pub cell-good : (k : ℕ) (x : Rules) (w n : ℕ) → x .sort ≡ Decimal → x .width ≡ suc w → n < 10 ^ suc w → inRange x n ≡ true → cellCheck k x (decimal n) ≡ Passes

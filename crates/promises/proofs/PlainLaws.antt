@@ -19,7 +19,8 @@ use Rattle.cells.specs.Cells.{parted, content, cut, cells, cellsOf}
 use Rattle.numbers.specs.Numbers.{decimal, value}
 use Rattle.numbers.proofs.Writing.{decimal-digits, read-back, decimal-width}
 use Rattle.rows.specs.Rows.{wide}
-use Rattle.tables.specs.declared.Edition.the-variants.{Dino21}
+use Rattle.editions.specs.declared.Edition.{Edition}
+use Rattle.editions.specs.declared.Edition.the-variants.{Dino21, Dino23}
 use Rattle.tables.specs.Columns.{Column, columnsOf, keptWidth, inRange}
 use Rattle.tables.specs.declared.Table.{Table}
 use Rattle.tables.specs.declared.Table.the-variants.{VehicleType, Depot, Stop, StopPoint, Block}
@@ -113,13 +114,13 @@ Numeric (suc n) [] = Unit {0}
 Numeric (suc n) (x ∷ xs) =
     ((w : ℕ) × (x .rules .sort ≡ Decimal) × (x .rules .required ≡ true) × (x .rules .width ≡ suc w) × (x .rules .high < 10 ^ suc w)) × Numeric n xs
 
-pub kept-numeric : (t : Table) → Numeric (keptWidth t) (columnsOf Dino21 t)
+pub kept-numeric : (ed : Edition) (t : Table) → Numeric (keptWidth t) (columnsOf ed t)
 unfolding Numeric columnsOf
-kept-numeric VehicleType = ((1, refl, refl, refl, lit< tt), ((7, refl, refl, refl, lit< tt), tt))
-kept-numeric Depot = ((1, refl, refl, refl, lit< tt), ((4, refl, refl, refl, lit< tt), tt))
-kept-numeric Stop = ((1, refl, refl, refl, lit< tt), ((4, refl, refl, refl, lit< tt), tt))
-kept-numeric StopPoint = ((1, refl, refl, refl, lit< tt), ((4, refl, refl, refl, lit< tt), ((1, refl, refl, refl, lit< tt), tt)))
-kept-numeric Block = (
+kept-numeric ed VehicleType = ((1, refl, refl, refl, lit< tt), ((7, refl, refl, refl, lit< tt), tt))
+kept-numeric ed Depot = ((1, refl, refl, refl, lit< tt), ((4, refl, refl, refl, lit< tt), tt))
+kept-numeric ed Stop = ((1, refl, refl, refl, lit< tt), ((4, refl, refl, refl, lit< tt), tt))
+kept-numeric ed StopPoint = ((1, refl, refl, refl, lit< tt), ((4, refl, refl, refl, lit< tt), ((1, refl, refl, refl, lit< tt), tt)))
+kept-numeric Dino21 Block = (
   (1, refl, refl, refl, lit< tt),
   (
     (8, refl, refl, refl, lit< tt),
@@ -136,6 +137,31 @@ kept-numeric Block = (
               (
                 (5, refl, refl, refl, lit< tt),
                 ((5, refl, refl, refl, lit< tt), ((1, refl, refl, refl, lit< tt), ((5, refl, refl, refl, lit< tt), tt))),
+              ),
+            ),
+          ),
+        ),
+      ),
+    ),
+  ),
+)
+kept-numeric Dino23 Block = (
+  (1, refl, refl, refl, lit< tt),
+  (
+    (8, refl, refl, refl, lit< tt),
+    (
+      (4, refl, refl, refl, lit< tt),
+      (
+        (7, refl, refl, refl, lit< tt),
+        (
+          (1, refl, refl, refl, lit< tt),
+          (
+            (4, refl, refl, refl, lit< tt),
+            (
+              (1, refl, refl, refl, lit< tt),
+              (
+                (5, refl, refl, refl, lit< tt),
+                ((4, refl, refl, refl, lit< tt), ((1, refl, refl, refl, lit< tt), ((5, refl, refl, refl, lit< tt), tt))),
               ),
             ),
           ),
@@ -197,47 +223,58 @@ plain-behind Block = tt
 pub kept-long : (t : Table) (row : Row) → Eleven row → length (take (keptWidth t) row) ≡ keptWidth t
 kept-long t row e = length-take-le (keptWidth t) row (omega (arith, kept-few t, long-eleven row e))
 
-cut-cells : (ns : Row) (rest : List Bytes) → 1 ≤ length ns → EachPlain rest → cut (parted 59 (map decimal ns ++ rest)) ≡ cells (map decimal ns ++ rest)
-cut-cells [] rest n h = absurd (omega arith)
-cut-cells (m ∷ ms) rest n h = cut-parted (decimal m) (map decimal ms ++ rest) (plain-decimals (m ∷ ms) rest h)
+cut-cells : (ed : Edition) (ns : Row) (rest : List Bytes) → 1 ≤ length ns → EachPlain rest → cut ed (parted 59 (map decimal ns ++ rest)) ≡ cells (map decimal ns ++ rest)
+cut-cells ed [] rest n h = absurd (omega arith)
+cut-cells ed (m ∷ ms) rest n h = cut-parted ed (decimal m) (map decimal ms ++ rest) (plain-decimals (m ∷ ms) rest h)
 
-cut-plain : (t : Table) (row : Row) → Eleven row → cut (plainLine t row) ≡ cells (plainCells t row)
-cut-plain t row e = cut-cells (take (keptWidth t) row) (behind t) (omega (arith, kept-long t row e, keys-some t, keys-kept t)) (plain-behind t)
+cut-plain : (ed : Edition) (t : Table) (row : Row) → Eleven row → cut ed (plainLine t row) ≡ cells (plainCells t row)
+cut-plain ed t row e = cut-cells ed (take (keptWidth t) row) (behind t) (omega (arith, kept-long t row e, keys-some t, keys-kept t)) (plain-behind t)
 
 -- the contents behind the numbers: of a vehicle_type the optional columns, which are empty
-abbrev absent : Table → List Bytes
-absent VehicleType = [] ∷ [] ∷ [] ∷ [] ∷ [] ∷ [] ∷ [] ∷ [] ∷ [] ∷ []
-absent Depot = []
-absent Stop = behind Stop
-absent StopPoint = []
-absent Block = []
+abbrev absent : Edition → Table → List Bytes
+absent Dino21 VehicleType = [] ∷ [] ∷ [] ∷ [] ∷ [] ∷ [] ∷ [] ∷ [] ∷ [] ∷ []
+absent Dino23 VehicleType = [] ∷ [] ∷ [] ∷ [] ∷ [] ∷ [] ∷ [] ∷ [] ∷ [] ∷ [] ∷ []
+absent ed Depot = []
+absent ed Stop = behind Stop
+absent ed StopPoint = []
+absent ed Block = []
 
-contents-cells : (t : Table) (row : Row) → Eleven row → contents Dino21 t (plainHeader t) (plainCells t row) ≡ map content (map decimal (take (keptWidth t) row)) ++ absent t
+contents-cells : (ed : Edition) (t : Table) (row : Row) → Eleven row → contents ed t (plainHeader t) (plainCells t row) ≡ map content (map decimal (take (keptWidth t) row)) ++ absent ed t
 unfolding contentsFrom under columnsOf
-contents-cells VehicleType row (eleven a b c d e f g h i j k) = refl
-contents-cells Depot row (eleven a b c d e f g h i j k) = refl
-contents-cells Stop row (eleven a b c d e f g h i j k) = refl
-contents-cells StopPoint row (eleven a b c d e f g h i j k) = refl
-contents-cells Block row (eleven a b c d e f g h i j k) = refl
+contents-cells Dino21 VehicleType row (eleven a b c d e f g h i j k) = refl
+contents-cells Dino23 VehicleType row (eleven a b c d e f g h i j k) = refl
+contents-cells Dino21 Depot row (eleven a b c d e f g h i j k) = refl
+contents-cells Dino23 Depot row (eleven a b c d e f g h i j k) = refl
+contents-cells Dino21 Stop row (eleven a b c d e f g h i j k) = refl
+contents-cells Dino23 Stop row (eleven a b c d e f g h i j k) = refl
+contents-cells Dino21 StopPoint row (eleven a b c d e f g h i j k) = refl
+contents-cells Dino23 StopPoint row (eleven a b c d e f g h i j k) = refl
+contents-cells Dino21 Block row (eleven a b c d e f g h i j k) = refl
+contents-cells Dino23 Block row (eleven a b c d e f g h i j k) = refl
 
-contents-plain : (t : Table) (row : Row) → Eleven row → contents Dino21 t (plainHeader t) (plainCells t row) ≡ map decimal (take (keptWidth t) row) ++ absent t
-contents-plain t row e = contents-cells t row e ∙ ap (λ (l : List Bytes). l ++ absent t) (content-decimals (take (keptWidth t) row))
+contents-plain : (ed : Edition) (t : Table) (row : Row) → Eleven row → contents ed t (plainHeader t) (plainCells t row) ≡ map decimal (take (keptWidth t) row) ++ absent ed t
+contents-plain ed t row e = contents-cells ed t row e ∙ ap (λ (l : List Bytes). l ++ absent ed t) (content-decimals (take (keptWidth t) row))
 
-absent-good : (t : Table) → badCell (1 + keptWidth t) (drop (keptWidth t) (columnsOf Dino21 t)) (absent t) ≡ Passes
+absent-good : (ed : Edition) (t : Table) → badCell (1 + keptWidth t) (drop (keptWidth t) (columnsOf ed t)) (absent ed t) ≡ Passes
 unfolding badCell columnsOf
-absent-good VehicleType = refl
-absent-good Depot = refl
-absent-good Stop = refl
-absent-good StopPoint = refl
-absent-good Block = refl
+absent-good Dino21 VehicleType = refl
+absent-good Dino23 VehicleType = refl
+absent-good Dino21 Depot = refl
+absent-good Dino23 Depot = refl
+absent-good Dino21 Stop = refl
+absent-good Dino23 Stop = refl
+absent-good Dino21 StopPoint = refl
+absent-good Dino23 StopPoint = refl
+absent-good Dino21 Block = refl
+absent-good Dino23 Block = refl
 
-kept-values : (t : Table) (row : Row) → Eleven row → map value (take (keptWidth t) (map decimal (take (keptWidth t) row) ++ absent t)) ≡ take (keptWidth t) row
-kept-values t row e =
+kept-values : (ed : Edition) (t : Table) (row : Row) → Eleven row → map value (take (keptWidth t) (map decimal (take (keptWidth t) row) ++ absent ed t)) ≡ take (keptWidth t) row
+kept-values ed t row e =
     let ns : Row = take (keptWidth t) row in
-    ap (map value) (take-at (map decimal ns) (absent t) (keptWidth t) (length-map ns decimal ∙ kept-long t row e)) ∙ value-decimals ns
+    ap (map value) (take-at (map decimal ns) (absent ed t) (keptWidth t) (length-map ns decimal ∙ kept-long t row e)) ∙ value-decimals ns
 
-pub row-read : (t : Table) (row : Row) → Eleven row → row ≡ wide (take (keptWidth t) row) → rowRead Dino21 t (plainHeader t) (plainLine t row) ≡ row
-row-read t row e s = rw (cut-plain t row e, contents-plain t row e, kept-values t row e) (sym s)
+pub row-read : (ed : Edition) (t : Table) (row : Row) → Eleven row → row ≡ wide (take (keptWidth t) row) → rowRead ed t (plainHeader t) (plainLine t row) ≡ row
+row-read ed t row e s = rw (cut-plain ed t row e, contents-plain ed t row e, kept-values ed t row e) (sym s)
 
 cut-counted : (t : Table) (row : Row) → Eleven row → length (plainCells t row) ≡ length (plainHeader t)
 cut-counted VehicleType row (eleven a b c d e f g h i j k) = refl
@@ -252,7 +289,7 @@ unbroken-parted : (cs : List Bytes) → EachUnbroken cs → Unbroken (parted 59 
 unfolding parted Unbroken EachUnbroken
 unbroken-parted [] h = tt
 unbroken-parted (c ∷ []) h = h .0
-unbroken-parted (c ∷ (e ∷ es)) h = unbroken-append c (59 ∷ parted 59 (e ∷ es)) (h .0) (refl, refl, unbroken-parted (e ∷ es) (h .1))
+unbroken-parted (c ∷ (e ∷ es)) h = unbroken-append c (59 ∷ parted 59 (e ∷ es)) (h .0) (refl, refl, refl, unbroken-parted (e ∷ es) (h .1))
 
 unbroken-decimals : (row : Row) (rest : List Bytes) → EachUnbroken rest → EachUnbroken (map decimal row ++ rest)
 unfolding EachUnbroken
@@ -263,14 +300,14 @@ unbroken-behind : (t : Table) → EachUnbroken (behind t)
 unfolding EachUnbroken Unbroken
 unbroken-behind VehicleType = tt
 unbroken-behind Depot = tt
-unbroken-behind Stop = ((refl, refl, tt), tt)
+unbroken-behind Stop = ((refl, refl, refl, tt), tt)
 unbroken-behind StopPoint = tt
 unbroken-behind Block = tt
 
 pub unbroken-line : (t : Table) (row : Row) → Unbroken (plainLine t row)
 unbroken-line t row = unbroken-parted (plainCells t row) (unbroken-decimals (take (keptWidth t) row) (behind t) (unbroken-behind t))
 
-unbroken-rows : (t : Table) (ys : List Row) → EachUnbroken (map (plainLine t) ys)
+pub unbroken-rows : (t : Table) (ys : List Row) → EachUnbroken (map (plainLine t) ys)
 unfolding EachUnbroken
 unbroken-rows t [] = tt
 unbroken-rows t (y ∷ ys) = (unbroken-line t y, unbroken-rows t ys)
@@ -289,21 +326,31 @@ unbroken-plain t ys = (tested (plainNames t) (names-tested t), unbroken-rows t y
 
 -- the names ---------------------------------------------------------------------------------------------------------------
 
-pub names-good : (t : Table) → headerCheck Dino21 t (plainNames t) ≡ Passes
+pub names-good : (ed : Edition) (t : Table) → headerCheck ed t (plainNames t) ≡ Passes
 unfolding computed requiredOf
-names-good VehicleType = refl
-names-good Depot = refl
-names-good Stop = refl
-names-good StopPoint = refl
-names-good Block = refl
+names-good Dino21 VehicleType = refl
+names-good Dino23 VehicleType = refl
+names-good Dino21 Depot = refl
+names-good Dino23 Depot = refl
+names-good Dino21 Stop = refl
+names-good Dino23 Stop = refl
+names-good Dino21 StopPoint = refl
+names-good Dino23 StopPoint = refl
+names-good Dino21 Block = refl
+names-good Dino23 Block = refl
 
-pub names-read : (t : Table) → header Dino21 t (cellsOf (cut (plainNames t))) ≡ plainHeader t
+pub names-read : (ed : Edition) (t : Table) → header ed t (cellsOf (cut ed (plainNames t))) ≡ plainHeader t
 unfolding computed requiredOf
-names-read VehicleType = refl
-names-read Depot = refl
-names-read Stop = refl
-names-read StopPoint = refl
-names-read Block = refl
+names-read Dino21 VehicleType = refl
+names-read Dino23 VehicleType = refl
+names-read Dino21 Depot = refl
+names-read Dino23 Depot = refl
+names-read Dino21 Stop = refl
+names-read Dino23 Stop = refl
+names-read Dino21 StopPoint = refl
+names-read Dino23 StopPoint = refl
+names-read Dino21 Block = refl
+names-read Dino23 Block = refl
 
 -- the size of what is written ---------------------------------------------------------------------------------------------
 
@@ -335,20 +382,25 @@ row-short (x ∷ xs) (m ∷ ms) rest h r n =
     let on = row-short xs ms rest (h .1) (and-right (inRange (x .rules) m) (ranged xs ms) r) (omega arith) in
     omega (arith, decimal-width (h .0 .0) m within, h .0 .3, on)
 
-line-room : (t : Table) → room (keptWidth t) (columnsOf Dino21 t) + cellRoom (behind t) ≤ 65
+line-room : (ed : Edition) (t : Table) → room (keptWidth t) (columnsOf ed t) + cellRoom (behind t) ≤ 65
 unfolding room cellRoom columnsOf
-line-room VehicleType = omega arith
-line-room Depot = omega arith
-line-room Stop = omega arith
-line-room StopPoint = omega arith
-line-room Block = omega arith
+line-room Dino21 VehicleType = omega arith
+line-room Dino23 VehicleType = omega arith
+line-room Dino21 Depot = omega arith
+line-room Dino23 Depot = omega arith
+line-room Dino21 Stop = omega arith
+line-room Dino23 Stop = omega arith
+line-room Dino21 StopPoint = omega arith
+line-room Dino23 StopPoint = omega arith
+line-room Dino21 Block = omega arith
+line-room Dino23 Block = omega arith
 
-pub line-short : (t : Table) (row : Row) → Eleven row → ranged (columnsOf Dino21 t) (take (keptWidth t) row) ≡ true → length (plainLine t row) ≤ 65
-line-short t row e r =
+pub line-short : (ed : Edition) (t : Table) (row : Row) → Eleven row → ranged (columnsOf ed t) (take (keptWidth t) row) ≡ true → length (plainLine t row) ≤ 65
+line-short ed t row e r =
     let n : length (take (keptWidth t) row) ≡ keptWidth t = kept-long t row e in
-    let short : cellRoom (plainCells t row) ≤ room (keptWidth t) (columnsOf Dino21 t) + cellRoom (behind t) =
-    rw n at (row-short (columnsOf Dino21 t) (take (keptWidth t) row) (behind t) (rw n (kept-numeric t)) r (rw n (kept-columns Dino21 t))) in
-    omega (arith, parted-short (plainCells t row), short, line-room t)
+    let short : cellRoom (plainCells t row) ≤ room (keptWidth t) (columnsOf ed t) + cellRoom (behind t) =
+    rw n at (row-short (columnsOf ed t) (take (keptWidth t) row) (behind t) (rw n (kept-numeric ed t)) r (rw n (kept-columns ed t))) in
+    omega (arith, parted-short (plainCells t row), short, line-room ed t)
 
 pub names-short : (t : Table) → length (plainNames t) ≤ 144
 unfolding computed requiredOf
@@ -359,12 +411,13 @@ names-short StopPoint = omega arith
 names-short Block = omega arith
 
 -- a plain line has no fault of its own: 17 is never given for it
-pub row-judged : (t : Table) (row : Row) (b : Book) → Eleven row → row ≡ wide (take (keptWidth t) row) → ranged (columnsOf Dino21 t) (take (keptWidth t) row) ≡ true →
+pub row-judged : (t : Table) (row : Row) (b : Book) → Eleven row → row ≡ wide (take (keptWidth t) row) → ranged (columnsOf (b .edition) t) (take (keptWidth t) row) ≡ true →
     judged t (plainHeader t) (plainLine t row) b ≡ tooManyRows when full t b ⊳ ruled t row b
 unfolding judged
 row-judged t row b e s r =
+    let ed = b .edition in
     let n : length (take (keptWidth t) row) ≡ keptWidth t = kept-long t row e in
-    let good : badCell 1 (columnsOf Dino21 t) (map decimal (take (keptWidth t) row) ++ absent t) ≡ Passes =
-    good-cells 1 (columnsOf Dino21 t) (take (keptWidth t) row) (absent t) (rw n (kept-numeric t)) r (rw n (absent-good t)) in
-    let short : length (plainLine t row) ≤ 65 = line-short t row e r in
-    rw (le-ltb mostLine (length (plainLine t row)) (omega arith), cut-plain t row e, cut-counted t row e, eq-eqb (length (plainHeader t)) (length (plainHeader t)) refl, contents-plain t row e, good, kept-values t row e, ← s)
+    let good : badCell 1 (columnsOf ed t) (map decimal (take (keptWidth t) row) ++ absent ed t) ≡ Passes =
+    good-cells 1 (columnsOf ed t) (take (keptWidth t) row) (absent ed t) (rw n (kept-numeric ed t)) r (rw n (absent-good ed t)) in
+    let short : length (plainLine t row) ≤ 65 = line-short ed t row e r in
+    rw (le-ltb mostLine (length (plainLine t row)) (omega arith), cut-plain ed t row e, cut-counted t row e, eq-eqb (length (plainHeader t)) (length (plainHeader t)) refl, contents-plain ed t row e, good, kept-values ed t row e, ← s)

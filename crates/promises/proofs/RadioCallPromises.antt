@@ -17,7 +17,9 @@ use Rattle.tables.specs.Columns.{number}
 use Rattle.tables.specs.Parts.{tables}
 use Rattle.tables.specs.declared.Table.{Table}
 use Rattle.tables.specs.declared.Table.the-variants.{VehicleType, Depot, Stop, StopPoint, Block}
-use Rattle.book.specs.Book.{empty}
+use Rattle.editions.specs.declared.Edition.{Edition}
+use Rattle.editions.specs.declared.Edition.the-variants.{Dino21}
+use Rattle.book.specs.Book.{empty, emptyBy}
 use Rattle.book.specs.Result.{Result, refused, leaves}
 use Rattle.keeping.specs.Keeping.{lawfulBook, keepsRule}
 use Rattle.delivery.specs.Calls.{readOutcome}
@@ -27,7 +29,7 @@ use Rattle.radio.specs.Radio.{Sending, hearing, Course, Radio, awaits, hears, C
 use Rattle.radio.specs.Rule.{readingNumbers, lawfulFault, lawfulResult, lawfulRadio}
 use Rattle.radio.specs.Room.{Slices, Outcome, outcome, laidBook, laidOut, radioIn, keepsRadio, radioCall, openCall}
 use Rattle.radio.proofs.Laying.{OrderlyIn, handed}
-use Rattle.promises.specs.Radio.{run, parts, joined, sendingOf, deliveryOf, callsFor, callsOf, lastAnswer, called, SlicesTested, FoundAgain, CallsKeep, RefusalStays, CallsLawful, CallsRun, RadioReads}
+use Rattle.promises.specs.Radio.{UnknownOpeningStays, run, parts, joined, sendingOf, deliveryOf, callsFor, callsOf, lastAnswer, called, SlicesTested, FoundAgain, CallsKeep, RefusalStays, CallsLawful, CallsRun, RadioReads}
 use Rattle.promises.proofs.RuleLaws.{lawful-standing, laid-keeps, standing-orderly}
 use Rattle.promises.proofs.HeardPromises.{table-heard, Four, four-heard, delivery-heard, heard-as-read, never, out-of-turn}
 use Rattle.promises.proofs.RadioRulePromises.{standing-of, radio-kept}
@@ -35,9 +37,9 @@ use Rattle.radio.proofs.Laying as laying
 
 -- a lawful book is in order -------------------------------------------------------------------------------------------------------
 
-empty-lawful : lawfulBook empty ≡ true
+begun-lawful : (ed : Edition) → lawfulBook (emptyBy ed) ≡ true
 unfolding all rising
-empty-lawful = refl
+begun-lawful ed = refl
 
 lawful-orderly : (r : Result) → lawfulResult r ≡ true → OrderlyIn r
 lawful-orderly (refused p) e = tt
@@ -97,7 +99,7 @@ refusal-stays c s p v n = go (keepsRadio s) refl v
     go false e w = refl
 
 book-keeps : (r : Result) → lawfulResult r ≡ true → keepsRule (laidBook r) ≡ true
-book-keeps (refused p) e = laid-keeps empty (lawful-standing empty empty-lawful)
+book-keeps (refused p) e = laid-keeps empty (lawful-standing empty (begun-lawful Dino21))
 book-keeps (leaves b) e = laid-keeps b (lawful-standing b e)
 
 pub calls-lawful : CallsLawful
@@ -115,14 +117,17 @@ unfolding called run lastAnswer
 run-called v [] k e = refl
 run-called v (c ∷ cs) k e = ap (λ (o : Outcome). called (o .verdict) cs (o .slices)) (call-answers c k e) ∙ run-called (answer c k) cs (after c k) (radio-kept c k e)
 
-pub start-lawful : lawfulRadio start ≡ true
+pub start-lawful : (ed : Edition) → lawfulRadio (start ed) ≡ true
 unfolding lawfulRadio
-start-lawful = empty-lawful
+start-lawful ed = begun-lawful ed
+
+pub unknown-opening-stays : UnknownOpeningStays
+unknown-opening-stays n s u f = (rw (f, u), rw (f, u))
 
 pub calls-run : CallsRun
-calls-run cs s e =
-    let opened : openCall s .slices ≡ laidOut start = rw e in
-    ap (called Accepted cs) opened ∙ run-called Accepted cs start start-lawful
+calls-run n ed cs s c e =
+    let opened : openCall n s .slices ≡ laidOut (start ed) = rw (e, c) in
+    ap (called Accepted cs) opened ∙ run-called Accepted cs (start ed) (start-lawful ed)
 
 -- the last close --------------------------------------------------------------------------------------------------------------------
 
@@ -153,11 +158,11 @@ five-answers u v w x y z k = (
   last-join u v (w ++ (x ++ (y ++ z))) k ∙ last-join _ w (x ++ (y ++ z)) (run v k) ∙ last-join _ x (y ++ z) (run w (run v k)) ∙ last-join _ y z (run x (run w (run v k))),
 )
 
-last-heard : (a : Table → ℕ) (ps : Table → List Bytes) → lastAnswer Accepted (callsOf a ps) start ≡ verdictOf (hearing (sendingOf a ps))
+last-heard : (ed : Edition) (a : Table → ℕ) (ps : Table → List Bytes) → lastAnswer Accepted (callsOf a ps) (start ed) ≡ verdictOf (hearing ed (sendingOf a ps))
 unfolding callsOf
-last-heard a ps =
-    let f : Four a ps = four-heard a ps in
-    let k = five-answers Accepted (callsFor a ps VehicleType) (callsFor a ps Depot) (callsFor a ps Stop) (callsFor a ps StopPoint) (callsFor a ps Block) start in
+last-heard ed a ps =
+    let f : Four ed a ps = four-heard ed a ps in
+    let k = five-answers Accepted (callsFor a ps VehicleType) (callsFor a ps Depot) (callsFor a ps Stop) (callsFor a ps StopPoint) (callsFor a ps Block) (start ed) in
     k .1 ∙ ap (lastAnswer (k .0) (callsFor a ps Block)) (f .stands)
     ∙ last-table (k .0) (a Block) (ps Block) Block (f .result)
     ∙ ap (λ (z : Radio). verdictOf (standing z)) (table-heard Block (a Block) (ps Block) (f .result) (f .clear)) ∙ ap verdictOf (f .last)
@@ -168,14 +173,14 @@ as-read (leaves b) = (refl, refl)
 
 pub radio-reads : RadioReads
 unfolding laidOut sendingOf
-radio-reads a ps s fit e =
-    let o : Outcome = called Accepted (callsOf a ps) (openCall s .slices) in
+radio-reads n ed a ps s c fit e =
+    let o : Outcome = called Accepted (callsOf a ps) (openCall n s .slices) in
     let d : Sending = sendingOf a ps in
-    let r : Result = reading (deliveryOf d) in
-    let same : hearing d ≡ r = heard-as-read d (lengths a ps e) in
-    let out : o ≡ outcome (lastAnswer Accepted (callsOf a ps) start) (laidOut (run (callsOf a ps) start)) = calls-run (callsOf a ps) s fit in (
-      ap (λ (z : Outcome). z .verdict) out ∙ last-heard a ps ∙ ap verdictOf same ∙ as-read r .0,
-      ap (λ (z : Outcome). z .slices .book) out ∙ ap (λ (z : Radio). laidBook (standing z)) (delivery-heard a ps) ∙ ap laidBook same ∙ as-read r .1,
+    let r : Result = reading ed (deliveryOf d) in
+    let same : hearing ed d ≡ r = heard-as-read ed d (lengths a ps e) in
+    let out : o ≡ outcome (lastAnswer Accepted (callsOf a ps) (start ed)) (laidOut (run (callsOf a ps) (start ed))) = calls-run n ed (callsOf a ps) s c fit in (
+      ap (λ (z : Outcome). z .verdict) out ∙ last-heard ed a ps ∙ ap verdictOf same ∙ as-read r .0,
+      ap (λ (z : Outcome). z .slices .book) out ∙ ap (λ (z : Radio). laidBook (standing z)) (delivery-heard ed a ps) ∙ ap laidBook same ∙ as-read r .1,
     )
   where
     lengths : (a : Table → ℕ) (ps : Table → List Bytes) → ((t : Table) → a t ≡ length (joined (ps t))) → (t : Table) → sendingOf a ps .announced t ≡ length (sendingOf a ps .sent t)

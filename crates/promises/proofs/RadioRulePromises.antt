@@ -12,10 +12,10 @@ use Rattle.words.proofs.Lists.{and-left, and-right, every}
 use Rattle.refusals.specs.Verdicts.{_⊳_, _when_, placed, inText, textTooLong, tooManyRows, lineTooLong, lengthDiffers}
 use Rattle.refusals.specs.declared.Check.{Check}
 use Rattle.refusals.specs.declared.Check.the-variants.{Passes, Fails}
-use Rattle.lines.specs.Lines.{mostBytes, mostLine}
+use Rattle.lines.specs.Lines.{lineAfter, mostBytes, mostLine}
 use Rattle.rows.specs.Rows.{stands, inserted, sameKey}
 use Rattle.rows.proofs.Changes.{stands-key, stands-inserted, other-stands-inserted}
-use Rattle.tables.specs.declared.Edition.the-variants.{Dino21}
+use Rattle.editions.specs.declared.Edition.{Edition}
 use Rattle.tables.specs.Columns.{number, keyWidth, references}
 use Rattle.tables.specs.Parts.{tables}
 use Rattle.tables.specs.declared.Table.{Table}
@@ -28,7 +28,7 @@ use Rattle.rules.specs.Rules.{named, finds, unknownOf}
 use Rattle.keeping.specs.Keeping.{lawfulBook}
 use Rattle.header.specs.Header.{Header, member, headerCheck}
 use Rattle.row_line.specs.RowLine.{rowRead}
-use Rattle.table_lines.specs.Reading.{judged, lineAfter}
+use Rattle.table_lines.specs.Reading.{judged}
 use Rattle.radio.specs.Radio.{lengthCheck, Course, stopped, going, onward, headerIn, headHeard, rowHeard, lineHeard, endsLine, ended, byteHeard, none, cameTo, finished, faultBefore, Radio, awaits, hears, over, counted, announce, part, close, next, begun, byteTaken, partTaken, closing, after, standing, keptLine}
 use Rattle.radio.specs.Rule.{readingNumbers, lawfulResult, lawfulHead, lawfulCourse, lawfulRadio}
 use Rattle.radio.proofs.Parting.{ended-short}
@@ -78,13 +78,13 @@ module _ (t : Table) (row : Row) (b : Book) where
   standing-entered : Standing b → Taken t b row → Standing (entered t row b)
   standing-entered s k =
       every-table (λ u ys. Held u (entered t row b) ys) b t (inserted (keyWidth t) row (rows t b))
-      (rw rows-with at (held-entered t b row k (s t)))
+      (subst (λ (l : List Row). Held t (entered t row b) l) (rows-with t (inserted (keyWidth t) row (rows t b)) b) (held-entered t b row k (s t)))
       (λ u. record { rising = s u .rising; good = good-still u (rows u b) (s u .good); size = s u .size })
 
-pub lawful-entered : (t : Table) (h : Header) (l : Bytes) (b : Book) → lawfulBook b ≡ true → judged t h l b ≡ Passes → lawfulBook (entered t (rowRead Dino21 t h l) b) ≡ true
+pub lawful-entered : (t : Table) (h : Header) (l : Bytes) (b : Book) → lawfulBook b ≡ true → judged t h l b ≡ Passes → lawfulBook (entered t (rowRead (b .edition) t h l) b) ≡ true
 lawful-entered t h l b e p =
-    standing-lawful (entered t (rowRead Dino21 t h l) b)
-    (standing-entered t (rowRead Dino21 t h l) b (lawful-standing b e) (judged-taken t b h l p))
+    standing-lawful (entered t (rowRead (b .edition) t h l) b)
+    (standing-entered t (rowRead (b .edition) t h l) b (lawful-standing b e) (judged-taken t b h l p))
 
 -- a fault of a table that is read ------------------------------------------------------------------------------------------------
 
@@ -109,13 +109,13 @@ table-listed Block = refl
 abbrev Listed : List Numbered → Type 0
 Listed xs = every (λ x. member (x .number) readingNumbers) xs ≡ true
 
-header-listed : (t : Table) → Listed (headerNumbers t)
+header-listed : (ed : Edition) (t : Table) → Listed (headerNumbers ed t)
 unfolding member
-header-listed t = refl
+header-listed ed t = refl
 
-row-listed : (t : Table) → Listed (rowNumbers t)
+row-listed : (ed : Edition) (t : Table) → Listed (rowNumbers ed t)
 unfolding member
-row-listed t = refl
+row-listed ed t = refl
 
 -- a check of a line: on, unless it stops the table
 onward-lawful : (t : Table) (n i : ℕ) (xs : List Numbered) → Listed xs → (v : Check) → given xs v ≡ true → (c : Course) → (v ≡ Passes → lawfulCourse t n c ≡ true)
@@ -143,10 +143,13 @@ line-lawful : (t : Table) (n : ℕ) (b : Book) (i : ℕ) (head rest line : Bytes
 unfolding lineHeard
 line-lawful t n b i head rest line l k = go (eqb i 1) refl
   where
-    no-header : (j : ℕ) → 1 ≤ j → (m : Bytes) → eqb (lineAfter j m) 1 ≡ false
-    no-header j h m = ne-eqb (lineAfter j m) 1 (λ q. omega (arith, line-after j m))
+    ed : Edition
+    ed = b .edition
 
-    head-kept : headerCheck Dino21 t line ≡ Passes → lawfulHead t (lineAfter 1 line) line ≡ true
+    no-header : (j : ℕ) → 1 ≤ j → (m : Bytes) → eqb (lineAfter ed j m) 1 ≡ false
+    no-header j h m = ne-eqb (lineAfter ed j m) 1 (λ q. omega (arith, line-after ed j m))
+
+    head-kept : headerCheck ed t line ≡ Passes → lawfulHead ed t (lineAfter ed 1 line) line ≡ true
     head-kept e = rw (no-header 1 (omega arith) line, e)
 
     short : length line ≤ mostBytes
@@ -154,21 +157,21 @@ line-lawful t n b i head rest line l k = go (eqb i 1) refl
 
     top : lawfulCourse t (suc n) (headHeard t line b) ≡ true
     top =
-        onward-lawful t (suc n) 1 (headerNumbers t) (header-listed t) (headerCheck Dino21 t line) (given-header t line short) (going b (lineAfter 1 line) line [])
-        (λ e. is-lawful t (suc n) b (lineAfter 1 line) line [] (record { book = k .book; some = omega (arith, line-after 1 line); few = omega (arith, line-before 1 line, k .some, k .few); top = head-kept e; short = omega arith }))
+        onward-lawful t (suc n) 1 (headerNumbers ed t) (header-listed ed t) (headerCheck ed t line) (given-header ed t line short) (going b (lineAfter ed 1 line) line [])
+        (λ e. is-lawful t (suc n) b (lineAfter ed 1 line) line [] (record { book = k .book; some = omega (arith, line-after ed 1 line); few = omega (arith, line-before ed 1 line, l, k .some, k .few); top = head-kept e; short = omega arith }))
 
-    same-head : eqb i 1 ≡ false → lawfulHead t (lineAfter i line) head ≡ true
+    same-head : eqb i 1 ≡ false → lawfulHead ed t (lineAfter ed i line) head ≡ true
     same-head e =
-        let h : lawfulHead t i head ≡ true = k .top in
+        let h : lawfulHead ed t i head ≡ true = k .top in
         rw (no-header i (k .some) line) (rw e at h)
 
     row : eqb i 1 ≡ false → lawfulCourse t (suc n) (rowHeard t line b i head) ≡ true
     row q =
-        onward-lawful t (suc n) i (rowNumbers t) (row-listed t) (judged t (headerIn t head) line b) (given-row t (headerIn t head) line b short)
-        (going (entered t (rowRead Dino21 t (headerIn t head) line) b) (lineAfter i line) head [])
+        onward-lawful t (suc n) i (rowNumbers ed t) (row-listed ed t) (judged t (headerIn ed t head) line b) (given-row t (headerIn ed t head) line b short)
+        (going (entered t (rowRead ed t (headerIn ed t head) line) b) (lineAfter ed i line) head [])
         (λ e.
-        is-lawful t (suc n) (entered t (rowRead Dino21 t (headerIn t head) line) b) (lineAfter i line) head []
-        (record { book = lawful-entered t (headerIn t head) line b (k .book) e; some = omega (arith, line-after i line); few = omega (arith, line-before i line, k .few); top = same-head q; short = omega arith }))
+        is-lawful t (suc n) (entered t (rowRead ed t (headerIn ed t head) line) b) (lineAfter ed i line) head []
+        (record { book = lawful-entered t (headerIn ed t head) line b (k .book) e; some = omega (arith, line-after ed i line); few = omega (arith, line-before ed i line, l, k .few); top = same-head q; short = omega arith }))
 
     go : (q : Bool) → eqb i 1 ≡ q → lawfulCourse t (suc n) (if q then headHeard t line b else rowHeard t line b i head) ≡ true
     go true e = top
@@ -184,13 +187,13 @@ long-lawful t n b i head line l = go (eqb i 1)
     row false c = table-listed t
 
     go : (q : Bool) → lawfulCourse t n (if q then headHeard t line b else rowHeard t line b i head) ≡ true
-    go true = rw (long-headed t line l) (table-listed t)
-    go false = rw (long-judged t (headerIn t head) line b l) (row (full t b) _)
+    go true = rw (long-headed (b .edition) t line l) (table-listed t)
+    go false = rw (long-judged t (headerIn (b .edition) t head) line b l) (row (full t b) _)
 
 byte-lawful : (t : Table) (n x : ℕ) (c : Course) → lawfulCourse t n c ≡ true → lawfulCourse t (suc n) (byteHeard t x c) ≡ true
 unfolding byteHeard
 byte-lawful t n x (stopped p) e = e
-byte-lawful t n x (going b i head rest) e = go (endsLine rest x) (ltb (length rest) keptLine) refl (kept t n b i head rest e)
+byte-lawful t n x (going b i head rest) e = go (endsLine (b .edition) rest x) (ltb (length rest) keptLine) refl (kept t n b i head rest e)
   where
     go : (q u : Bool) → ltb (length rest) keptLine ≡ u → Kept t n b i head rest →
         lawfulCourse t (suc n) (if q then lineHeard t (ended rest) b i head else if u then going b i head (rest ++ (x ∷ [])) else lineHeard t (rest ++ (x ∷ [])) b i head) ≡ true

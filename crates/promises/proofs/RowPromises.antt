@@ -15,7 +15,7 @@ use Rattle.rows.specs.declared.Order.the-variants.{Less, Same, More}
 use Rattle.rows.proofs.Changes.{stands-key, found-key, stands-inserted, found-inserted, other-stands-inserted, other-found-inserted, length-inserted}
 use Rattle.rows.proofs.Rising.{Above, Rising}
 use Rattle.rows.proofs.Keys.{order-refl, less-more}
-use Rattle.tables.specs.declared.Edition.the-variants.{Dino21}
+use Rattle.editions.specs.declared.Edition.{Edition}
 use Rattle.tables.specs.Columns.{keyWidth, number}
 use Rattle.tables.specs.declared.Table.{Table}
 use Rattle.tables.specs.declared.Table.the-variants.{Block, VehicleType}
@@ -28,7 +28,8 @@ use Rattle.questions.specs.Calls.{typeAnswered, blockAnswered}
 use Rattle.questions.specs.declared.TypeAnswer.{TypeAnswer}
 use Rattle.header.specs.Header.{Header, headerOf, topFaults}
 use Rattle.row_line.specs.RowLine.{rowRead}
-use Rattle.table_lines.specs.Reading.{judged, lineAfter, rowsRead}
+use Rattle.lines.specs.Lines.{headLine, lineAfter, lines}
+use Rattle.table_lines.specs.Reading.{judged, rowsRead}
 use Rattle.table_reading.specs.Reading.{tableRead}
 use Rattle.delivery.specs.Delivery.{Delivery, reading}
 use Rattle.promises.specs.Promises.{copies, rowLinesOf, rowsOf, textOf, RowsExactly, KeysExactly, TotalsExactly, TypesAnswered, BlocksAnswered, WrittenFits}
@@ -76,8 +77,8 @@ pub record Gained (t : Table) (before after : Book) (xs : List Row) : Type 0 whe
   pub standing : (key : Row) → stands (keyWidth t) key (rows t after) ≡ both-stand (keyWidth t) key (rows t before) xs
   pub finding : (key : Row) → found (keyWidth t) key (rows t after) ≡ both-found (keyWidth t) key (rows t before) xs
 
-rows-gained : (t : Table) (h : Header) (i : ℕ) (ls : List Bytes) (b c : Book) → rowsRead t h i ls b ≡ leaves c → Gained t b c (map (rowRead Dino21 t h) ls)
-unfolding rowsRead lineAfter copies total stands found
+rows-gained : (t : Table) (h : Header) (i : ℕ) (ls : List Bytes) (b c : Book) → rowsRead t h i ls b ≡ leaves c → Gained t b c (map (rowRead (b .edition) t h) ls)
+unfolding rowsRead copies total stands found
 rows-gained t h i [] b c e =
     let f : b ≡ c = cc in
     let k = keyWidth t in
@@ -101,47 +102,50 @@ rows-gained t h i [] b c e =
         go : (q : Bool) → sameKey k key x ≡ q → both-found k key xs [] ≡ found k key xs → both-found k key (x ∷ xs) [] ≡ found k key (x ∷ xs)
         go true q ih = rw q
         go false q ih = rw q ih
-rows-gained t h i (l ∷ ls) b c e = go (judged t h l b) refl (rows-gained t h (suc i) ls (entered t (rowRead Dino21 t h l) b) c) e
+rows-gained t h i (l ∷ ls) b c e = go (judged t h l b) refl (rows-gained t h (lineAfter (b .edition) i l) ls (entered t (rowRead (b .edition) t h l) b) c) e
   where
     go : (v : Check) → judged t h l b ≡ v →
-        (rowsRead t h (suc i) ls (entered t (rowRead Dino21 t h l) b) ≡ leaves c → Gained t (entered t (rowRead Dino21 t h l) b) c (map (rowRead Dino21 t h) ls)) →
-        unless (placed (number t) i (judged t h l b)) (rowsRead t h (suc i) ls (entered t (rowRead Dino21 t h l) b)) ≡ leaves c →
-        Gained t b c (map (rowRead Dino21 t h) (l ∷ ls))
+        (rowsRead t h (lineAfter (b .edition) i l) ls (entered t (rowRead (b .edition) t h l) b) ≡ leaves c → Gained t (entered t (rowRead (b .edition) t h l) b) c (map (rowRead (b .edition) t h) ls)) →
+        unless (placed (number t) i (judged t h l b)) (rowsRead t h (lineAfter (b .edition) i l) ls (entered t (rowRead (b .edition) t h l) b)) ≡ leaves c →
+        Gained t b c (map (rowRead (b .edition) t h) (l ∷ ls))
     go Passes v ih f =
-        let g : Gained t (entered t (rowRead Dino21 t h l) b) c (map (rowRead Dino21 t h) ls) = ih (rw v at f) in
-        let a : Taken t b (rowRead Dino21 t h l) = judged-taken t b h l v in
-        let own : rows t (entered t (rowRead Dino21 t h l) b) ≡ inserted (keyWidth t) (rowRead Dino21 t h l) (rows t b) =
-        rows-with t (inserted (keyWidth t) (rowRead Dino21 t h l) (rows t b)) b in
+        let g : Gained t (entered t (rowRead (b .edition) t h l) b) c (map (rowRead (b .edition) t h) ls) = ih (rw v at f) in
+        let a : Taken t b (rowRead (b .edition) t h l) = judged-taken t b h l v in
+        let own : rows t (entered t (rowRead (b .edition) t h l) b) ≡ inserted (keyWidth t) (rowRead (b .edition) t h l) (rows t b) =
+        rows-with t (inserted (keyWidth t) (rowRead (b .edition) t h l) (rows t b)) b in
         record {
-          many = omega (arith, g .many, ap length own, length-inserted (keyWidth t) (rowRead Dino21 t h l) (rows t b) (a .fresh));
-          each = λ row. omega (arith, g .each row, ap (copies row) own, fresh (copies row) (copies-weighs row) (keyWidth t) (rowRead Dino21 t h l) (rows t b) (a .fresh));
-          weighed = λ weight v n. omega (arith, g .weighed weight v n, ap (total weight v n) own, fresh (total weight v n) (total-weighs weight v n) (keyWidth t) (rowRead Dino21 t h l) (rows t b) (a .fresh));
+          many = omega (arith, g .many, ap length own, length-inserted (keyWidth t) (rowRead (b .edition) t h l) (rows t b) (a .fresh));
+          each = λ row. omega (arith, g .each row, ap (copies row) own, fresh (copies row) (copies-weighs row) (keyWidth t) (rowRead (b .edition) t h l) (rows t b) (a .fresh));
+          weighed = λ weight v n. omega (arith, g .weighed weight v n, ap (total weight v n) own, fresh (total weight v n) (total-weighs weight v n) (keyWidth t) (rowRead (b .edition) t h l) (rows t b) (a .fresh));
           standing = λ key.
-              g .standing key ∙ ap (λ (z : List Row). both-stand (keyWidth t) key z (map (rowRead Dino21 t h) ls)) own
-              ∙ find-fresh (keyWidth t) key (rowRead Dino21 t h l) (rows t b) (map (rowRead Dino21 t h) ls) (a .fresh) .0;
+              g .standing key ∙ ap (λ (z : List Row). both-stand (keyWidth t) key z (map (rowRead (b .edition) t h) ls)) own
+              ∙ find-fresh (keyWidth t) key (rowRead (b .edition) t h l) (rows t b) (map (rowRead (b .edition) t h) ls) (a .fresh) .0;
           finding = λ key.
-              g .finding key ∙ ap (λ (z : List Row). both-found (keyWidth t) key z (map (rowRead Dino21 t h) ls)) own
-              ∙ find-fresh (keyWidth t) key (rowRead Dino21 t h l) (rows t b) (map (rowRead Dino21 t h) ls) (a .fresh) .1;
+              g .finding key ∙ ap (λ (z : List Row). both-found (keyWidth t) key z (map (rowRead (b .edition) t h) ls)) own
+              ∙ find-fresh (keyWidth t) key (rowRead (b .edition) t h l) (rows t b) (map (rowRead (b .edition) t h) ls) (a .fresh) .1;
         }
     go (Fails n k) v ih f =
         let x : refused (place n (number t) i k) ≡ leaves c = rw v at f in
         let z : _≡_ {A = ℕ} 0 1 = cc in let y : ⊥ = omega arith in absurd y
 
 -- a table of an accepted delivery
-table-gained : (d : Delivery) (b : Book) (t : Table) (e : reading d ≡ leaves b) → let r = left-by d b e .tables t in Gained t (r .before) (r .after) (rowsOf t (textOf t d))
-unfolding tableRead lineAfter
-table-gained d b t e =
-    let r : ReadTo t (textOf t d) b = left-by d b e .tables t in
+table-gained : (ed : Edition) (d : Delivery) (b : Book) (t : Table) (e : reading ed d ≡ leaves b) → let r = left-by ed d b e .tables t in Gained t (r .before) (r .after) (rowsOf ed t (textOf t d))
+unfolding tableRead
+table-gained ed d b t e =
+    let r : ReadTo ed t (textOf t d) b = left-by ed d b e .tables t in
     let s : Bytes = textOf t d in
-    let h : Header = headerOf Dino21 t s in
-    rows-gained t h 2 (rowLinesOf s) (r .before) (r .after) (going-on (topFaults Dino21 t s) (rowsRead t h 2 (rowLinesOf s) (r .before)) (r .after) (r .read))
+    let q = r .before .edition in
+    let h : Header = headerOf q t s in
+    let first = lineAfter q 1 (headLine (lines q s)) in
+    subst (λ (z : Edition). Gained t (r .before) (r .after) (rowsOf z t s)) (r .by)
+    (rows-gained t h first (rowLinesOf q s) (r .before) (r .after) (going-on (topFaults q t s) (rowsRead t h first (rowLinesOf q s) (r .before)) (r .after) (r .read)))
 
 pub rows-exactly : RowsExactly
 unfolding copies
-rows-exactly d b t e =
-    let a : Accepted d b = left-by d b e in
-    let r : ReadTo t (textOf t d) b = a .tables t in
-    let g : Gained t (r .before) (r .after) (rowsOf t (textOf t d)) = table-gained d b t e in (
+rows-exactly ed d b t e =
+    let a : Accepted ed d b = left-by ed d b e in
+    let r : ReadTo ed t (textOf t d) b = a .tables t in
+    let g : Gained t (r .before) (r .after) (rowsOf ed t (textOf t d)) = table-gained ed d b t e in (
       a .standing t .rising,
       omega (arith, ap length (r .same), g .many, ap length (r .bare)),
       λ row. omega (arith, ap (copies row) (r .same), g .each row, ap (copies row) (r .bare)),
@@ -149,48 +153,48 @@ rows-exactly d b t e =
 
 pub keys-exactly : KeysExactly
 unfolding stands found
-keys-exactly d b t key e =
-    let r : ReadTo t (textOf t d) b = left-by d b e .tables t in
-    let g : Gained t (r .before) (r .after) (rowsOf t (textOf t d)) = table-gained d b t e in
+keys-exactly ed d b t key e =
+    let r : ReadTo ed t (textOf t d) b = left-by ed d b e .tables t in
+    let g : Gained t (r .before) (r .after) (rowsOf ed t (textOf t d)) = table-gained ed d b t e in
     let k = keyWidth t in (
-      ap (λ (z : List Row). stands k key z) (sym (r .same)) ∙ g .standing key ∙ ap (λ (z : List Row). both-stand k key z (rowsOf t (textOf t d))) (r .bare),
-      ap (λ (z : List Row). found k key z) (sym (r .same)) ∙ g .finding key ∙ ap (λ (z : List Row). both-found k key z (rowsOf t (textOf t d))) (r .bare),
+      ap (λ (z : List Row). stands k key z) (sym (r .same)) ∙ g .standing key ∙ ap (λ (z : List Row). both-stand k key z (rowsOf ed t (textOf t d))) (r .bare),
+      ap (λ (z : List Row). found k key z) (sym (r .same)) ∙ g .finding key ∙ ap (λ (z : List Row). both-found k key z (rowsOf ed t (textOf t d))) (r .bare),
     )
 
-pub weighed-exactly : (d : Delivery) (b : Book) → reading d ≡ leaves b → (weight : Row → ℕ) (v n : ℕ) → total weight v n (b .blocks) ≡ total weight v n (rowsOf Block (d .blocks))
+pub weighed-exactly : (ed : Edition) (d : Delivery) (b : Book) → reading ed d ≡ leaves b → (weight : Row → ℕ) (v n : ℕ) → total weight v n (b .blocks) ≡ total weight v n (rowsOf ed Block (d .blocks))
 unfolding total
-weighed-exactly d b e weight v n =
-    let r : ReadTo Block (d .blocks) b = left-by d b e .tables Block in
-    let g : Gained Block (r .before) (r .after) (rowsOf Block (d .blocks)) = table-gained d b Block e in
+weighed-exactly ed d b e weight v n =
+    let r : ReadTo ed Block (d .blocks) b = left-by ed d b e .tables Block in
+    let g : Gained Block (r .before) (r .after) (rowsOf ed Block (d .blocks)) = table-gained ed d b Block e in
     omega (arith, ap (total weight v n) (r .same), g .weighed weight v n, ap (total weight v n) (r .bare))
 
 pub totals-exactly : TotalsExactly
-totals-exactly d b version type e = (weighed-exactly d b e seconds version type, weighed-exactly d b e (λ x. 1) version type)
+totals-exactly ed d b version type e = (weighed-exactly ed d b e seconds version type, weighed-exactly ed d b e (λ x. 1) version type)
 
 pub types-answered : TypesAnswered
-types-answered d b version type e =
+types-answered ed d b version type e =
     let key : Row = version ∷ type ∷ [] in
     let said : Bool → ℕ → ℕ → TypeAnswer = λ there s c. typeAnswered (nowhere (notThere when not there)) s c in
-    let there = stands 2 key (rowsOf VehicleType (d .types)) in
-    let blocks = rowsOf Block (d .blocks) in
-    let x = totals-exactly d b version type e in
-    type-asked b (left-by d b e .standing) version type
-    ∙ ap (λ (z : Bool). said z (secondsOf version type (b .blocks)) (countOf version type (b .blocks))) (keys-exactly d b VehicleType key e .0)
+    let there = stands 2 key (rowsOf ed VehicleType (d .types)) in
+    let blocks = rowsOf ed Block (d .blocks) in
+    let x = totals-exactly ed d b version type e in
+    type-asked b (left-by ed d b e .standing) version type
+    ∙ ap (λ (z : Bool). said z (secondsOf version type (b .blocks)) (countOf version type (b .blocks))) (keys-exactly ed d b VehicleType key e .0)
     ∙ ap (λ (z : ℕ). said there z (countOf version type (b .blocks))) (x .0)
     ∙ ap (λ (z : ℕ). said there (secondsOf version type blocks) z) (x .1)
 
 pub blocks-answered : BlocksAnswered
-blocks-answered d b version day depot block e =
+blocks-answered ed d b version day depot block e =
     let key : Row = version ∷ day ∷ depot ∷ block ∷ [] in
-    let blocks = rowsOf Block (d .blocks) in
-    let x = keys-exactly d b Block key e in
-    block-asked b (left-by d b e .standing) version day depot block
+    let blocks = rowsOf ed Block (d .blocks) in
+    let x = keys-exactly ed d b Block key e in
+    block-asked b (left-by ed d b e .standing) version day depot block
     ∙ ap (λ (z : Bool). blockAnswered (nowhere (notThere when not z)) (seven (found 4 key (b .blocks)))) (x .0)
     ∙ ap (λ (z : Row). blockAnswered (nowhere (notThere when not (stands 4 key blocks))) (seven z)) (x .1)
 
 pub written-fits : WrittenFits
 written-fits b l =
-    let h : Held Block b (b .blocks) = left-by (l .0) b (l .1) .standing Block in
+    let h : Held Block b (b .blocks) = left-by (l .0) (l .1 .0) b (l .1 .1) .standing Block in
     subst (λ (s : Bytes). length s ≤ 65536) (written-plain b (b .blocks) h) (plain-short Block b (b .blocks) h)
 
 -- a row that stands is found by its key ----------------------------------------------------------------------------------

@@ -14,9 +14,9 @@ use Rattle.refusals.specs.Verdicts.{passes, _when_, _before_, nowhere, notThere
 use Rattle.rows.specs.Rows.{wide, rising, column, stands, found}
 use Rattle.rows.specs.Room.{sameRows}
 use Rattle.rows.proofs.Room.{Versioned, sameRows-refl}
-use Rattle.tables.specs.declared.Edition.the-variants.{Dino21}
+use Rattle.editions.specs.declared.Edition.{Edition}
 use Rattle.tables.specs.Columns.{columnsOf, keyWidth, keptWidth, Column, noColumn, inRange, columnAt}
-use Rattle.tables.specs.Parts.{room}
+use Rattle.tables.specs.Parts.{room, bookRows}
 use Rattle.tables.specs.declared.Table.{Table}
 use Rattle.tables.specs.declared.Rules.{Rules}
 use Rattle.tables.specs.declared.Table.the-variants.{VehicleType, Block}
@@ -42,7 +42,7 @@ use Rattle.promises.proofs.PlainLaws.{Eleven, kept-long}
 module _ (t : Table) (b : Book) where
   lawful-good : (row : Row) → lawful t b row ≡ true → Good t b row
   lawful-good row h =
-      let k = and-four (same row (wide (take (keptWidth t) row))) (ranged (columnsOf Dino21 t) (take (keptWidth t) row)) (not (timeFault t row)) (passes (unknown t row b)) h in
+      let k = and-four (same row (wide (take (keptWidth t) row))) (ranged (columnsOf (b .edition) t) (take (keptWidth t) row)) (not (timeFault t row)) (passes (unknown t row b)) h in
       record {
         shape = same-true row (wide (take (keptWidth t) row)) (k .0);
         inside = k .1;
@@ -89,19 +89,19 @@ first-inside [] ns l m r = absurd (omega arith)
 first-inside (x ∷ xs) [] l m r = absurd (omega arith)
 first-inside (x ∷ xs) (n ∷ ns) l m r = and-left (inRange (x .rules) n) (ranged xs ns) r
 
-first-versioned : (t : Table) (row : Row) → Eleven row → ranged (columnsOf Dino21 t) (take (keptWidth t) row) ≡ true → 1 ≤ column 1 row
-first-versioned t row e r =
-    let x : Rules = columnAt Dino21 t 0 .rules in
+first-versioned : (ed : Edition) (t : Table) (row : Row) → Eleven row → ranged (columnsOf ed t) (take (keptWidth t) row) ≡ true → 1 ≤ column 1 row
+first-versioned ed t row e r =
+    let x : Rules = columnAt ed t 0 .rules in
     let some : 1 ≤ keptWidth t = omega (arith, keys-some t, keys-kept t) in
     let inside : inRange x (getD (take (keptWidth t) row) 0 0) ≡ true =
-    first-inside (columnsOf Dino21 t) (take (keptWidth t) row) (omega (arith, kept-columns Dino21 t)) (omega (arith, kept-long t row e)) r in
+    first-inside (columnsOf ed t) (take (keptWidth t) row) (omega (arith, kept-columns ed t)) (omega (arith, kept-long t row e)) r in
     let low : x .low ≤ getD (take (keptWidth t) row) 0 0 = leb-true (x .low) (getD (take (keptWidth t) row) 0 0) (and-left (leb (x .low) (getD (take (keptWidth t) row) 0 0)) _ inside) in
-    omega (arith, version-low Dino21 t, getD-take (keptWidth t) row 0 0 some)
+    omega (arith, version-low ed t, getD-take (keptWidth t) row 0 0 some)
 
 versioned : (t : Table) (b : Book) (xs : List Row) → EachGood t b xs → Versioned xs
 unfolding Versioned EachGood
 versioned t b [] h = tt
-versioned t b (x ∷ xs) h = let g : Good t b x = h .0 in (first-versioned t x (good-eleven t x (g .shape)) (g .inside), versioned t b xs (h .1))
+versioned t b (x ∷ xs) h = let g : Good t b x = h .0 in (first-versioned (b .edition) t x (good-eleven t x (g .shape)) (g .inside), versioned t b xs (h .1))
 
 pub standing-orderly : (b : Book) → Standing b → Orderly b
 standing-orderly b h = record { few = λ t. h t .size; rises = λ t. h t .rising; versioned = λ t. versioned t b (rows t b) (h t .good) }
@@ -109,8 +109,8 @@ standing-orderly b h = record { few = λ t. h t .size; rises = λ t. h t .rising
 pub laid-keeps : (b : Book) → Standing b → keepsRule (laid b) ≡ true
 laid-keeps b h =
     let o : Orderly b = standing-orderly b h in
-    and-both (eqb (length (laid b)) 2560 && lawfulBook (bookOf (laid b))) (sameRows (laid b) (laid (bookOf (laid b))))
-    (and-both (eqb (length (laid b)) 2560) (lawfulBook (bookOf (laid b))) (eq-eqb (length (laid b)) 2560 (sound-laid b o .long))
+    and-both (eqb (length (laid b)) bookRows && lawfulBook (bookOf (laid b))) (sameRows (laid b) (laid (bookOf (laid b))))
+    (and-both (eqb (length (laid b)) bookRows) (lawfulBook (bookOf (laid b))) (eq-eqb (length (laid b)) bookRows (sound-laid b o .long))
     (subst (λ (z : Book). lawfulBook z ≡ true) (sym (book-laid b o)) (standing-lawful b h)))
     (subst (λ (z : Book). sameRows (laid b) (laid z) ≡ true) (sym (book-laid b o)) (sameRows-refl (laid b)))
 

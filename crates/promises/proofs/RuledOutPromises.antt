@@ -6,6 +6,7 @@ use mathlib.Core.List.{[], _∷_}
 use Rattle.words.specs.Words.{Bytes, bytes}
 use Rattle.rows.specs.Rows.{wide}
 use Rattle.slip_line.specs.SlipLine.{rowIn}
+use Rattle.editions.specs.declared.Edition.the-variants.{Dino21}
 use Rattle.book.specs.Book.{Book}
 use Rattle.promises.specs.Run.{computed}
 use Rattle.promises.specs.Promises.{copies, honoured, allTaken, allBrought}
@@ -20,6 +21,7 @@ few =
       stops = wide (1 ∷ 20 ∷ []) ∷ [];
       points = wide (1 ∷ 20 ∷ 1 ∷ []) ∷ [];
       blocks = [];
+      edition = Dino21;
     }
 
 line : Bytes

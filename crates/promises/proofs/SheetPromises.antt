@@ -20,8 +20,11 @@ use Rattle.numbers.specs.Putting.{put}
 use Rattle.numbers.proofs.Writing.{decimal-width}
 use Rattle.rows.specs.Room.{zeros}
 use Rattle.rows.specs.Rows.{column, rising}
+use Rattle.editions.specs.Editions.{choice}
+use Rattle.editions.specs.declared.Edition.{Edition}
+use Rattle.editions.specs.declared.Choice.the-variants.{Chosen}
 use Rattle.tables.specs.Columns.{columnsOf, keyWidth, number}
-use Rattle.tables.specs.Parts.{room}
+use Rattle.tables.specs.Parts.{room, bookRows}
 use Rattle.tables.specs.declared.Table.{Table}
 use Rattle.tables.specs.declared.Table.the-variants.{VehicleType, Depot, Stop, StopPoint, Block}
 use Rattle.book.specs.Book.{Book, empty, rows}
@@ -58,44 +61,44 @@ use Rattle.promises.proofs.NumberedPromises.{Bounded, reading-bounded, 
 
 -- a day ------------------------------------------------------------------------------------------------------------------------
 
-day-sized : (d : Delivery) (s : Bytes) (book work : List Row) → length work ≡ 512 → dayCall d s book work ≡ thenSlip (readCall d book .verdict) s (readCall d book .book) work
-day-sized d s book work n = rw (eq-eqb (length work) 512 n)
+day-sized : (n : ℕ) (d : Delivery) (s : Bytes) (book work : List Row) → length work ≡ 512 → dayCall n d s book work ≡ thenSlip (readCall n d book .verdict) s (readCall n d book .book) work
+day-sized n d s book work j = rw (eq-eqb (length work) 512 j)
 
 -- behind a reading
-day-read : (d : Delivery) (s : Bytes) (book work : List Row) (r : Result) → length book ≡ 2560 → length work ≡ 512 → reading d ≡ r →
-    dayCall d s book work ≡ thenSlip (readOutcome r .verdict) s (readOutcome r .book) work
-day-read d s book work r m n e =
-    day-sized d s book work n
-    ∙ ap (λ (o : reading-is.Outcome). thenSlip (o .verdict) s (o .book) work) (read-sized d book m ∙ ap readOutcome e)
+day-read : (n : ℕ) (e : Edition) (d : Delivery) (s : Bytes) (book work : List Row) (r : Result) → choice n ≡ Chosen e → length book ≡ bookRows → length work ≡ 512 → reading e d ≡ r →
+    dayCall n d s book work ≡ thenSlip (readOutcome r .verdict) s (readOutcome r .book) work
+day-read n e d s book work r c i j h =
+    day-sized n d s book work j
+    ∙ ap (λ (o : reading-is.Outcome). thenSlip (o .verdict) s (o .book) work) (read-sized n e d book c i ∙ ap readOutcome h)
 
 pub day-call-answers : DayCallAnswers
-day-call-answers d s book work m n = (
-  λ p e. day-read d s book work (refused p) m n e ∙ ap (outcome (Refused p) (laid empty)) (rw (eq-eqb (length work) 512 n)),
-  λ b e. day-read d s book work (leaves b) m n e ∙ slip-call-answers s b work (d, e) n,
+day-call-answers n e d s book work c i j = (
+  λ p h. day-read n e d s book work (refused p) c i j h ∙ ap (outcome (Refused p) (laid empty)) (rw (eq-eqb (length work) 512 j)),
+  λ b h. day-read n e d s book work (leaves b) c i j h ∙ slip-call-answers s b work (e, (d, h)) j,
 )
 
-unsized : (d : Delivery) (s : Bytes) (book work : List Row) → (length work ≡ 512 → ⊥) → dayCall d s book work ≡ outcome (nowhere badLoan) (emptied book) work
-unsized d s book work n = rw (ne-eqb (length work) 512 n)
+unsized : (n : ℕ) (d : Delivery) (s : Bytes) (book work : List Row) → (length work ≡ 512 → ⊥) → dayCall n d s book work ≡ outcome (nowhere badLoan) (emptied book) work
+unsized n d s book work j = rw (ne-eqb (length work) 512 j)
 
 pub wrong-day-loan-stays : WrongDayLoanStays
-wrong-day-loan-stays d s book work = (
-  λ m. let w = wrong-book m (workSized work) in (ap paper (w .0), w .1),
-  λ n. let u = unsized d s book work n in (ap (λ (o : Outcome). paper (o .verdict)) u, ap (λ (o : Outcome). o .work) u),
-  λ m n. ap (λ (o : Outcome). o .book) (unsized d s book work n) ∙ rw (eq-eqb (length book) 2560 m),
-  λ n. ap (λ (o : Outcome). o .work) (day-sized d s book work n) ∙ work-left (readCall d book .verdict) (readCall d book .book) ∙ rw (eq-eqb (length work) 512 n),
+wrong-day-loan-stays n d s book work = (
+  λ i. let w = wrong-book i (workSized work) in (ap paper (w .0), w .1),
+  λ j. let u = unsized n d s book work j in (ap (λ (o : Outcome). paper (o .verdict)) u, ap (λ (o : Outcome). o .work) u),
+  λ i j. ap (λ (o : Outcome). o .book) (unsized n d s book work j) ∙ rw (eq-eqb (length book) bookRows i),
+  λ j. ap (λ (o : Outcome). o .work) (day-sized n d s book work j) ∙ work-left (readCall n d book .verdict) (readCall n d book .book) ∙ rw (eq-eqb (length work) 512 j),
 )
   where
-    stays : (length book ≡ 2560 → ⊥) → readCall d book ≡ reading-is.outcome (nowhere badLoan) book
-    stays m = rw (ne-eqb (length book) 2560 m)
+    stays : (length book ≡ bookRows → ⊥) → readCall n d book ≡ reading-is.outcome (nowhere badLoan) book
+    stays i = rw (ne-eqb (length book) bookRows i)
 
     day : Bool → Outcome
-    day q = if q then thenSlip (readCall d book .verdict) s (readCall d book .book) work else outcome (nowhere badLoan) (emptied book) work
+    day q = if q then thenSlip (readCall n d book .verdict) s (readCall n d book .book) work else outcome (nowhere badLoan) (emptied book) work
 
-    wrong-book : (length book ≡ 2560 → ⊥) → (q : Bool) → (day q .verdict ≡ nowhere badLoan) × (day q .book ≡ book)
-    wrong-book m true =
-        let e = ap (λ (o : reading-is.Outcome). thenSlip (o .verdict) s (o .book) work) (stays m) in
+    wrong-book : (length book ≡ bookRows → ⊥) → (q : Bool) → (day q .verdict ≡ nowhere badLoan) × (day q .book ≡ book)
+    wrong-book i true =
+        let e = ap (λ (o : reading-is.Outcome). thenSlip (o .verdict) s (o .book) work) (stays i) in
         (ap (λ (o : Outcome). o .verdict) e, ap (λ (o : Outcome). o .book) e)
-    wrong-book m false = (refl, rw (ne-eqb (length book) 2560 m))
+    wrong-book i false = (refl, rw (ne-eqb (length book) bookRows i))
 
     work-left : (v : Verdict) (ys : List Row) → thenSlip v s ys work .work ≡ cleared work
     work-left Accepted ys = work-behind (judgedSlip s ys work) ys work
@@ -125,18 +128,19 @@ module _ (s : Bytes) (book : List Row) where
   then-unread Accepted work area n m = slip-unread work area n m
   then-unread (Refused p) work area n m = outcome-blank (refused p) work n ∙ sym (outcome-blank (refused p) area m)
 
-read-unread : (d : Delivery) (book other : List Row) → length book ≡ 2560 → length other ≡ 2560 → readCall d book ≡ readCall d other
-read-unread d book other n m = read-sized d book n ∙ sym (read-sized d other m)
+-- of any edition, and of none
+read-unread : (n : ℕ) (d : Delivery) (book other : List Row) → length book ≡ bookRows → length other ≡ bookRows → readCall n d book ≡ readCall n d other
+read-unread n d book other i j = rw (eq-eqb (length book) bookRows i, eq-eqb (length other) bookRows j)
 
 pub lent-rows-unread : LentRowsUnread
 lent-rows-unread = (
   read-unread,
   slip-unread,
-  λ d s book other work area i j n m.
-      day-sized d s book work n
-      ∙ then-unread s (readCall d book .book) (readCall d book .verdict) work area n m
-      ∙ ap (λ (o : reading-is.Outcome). thenSlip (o .verdict) s (o .book) area) (read-unread d book other i j)
-      ∙ sym (day-sized d s other area m),
+  λ n d s book other work area i j k l.
+      day-sized n d s book work k
+      ∙ then-unread s (readCall n d book .book) (readCall n d book .verdict) work area k l
+      ∙ ap (λ (o : reading-is.Outcome). thenSlip (o .verdict) s (o .book) area) (read-unread n d book other i j)
+      ∙ sym (day-sized n d s other area l),
 )
 
 -- how long a sheet is ------------------------------------------------------------------------------------------------------------
@@ -250,15 +254,15 @@ module _ (b : Book) (st : Standing b) where
 
 pub sheet-fits : SheetFits
 unfolding sheet
-sheet-fits d s = omega (arith, go (reading d) refl)
+sheet-fits e d s = omega (arith, go (reading e d) refl)
   where
-    behind : (b : Book) → reading d ≡ leaves b → (r : Result) → posting s b ≡ r → length (printed r) ≤ 14346
-    behind b e (refused p) f = omega (arith, refusal-short 5 p (omega arith) (slip-bounded s b p f))
-    behind b e (leaves c) f = sheet-short c (left-standing c (leaves-left s b c (d, e) f))
+    behind : (b : Book) → reading e d ≡ leaves b → (r : Result) → posting s b ≡ r → length (printed r) ≤ 14346
+    behind b h (refused p) f = omega (arith, refusal-short 5 p (omega arith) (slip-bounded s b p f))
+    behind b h (leaves c) f = sheet-short c (left-standing c (leaves-left s b c (e, (d, h)) f))
 
-    go : (r : Result) → reading d ≡ r → length (printed (r ▹ posting s)) ≤ 14346
-    go (refused p) e = let r = reading-bounded d p e in omega (arith, refusal-short (number (r .0)) p (tables-few (r .0)) (r .1))
-    go (leaves b) e = behind b e (posting s b) refl
+    go : (r : Result) → reading e d ≡ r → length (printed (r ▹ posting s)) ≤ 14346
+    go (refused p) h = let r = reading-bounded e d p h in omega (arith, refusal-short (number (r .0)) p (tables-few (r .0)) (r .1))
+    go (leaves b) h = behind b h (posting s b) refl
 
 -- a text for which there is room is put at the head of the output
 wrote-all : (t out : Bytes) → length t ≤ length out → wrote (shortFor t out) t out ≡ writing.outcome Accepted (length t) (put t out)
@@ -273,7 +277,7 @@ sheet-laid c out l h =
 
 pub sheet-call-answers : SheetCallAnswers
 unfolding sheet
-sheet-call-answers d s book work out m n h = go (reading d) refl h
+sheet-call-answers n e d s book work out c i j h = go (reading e d) refl h
   where
     called : Outcome → writing.Outcome
     called o = sheetCall (o .verdict) (o .book) out
@@ -281,15 +285,15 @@ sheet-call-answers d s book work out m n h = go (reading d) refl h
     told : Bytes → writing.Outcome
     told t = writing.outcome Accepted (length t) (put t out)
 
-    behind : (b : Book) → reading d ≡ leaves b → (r : Result) → posting s b ≡ r → length (printed r) ≤ length out → called (slipOutcome r (laid b) work) ≡ told (printed r)
-    behind b e (refused p) f h = wrote-all (refusalText p) out h
-    behind b e (leaves c) f h = sheet-laid c out (leaves-left s b c (d, e) f) h
+    behind : (b : Book) → reading e d ≡ leaves b → (r : Result) → posting s b ≡ r → length (printed r) ≤ length out → called (slipOutcome r (laid b) work) ≡ told (printed r)
+    behind b k (refused p) f h = wrote-all (refusalText p) out h
+    behind b k (leaves c) f h = sheet-laid c out (leaves-left s b c (e, (d, k)) f) h
 
-    go : (r : Result) → reading d ≡ r → length (printed (r ▹ posting s)) ≤ length out → called (dayCall d s book work) ≡ told (printed (r ▹ posting s))
-    go (refused p) e h = ap called (day-call-answers d s book work m n .0 p e) ∙ wrote-all (refusalText p) out h
-    go (leaves b) e h = ap called (day-call-answers d s book work m n .1 b e) ∙ behind b e (posting s b) refl h
+    go : (r : Result) → reading e d ≡ r → length (printed (r ▹ posting s)) ≤ length out → called (dayCall n d s book work) ≡ told (printed (r ▹ posting s))
+    go (refused p) k h = ap called (day-call-answers n e d s book work c i j .0 p k) ∙ wrote-all (refusalText p) out h
+    go (leaves b) k h = ap called (day-call-answers n e d s book work c i j .1 b k) ∙ behind b k (posting s b) refl h
 
 pub sheet-printed : SheetPrinted
-sheet-printed d s book work out m n k =
-    let w = sheet-call-answers d s book work out m n (omega (arith, sheet-fits d s)) in
-    ap (λ (o : writing.Outcome). take (o .size) (o .out)) w ∙ take-seam (sheet d s) (drop (length (sheet d s)) out)
+sheet-printed n e d s book work out c i j k =
+    let w = sheet-call-answers n e d s book work out c i j (omega (arith, sheet-fits e d s)) in
+    ap (λ (o : writing.Outcome). take (o .size) (o .out)) w ∙ take-seam (sheet e d s) (drop (length (sheet e d s)) out)

@@ -21,7 +21,7 @@ use Rattle.rows.specs.declared.Order.{Order}
 use Rattle.rows.specs.declared.Order.the-variants.{Less, Same, More}
 use Rattle.rows.proofs.Rising.{rising-removed, rising-replaced}
 use Rattle.rows.proofs.Changes.{length-removed-most, length-replaced}
-use Rattle.tables.specs.declared.Edition.the-variants.{Dino21}
+use Rattle.editions.specs.declared.Edition.{Edition}
 use Rattle.tables.specs.declared.Table.the-variants.{Block}
 use Rattle.tables.specs.Columns.{columnsOf}
 use Rattle.book.specs.Book.{Book, with-rows, full, knows}
@@ -91,21 +91,21 @@ wished : (w v : Wish) → w ≡ v → elevenWished v ≡ true → elevenWished w
 wished w v e h = rw e h
 
 -- the numbers of eleven fields that 8 is not given for
-pub record Fielded (row : Row) : Type 0 where
+pub record Fielded (ed : Edition) (row : Row) : Type 0 where
   pub numbers : Eleven row
   pub shape : row ≡ wide (take 11 row)
-  pub inside : ranged (columnsOf Dino21 Block) (take 11 row) ≡ true
+  pub inside : ranged (columnsOf ed Block) (take 11 row) ≡ true
 
 eleven-wide : (row : Row) → Eleven row → row ≡ wide (take 11 row)
 eleven-wide row (eleven a b c d e f g h i j k) = refl
 
-pub fielded : (fs : List Bytes) → length fs ≡ 11 → badField fs ≡ Passes → Fielded (map value fs)
-fielded fs n g =
+pub fielded : (ed : Edition) (fs : List Bytes) → length fs ≡ 11 → badField ed fs ≡ Passes → Fielded ed (map value fs)
+fielded ed fs n g =
     let long : length (map value fs) ≡ 11 = length-map fs value ∙ n in
     let e : Eleven (map value fs) = eleven-long (map value fs) long in
     let whole : take 11 fs ≡ fs = take-all 11 fs (omega arith) in
     let all : take 11 (map value fs) ≡ map value fs = take-all 11 (map value fs) (omega arith) in
-    let r : ranged (columnsOf Dino21 Block) (map value (take 11 fs)) ≡ true = cells-ranged 11 1 (columnsOf Dino21 Block) fs (kept-numeric Block) g in
+    let r : ranged (columnsOf ed Block) (map value (take 11 fs)) ≡ true = cells-ranged 11 1 (columnsOf ed Block) fs (kept-numeric ed Block) g in
     record { numbers = e; shape = eleven-wide (map value fs) e; inside = rw all (rw whole at r) }
 
 -- a line ---------------------------------------------------------------------------------------------------------------------
@@ -122,11 +122,11 @@ held-line b ss Unknown e p h = let z : _≡_ {A = ℕ} 0 1 = cc in let y : ⊥ =
 held-line b ss Add e p h =
     let fs = numbers ss in
     let row = map value fs in
-    let p5 = both (tooManyRows when full Block b) (badField fs ⊳ ruled Block row b) p in
-    let p8 = both (badField fs) (ruled Block row b) (p5 .1) in
+    let p5 = both (tooManyRows when full Block b) (badField (b .edition) fs ⊳ ruled Block row b) p in
+    let p8 = both (badField (b .edition) fs) (ruled Block row b) (p5 .1) in
     let p11 = both (endsEarly when timeFault Block row) (keyStands when knows Block row b ⊳ unknown Block row b) (p8 .1) in
     let p9 = both (keyStands when knows Block row b) (unknown Block row b) (p11 .1) in
-    let n = fielded fs (wish-eleven ss (wished (wish ss) Add e refl)) (p8 .0) in
+    let n = fielded (b .edition) fs (wish-eleven ss (wished (wish ss) Add e refl)) (p8 .0) in
     record {
       apart = refl;
       blocks =
@@ -141,10 +141,10 @@ held-line b ss Add e p h =
 held-line b ss Replace e p h =
     let fs = numbers ss in
     let row = map value fs in
-    let p8 = both (badField fs) (endsEarly when timeFault Block row ⊳ missingBlock row b ⊳ unknown Block row b) p in
+    let p8 = both (badField (b .edition) fs) (endsEarly when timeFault Block row ⊳ missingBlock row b ⊳ unknown Block row b) p in
     let p11 = both (endsEarly when timeFault Block row) (missingBlock row b ⊳ unknown Block row b) (p8 .1) in
     let p13 = both (missingBlock row b) (unknown Block row b) (p11 .1) in
-    let n = fielded fs (wish-eleven ss (wished (wish ss) Replace e refl)) (p8 .0) in
+    let n = fielded (b .edition) fs (wish-eleven ss (wished (wish ss) Replace e refl)) (p8 .0) in
     let good : Good Block b row = record { shape = n .shape; inside = n .inside; timed = unfailed 11 11 (timeFault Block row) (p11 .0); known = p13 .1 } in
     record {
       apart = refl;
@@ -161,13 +161,16 @@ held-line b ss Delete e p h = record { apart = refl; blocks = held-removed b (ma
 unknown-kept : (x b : Book) → b ≡ with-rows Block (b .blocks) x → (row : Row) → unknown Block row x ≡ unknown Block row b
 unknown-kept x b e row = sym (unknown-with Block row (b .blocks) x) ∙ ap (λ (z : Book). unknown Block row z) (sym e)
 
+edition-kept : (x b : Book) → b ≡ with-rows Block (b .blocks) x → x .edition ≡ b .edition
+edition-kept x b e = sym (ap (λ (z : Book). z .edition) e)
+
 kept-line : (x b : Book) (l : Bytes) → slipCheck l b ≡ Passes → Kept x b → Kept x (slipLeaves l b)
 kept-line x b l p k =
     let c : Book = slipLeaves l b in
-    let n : Kept b c = held-line b (fields l) (wish (fields l)) refl p (held-moved Block x b (unknown-kept x b (k .apart)) (b .blocks) (k .blocks)) in
+    let n : Kept b c = held-line b (fields l) (wish (fields l)) refl p (held-moved Block x b (edition-kept x b (k .apart)) (unknown-kept x b (k .apart)) (b .blocks) (k .blocks)) in
     record {
       apart = n .apart ∙ ap (λ (z : Book). with-rows Block (c .blocks) z) (k .apart);
-      blocks = held-moved Block b x (λ row. sym (unknown-kept x b (k .apart) row)) (c .blocks) (n .blocks);
+      blocks = held-moved Block b x (sym (edition-kept x b (k .apart))) (λ row. sym (unknown-kept x b (k .apart) row)) (c .blocks) (n .blocks);
     }
 
 -- a slip, and a run of slips -------------------------------------------------------------------------------------------------

@@ -20,6 +20,7 @@ use Rattle.rows.specs.Rows.{stands, removed, found, keyOrder, inserted, replace
 use Rattle.rows.specs.declared.Order.{Order}
 use Rattle.rows.specs.declared.Order.the-variants.{Less, Same, More}
 use Rattle.rows.proofs.Changes.{stands-removed, length-removed}
+use Rattle.editions.specs.declared.Edition.{Edition}
 use Rattle.tables.specs.declared.Table.the-variants.{Block}
 use Rattle.book.specs.Book.{Book, with-rows, entered, full}
 use Rattle.book.specs.Result.{Result, leaves, _▹_, unless, refused}
@@ -46,60 +47,60 @@ use Rattle.promises.proofs.RuleLaws.{block-asked, type-asked}
 use Rattle.promises.proofs.RulePromises.{left-standing}
 
 -- a book of which a delivery's book keeps the other tables, and whose blocks stand by right, is read afresh
-kept-reads : (d : Delivery) (b c : Book) → reading d ≡ leaves b → Kept b c → reading (with-blocks (written c) d) ≡ leaves c
+kept-reads : (ed : Edition) (d : Delivery) (b c : Book) → reading ed d ≡ leaves b → Kept b c → reading ed (with-blocks (written c) d) ≡ leaves c
 unfolding reading
-kept-reads d b c e k =
-    ap (λ (r : Result). r ▹ tableRead Block (written c)) (left-by d b e .before-blocks)
+kept-reads ed d b c e k =
+    ap (λ (r : Result). r ▹ tableRead Block (written c)) (left-by ed d b e .before-blocks)
     ∙ blocks-back b (c .blocks) (k .blocks)
     ∙ ap (λ (z : Book). leaves z) (sym (k .apart))
 
-kept-itself : (d : Delivery) (b : Book) → reading d ≡ leaves b → Kept b b
-kept-itself d b e = record { apart = refl; blocks = left-by d b e .standing Block }
+kept-itself : (ed : Edition) (d : Delivery) (b : Book) → reading ed d ≡ leaves b → Kept b b
+kept-itself ed d b e = record { apart = refl; blocks = left-by ed d b e .standing Block }
 
 pub run-reads-afresh : RunReadsAfresh
-run-reads-afresh d b ss e = kept-reads d b (run ss b) e (kept-run b ss b (kept-itself d b e))
+run-reads-afresh ed d b ss e = kept-reads ed d b (run ss b) e (kept-run b ss b (kept-itself ed d b e))
 
 pub midway-reads-afresh : MidwayReadsAfresh
-midway-reads-afresh d b ss s i e r = kept-reads d b (midway ss s i b) e (kept-onward b i (slipLines s) (run ss b) (kept-run b ss b (kept-itself d b e)) (r .inside) (r .above))
+midway-reads-afresh ed d b ss s i e r = kept-reads ed d b (midway ss s i b) e (kept-onward b i (slipLines s) (run ss b) (kept-run b ss b (kept-itself ed d b e)) (r .inside) (r .above))
 
 pub rule-kept : RuleKept
 unfolding run
-rule-kept b s l = (with-blocks (written (posted s b)) (l .0), run-reads-afresh (l .0) b (s ∷ []) (l .1))
+rule-kept b s l = (l .0, (with-blocks (written (posted s b)) (l .1 .0), run-reads-afresh (l .0) (l .1 .0) b (s ∷ []) (l .1 .1)))
 
 -- refused exactly --------------------------------------------------------------------------------------------------------
 
 -- the row behind other blocks meets 5, and the rules of a row
-read-there : (d : Delivery) (b : Book) (ys : List Row) (row : Row) → reading d ≡ leaves b → Held Block b ys → Fielded row →
-    reading (with-blocks (writtenWith row ys) d)
+read-there : (ed : Edition) (d : Delivery) (b : Book) (ys : List Row) (row : Row) → reading ed d ≡ leaves b → Held Block b ys → Fielded (b .edition) row →
+    reading ed (with-blocks (writtenWith row ys) d)
     ≡ unless (placed 4 (2 + length ys) (tooManyRows when full Block (with-rows Block ys b) ⊳ ruled Block row (with-rows Block ys b))) (leaves (entered Block row (with-rows Block ys b)))
 unfolding reading
-read-there d b ys row e h n =
+read-there ed d b ys row e h n =
     let text : writtenWith row ys ≡ linesWritten (plainNames Block ∷ (map (plainLine Block) ys ++ (plainLine Block row ∷ []))) =
     rw (plain-names-block, lines-plain b ys (h .good), plain-line-block row (n .numbers)) in
-    ap (λ (r : Result). r ▹ tableRead Block (writtenWith row ys)) (left-by d b e .before-blocks)
+    ap (λ (r : Result). r ▹ tableRead Block (writtenWith row ys)) (left-by ed d b e .before-blocks)
     ∙ ap (λ (s : Bytes). tableRead Block s (with-rows Block [] b)) text
     ∙ table-more Block b ys row h (n .numbers) (n .inside)
-    ∙ rw (row-judged Block row (with-rows Block ys b) (n .numbers) (n .shape) (n .inside), row-read Block row (n .numbers) (n .shape))
+    ∙ rw (row-judged Block row (with-rows Block ys b) (n .numbers) (n .shape) (n .inside), row-read (b .edition) Block row (n .numbers) (n .shape))
 
 accepted-placed : (i : ℕ) (c : Check) (x : Book) → accepted (unless (placed 4 i c) (leaves x)) ≡ passes c
 accepted-placed i Passes x = refl
 accepted-placed i (Fails n k) x = refl
 
-module _ (d : Delivery) (b : Book) (e : reading d ≡ leaves b) where
+module _ (ed : Edition) (d : Delivery) (b : Book) (e : reading ed d ≡ leaves b) where
   blocks-held : Held Block b (b .blocks)
-  blocks-held = left-by d b e .standing Block
+  blocks-held = left-by ed d b e .standing Block
 
-  there : (ys : List Row) (row : Row) → Held Block b ys → Fielded row →
-      readThere d ys row ≡ passes (tooManyRows when full Block (with-rows Block ys b) ⊳ ruled Block row (with-rows Block ys b))
-  there ys row h n = ap accepted (read-there d b ys row e h n) ∙ accepted-placed (2 + length ys) (tooManyRows when full Block (with-rows Block ys b) ⊳ ruled Block row (with-rows Block ys b)) (entered Block row (with-rows Block ys b))
+  there : (ys : List Row) (row : Row) → Held Block b ys → Fielded (b .edition) row →
+      readThere ed d ys row ≡ passes (tooManyRows when full Block (with-rows Block ys b) ⊳ ruled Block row (with-rows Block ys b))
+  there ys row h n = ap accepted (read-there ed d b ys row e h n) ∙ accepted-placed (2 + length ys) (tooManyRows when full Block (with-rows Block ys b) ⊳ ruled Block row (with-rows Block ys b)) (entered Block row (with-rows Block ys b))
 
-  exactly : (ss : List Bytes) (w : Wish) → wish ss ≡ w → known w ≡ true → badField (numbers ss) ≡ Passes →
-      passes (lineJudged w (numbers ss) (map value (numbers ss)) b) ≡ admissible w d (map value (numbers ss)) b
+  exactly : (ss : List Bytes) (w : Wish) → wish ss ≡ w → known w ≡ true → badField (b .edition) (numbers ss) ≡ Passes →
+      passes (lineJudged w (numbers ss) (map value (numbers ss)) b) ≡ admissible w ed d (map value (numbers ss)) b
   unfolding unknownOf elevenWished
   exactly ss Unknown f u g = let z : _≡_ {A = ℕ} 0 1 = cc in let y : ⊥ = omega arith in absurd y
   exactly ss Add f u g =
       let row = map value (numbers ss) in
-      rw g (sym (there (b .blocks) row blocks-held (fielded (numbers ss) (wish-eleven ss (ap elevenWished f)) g)))
+      rw g (sym (there (b .blocks) row blocks-held (fielded (b .edition) (numbers ss) (wish-eleven ss (ap elevenWished f)) g)))
   exactly ss Replace f u g = go (stands 4 row (b .blocks)) refl
     where
       row : Row
@@ -112,46 +113,51 @@ module _ (d : Delivery) (b : Book) (e : reading d ≡ leaves b) where
       late true c = refl
       late false c = refl
 
-      go : (k : Bool) → stands 4 row (b .blocks) ≡ k → passes (lineJudged Replace (numbers ss) row b) ≡ admissible Replace d row b
+      go : (k : Bool) → stands 4 row (b .blocks) ≡ k → passes (lineJudged Replace (numbers ss) row b) ≡ admissible Replace ed d row b
       go false s = rw (g, s) (late (timeFault Block row) (unknown Block row b))
       go true s =
           let short : length without < 512 = omega (arith, length-removed 4 row (b .blocks) s, blocks-held .size) in
           rw (
             g,
             s,
-            there without row (held-removed b row (b .blocks) blocks-held) (fielded (numbers ss) (wish-eleven ss (ap elevenWished f)) g),
+            there without row (held-removed b row (b .blocks) blocks-held) (fielded (b .edition) (numbers ss) (wish-eleven ss (ap elevenWished f)) g),
             lt-leb 512 (length without) short,
             stands-removed 4 row (b .blocks) (blocks-held .rising),
           )
   exactly ss Delete f u g = go (stands 4 (map value (numbers ss)) (b .blocks)) refl
     where
-      go : (k : Bool) → stands 4 (map value (numbers ss)) (b .blocks) ≡ k → passes (lineJudged Delete (numbers ss) (map value (numbers ss)) b) ≡ admissible Delete d (map value (numbers ss)) b
+      go : (k : Bool) → stands 4 (map value (numbers ss)) (b .blocks) ≡ k → passes (lineJudged Delete (numbers ss) (map value (numbers ss)) b) ≡ admissible Delete ed d (map value (numbers ss)) b
       go true s = rw (g, s)
       go false s = rw (g, s)
 
 -- a well-formed line on a book that a reading leaves
-line-refused : (d : Delivery) (b : Book) (line : Bytes) → reading d ≡ leaves b → wellFormed line ≡ true →
-    passes (slipCheck line b) ≡ admissible (wish (fields line)) d (rowIn line) b
-line-refused d b line e h =
+-- by the edition of the book, which is the delivery's
+well-formed : (ed : Edition) (d : Delivery) (b : Book) (line : Bytes) → reading ed d ≡ leaves b → wellFormed ed line ≡ true → wellFormed (b .edition) line ≡ true
+well-formed ed d b line e h = subst (λ (z : Edition). wellFormed z line ≡ true) (sym (left-by ed d b e .by)) h
+
+line-refused : (ed : Edition) (d : Delivery) (b : Book) (line : Bytes) → reading ed d ≡ leaves b → wellFormed ed line ≡ true →
+    passes (slipCheck line b) ≡ admissible (wish (fields line)) ed d (rowIn line) b
+line-refused ed d b line e f =
+    let h = well-formed ed d b line e f in
     let ss = fields line in
-    let formed = and-left (known (wish ss)) (passes (badField (numbers ss))) h in
-    let good = passed (badField (numbers ss)) (and-right (known (wish ss)) (passes (badField (numbers ss))) h) in
-    exactly d b e ss (wish ss) refl formed good
+    let formed = and-left (known (wish ss)) (passes (badField (b .edition) (numbers ss))) h in
+    let good = passed (badField (b .edition) (numbers ss)) (and-right (known (wish ss)) (passes (badField (b .edition) (numbers ss))) h) in
+    exactly ed d b e ss (wish ss) refl formed good
 
 -- only the other tables of a delivery count there
-admissible-beside : (w : Wish) (text : Bytes) (d : Delivery) (row : Row) (b : Book) → admissible w (with-blocks text d) row b ≡ admissible w d row b
-admissible-beside Unknown text d row b = refl
-admissible-beside Add text d row b = refl
-admissible-beside Replace text d row b = refl
-admissible-beside Delete text d row b = refl
+admissible-beside : (w : Wish) (text : Bytes) (ed : Edition) (d : Delivery) (row : Row) (b : Book) → admissible w ed (with-blocks text d) row b ≡ admissible w ed d row b
+admissible-beside Unknown text ed d row b = refl
+admissible-beside Add text ed d row b = refl
+admissible-beside Replace text ed d row b = refl
+admissible-beside Delete text ed d row b = refl
 
 -- which the book in the middle of a slip is, with the original delivery
 pub refused-exactly : RefusedExactly
-refused-exactly d b ss s i e r h =
+refused-exactly ed d b ss s i e r h =
     let c : Book = midway ss s i b in
     let line : Bytes = getD (slipLines s) i [] in
-    line-refused (with-blocks (written c) d) c line (midway-reads-afresh d b ss s i e r) h
-    ∙ admissible-beside (wish (fields line)) (written c) d (rowIn line) c
+    line-refused ed (with-blocks (written c) d) c line (midway-reads-afresh ed d b ss s i e r) h
+    ∙ admissible-beside (wish (fields line)) (written c) ed d (rowIn line) c
 
 placed-refused : (t i : ℕ) (c : Check) (x : Book) (p : Place) → unless (placed t i c) (leaves x) ≡ refused p → (c ≡ Fails (p .number) (p .column)) × (p .table ≡ t) × (p .line ≡ i)
 placed-refused t i Passes x p h = let z : _≡_ {A = ℕ} 0 1 = cc in let y : ⊥ = omega arith in absurd y
@@ -159,24 +165,25 @@ placed-refused t i (Fails n k) x p h =
     let q : place n t i k ≡ p = cc in
     subst (λ (z : Place). (Fails n k ≡ Fails (z .number) (z .column)) × (z .table ≡ t) × (z .line ≡ i)) q (refl, refl, refl)
 
-line-alike : (d : Delivery) (b : Book) (line : Bytes) (p : Place) → reading d ≡ leaves b → wellFormed line ≡ true → wish (fields line) ≡ Add →
-    reading (with-blocks (writtenWith (rowIn line) (b .blocks)) d) ≡ refused p →
+line-alike : (ed : Edition) (d : Delivery) (b : Book) (line : Bytes) (p : Place) → reading ed d ≡ leaves b → wellFormed ed line ≡ true → wish (fields line) ≡ Add →
+    reading ed (with-blocks (writtenWith (rowIn line) (b .blocks)) d) ≡ refused p →
     (slipCheck line b ≡ Fails (p .number) (p .column)) × (p .table ≡ 4) × (p .line ≡ 2 + length (b .blocks))
 unfolding elevenWished
-line-alike d b line p e h f r =
+line-alike ed d b line p e k f r =
+    let h = well-formed ed d b line e k in
     let ss = fields line in
     let row = rowIn line in
-    let good : badField (numbers ss) ≡ Passes = passed (badField (numbers ss)) (and-right (known (wish ss)) (passes (badField (numbers ss))) h) in
-    let n : Fielded row = fielded (numbers ss) (wish-eleven ss (ap elevenWished f)) good in
+    let good : badField (b .edition) (numbers ss) ≡ Passes = passed (badField (b .edition) (numbers ss)) (and-right (known (wish ss)) (passes (badField (b .edition) (numbers ss))) h) in
+    let n : Fielded (b .edition) row = fielded (b .edition) (numbers ss) (wish-eleven ss (ap elevenWished f)) good in
     let c : Check = tooManyRows when full Block b ⊳ ruled Block row b in
-    let q = placed-refused 4 (2 + length (b .blocks)) c (entered Block row b) p (sym (read-there d b (b .blocks) row e (left-by d b e .standing Block) n) ∙ r) in
+    let q = placed-refused 4 (2 + length (b .blocks)) c (entered Block row b) p (sym (read-there ed d b (b .blocks) row e (left-by ed d b e .standing Block) n) ∙ r) in
     let slip : slipCheck line b ≡ c = ap (λ (w : Wish). lineJudged w (numbers ss) row b) f ∙ rw good in
     (slip ∙ q .0, q .1, q .2)
 
 pub refused-alike : RefusedAlike
-refused-alike d b ss s i p e r h f g =
+refused-alike ed d b ss s i p e r h f g =
     let c : Book = midway ss s i b in
-    line-alike (with-blocks (written c) d) c (getD (slipLines s) i []) p (midway-reads-afresh d b ss s i e r) h f g
+    line-alike ed (with-blocks (written c) d) c (getD (slipLines s) i []) p (midway-reads-afresh ed d b ss s i e r) h f g
 
 -- what no accepted slip touches --------------------------------------------------------------------------------------------
 
@@ -249,15 +256,15 @@ module _ (weight : Row → ℕ) (v n : ℕ) (row : Row) where
   total-granted Delete b h = total-removed (b .blocks) h
 
 run-left : (b : Book) (ss : List Bytes) → Left b → Left (run ss b)
-run-left b ss l = (with-blocks (written (run ss b)) (l .0), run-reads-afresh (l .0) b ss (l .1))
+run-left b ss l = (l .0, (with-blocks (written (run ss b)) (l .1 .0), run-reads-afresh (l .0) (l .1 .0) b ss (l .1 .1)))
 
 -- the other tables ---------------------------------------------------------------------------------------------------------
 
 pub other-tables-kept : OtherTablesKept
 other-tables-kept b ss l =
     let c : Book = run ss b in
-    let k : Kept b c = kept-run b ss b (record { apart = refl; blocks = left-by (l .0) b (l .1) .standing Block }) in
-    (ap (λ (z : Book). z .types) (k .apart), ap (λ (z : Book). z .depots) (k .apart), ap (λ (z : Book). z .stops) (k .apart), ap (λ (z : Book). z .points) (k .apart))
+    let k : Kept b c = kept-run b ss b (record { apart = refl; blocks = left-by (l .0) (l .1 .0) b (l .1 .1) .standing Block }) in
+    (ap (λ (z : Book). z .types) (k .apart), ap (λ (z : Book). z .depots) (k .apart), ap (λ (z : Book). z .stops) (k .apart), ap (λ (z : Book). z .points) (k .apart), ap (λ (z : Book). z .edition) (k .apart))
 
 -- so the questions keep their answers
 pub blocks-kept : BlocksKept

@@ -50,15 +50,15 @@ not-missing false h = let z : _≡_ {A = ℕ} 0 1 = cc in absurd (omega arith)
 stood : (fs : List Bytes) (row : Row) (b : Book) (w : Wish) → lineJudged w fs row b ≡ Passes → stands 4 row (b .blocks) ≡ stoodBefore w
 stood fs row b Unknown p = let z : _≡_ {A = ℕ} 0 1 = cc in absurd (omega arith)
 stood fs row b Add p =
-    let p5 = both (tooManyRows when full Block b) (badField fs ⊳ ruled Block row b) p in
-    let p8 = both (badField fs) (ruled Block row b) (p5 .1) in
+    let p5 = both (tooManyRows when full Block b) (badField (b .edition) fs ⊳ ruled Block row b) p in
+    let p8 = both (badField (b .edition) fs) (ruled Block row b) (p5 .1) in
     let p11 = both (endsEarly when timeFault Block row) (keyStands when knows Block row b ⊳ unknown Block row b) (p8 .1) in
     unfailed 9 0 (knows Block row b) (both (keyStands when knows Block row b) (unknown Block row b) (p11 .1) .0)
 stood fs row b Replace p =
-    let p8 = both (badField fs) (endsEarly when timeFault Block row ⊳ missingBlock row b ⊳ unknown Block row b) p in
+    let p8 = both (badField (b .edition) fs) (endsEarly when timeFault Block row ⊳ missingBlock row b ⊳ unknown Block row b) p in
     let p11 = both (endsEarly when timeFault Block row) (missingBlock row b ⊳ unknown Block row b) (p8 .1) in
     not-missing (knows Block row b) (both (missingBlock row b) (unknown Block row b) (p11 .1) .0)
-stood fs row b Delete p = not-missing (knows Block row b) (both (badField fs) (missingBlock row b) p .1)
+stood fs row b Delete p = not-missing (knows Block row b) (both (badField (b .edition) fs) (missingBlock row b) p .1)
 
 module _ (many : List Row → ℕ) (h : Weighs many) where
   granted-stores : (w : Wish) (row : Row) (b : Book) → stands 4 row (b .blocks) ≡ stoodBefore w →
@@ -216,34 +216,34 @@ none-found b key (x ∷ xs) h = go (sameKey 4 key x) refl (none-found b key xs (
     go false e ih = rw e ih
 
 pub calls-said : CallsSaid
-calls-said d b ss book work version day depot block e m n =
+calls-said k ed d b ss book work version day depot block a e m n =
     let key : Row = version ∷ day ∷ depot ∷ block ∷ [] in
     let c : Book = run ss b in
-    let st : Standing c = left-standing c (with-blocks (written c) d, run-reads-afresh d b ss e) in
-    let row : found 4 key (c .blocks) ≡ lastSaid key (honoured ss b) (found 4 key (rowsOf Block (d .blocks))) =
-    run-said b ss key (d, e) ∙ ap (λ (z : Row). lastSaid key (honoured ss b) z) (keys-exactly d b Block key e .1) in
-    ap (λ (z : List Row). blockCall z version day depot block) (calls-read-afresh d b ss book work e m n .0)
+    let st : Standing c = left-standing c (ed, (with-blocks (written c) d, run-reads-afresh ed d b ss e)) in
+    let row : found 4 key (c .blocks) ≡ lastSaid key (honoured ss b) (found 4 key (rowsOf ed Block (d .blocks))) =
+    run-said b ss key (ed, (d, e)) ∙ ap (λ (z : Row). lastSaid key (honoured ss b) z) (keys-exactly ed d b Block key e .1) in
+    ap (λ (z : List Row). blockCall z version day depot block) (calls-read-afresh k ed d b ss book work a e m n .0)
     ∙ block-asked c st version day depot block
     ∙ ap (λ (q : Bool). blockAnswered (nowhere (notThere when q)) (seven (found 4 key (c .blocks)))) (none-found c key (c .blocks) (st Block .good))
     ∙ ap (λ (z : Row). blockAnswered (nowhere (notThere when none z)) (seven z)) row
 
 -- the year's fault
 pub years-fault-ruled-out : YearsFaultRuledOut
-years-fault-ruled-out d b ss book work version type e m n there =
+years-fault-ruled-out k ed d b ss book work version type a e m n there =
     let c : Book = run ss b in
-    let st : Standing c = left-standing c (with-blocks (written c) d, run-reads-afresh d b ss e) in
+    let st : Standing c = left-standing c (ed, (with-blocks (written c) d, run-reads-afresh ed d b ss e)) in
     let key : Row = version ∷ type ∷ [] in
     let known : stands 2 key (c .types) ≡ true =
-    ap (λ (xs : List Row). stands 2 key xs) (other-tables-kept b ss (d, e) .0) ∙ keys-exactly d b VehicleType key e .0 ∙ there in
-    let asked : typeCall (slipsCalled ss (readCall d book .book) work) version type
+    ap (λ (xs : List Row). stands 2 key xs) (other-tables-kept b ss (ed, (d, e)) .0) ∙ keys-exactly ed d b VehicleType key e .0 ∙ there in
+    let asked : typeCall (slipsCalled ss (readCall k d book .book) work) version type
     ≡ record { verdict = Accepted; seconds = secondsOf version type (c .blocks); count = countOf version type (c .blocks) } =
-    ap (λ (z : List Row). typeCall z version type) (calls-read-afresh d b ss book work e m n .0)
+    ap (λ (z : List Row). typeCall z version type) (calls-read-afresh k ed d b ss book work a e m n .0)
     ∙ type-asked c st version type
     ∙ ap (λ (q : Bool). typeAnswered (nowhere (notThere when not q)) (secondsOf version type (c .blocks)) (countOf version type (c .blocks))) known in (
-      moved seconds (ap (λ (a : TypeAnswer). a .seconds) asked),
-      moved (λ x. 1) (ap (λ (a : TypeAnswer). a .count) asked),
+      moved seconds (ap (λ (x : TypeAnswer). x .seconds) asked),
+      moved (λ x. 1) (ap (λ (x : TypeAnswer). x .count) asked),
     )
   where
     moved : (weight : Row → ℕ) → {n : ℕ} → n ≡ total weight version type (run ss b .blocks) →
-        n + total weight version type (allTaken (honoured ss b) b) ≡ total weight version type (rowsOf Block (d .blocks)) + total weight version type (allBrought (honoured ss b))
-    moved weight f = omega (arith, f, shares-stored weight version type .2 b ss, weighed-exactly d b e weight version type)
+        n + total weight version type (allTaken (honoured ss b) b) ≡ total weight version type (rowsOf ed Block (d .blocks)) + total weight version type (allBrought (honoured ss b))
+    moved weight f = omega (arith, f, shares-stored weight version type .2 b ss, weighed-exactly ed d b e weight version type)

@@ -1,4 +1,4 @@
--- "At the edges": the cases marked P, as one table under one claim.
+-- "At the edges": the cases marked P, as one table under one claim. They are of deliveries by 2.1.
 use mathlib.Core.List.{List, [], _∷_}
 use mathlib.Core.Bool.{Bool, true}
 use mathlib.Core.Path.{_≡_}
@@ -8,12 +8,14 @@ use lib.ListN.{length}
 use lib.Dec.{eqb}
 use Rattle.words.specs.Words.{bytes, same, all}
 use Rattle.cells.specs.Cells.{content}
+use Rattle.editions.specs.declared.Edition.the-variants.{Dino21}
 use Rattle.cell_question.specs.CellQuestion.{cellAsked, cellPaper}
 use Rattle.promises.specs.Sheet.{sheet}
 
 -- what is asked, and the answer that the paper names
 pub data Case : Type 0 where
-  -- the cell of that table and column in line 2 of a text: number, table, line, column; 1 and its value, or 2 and its stretch, or zeros
+  -- the cell of that table and column in line 2 of a text: number, table, line, column; 1 and its value, or 2 and its stretch, or 3 and an
+  -- equipment, or zeros
   cell : ℕ → ℕ → String → List ℕ → Case
   -- five texts and no slip: the day sheet
   day : String → String → String → String → String → String → Case
@@ -21,8 +23,8 @@ pub data Case : Type 0 where
   long : String → ℕ → Case
 
 abbrev pub passes : Case → Bool
-passes (cell table column s answer) = same (cellPaper (cellAsked (bytes s) table 2 column)) answer
-passes (day s1 s2 s3 s6 s4 out) = same (sheet (record { types = bytes s1; depots = bytes s2; stops = bytes s3; points = bytes s6; blocks = bytes s4 }) []) (bytes out)
+passes (cell table column s answer) = same (cellPaper (cellAsked 21 (bytes s) table 2 column)) answer
+passes (day s1 s2 s3 s6 s4 out) = same (sheet Dino21 (record { types = bytes s1; depots = bytes s2; stops = bytes s3; points = bytes s6; blocks = bytes s4 }) []) (bytes out)
 passes (long s n) = eqb (length (content (bytes s))) n
 
 -- a d2 cell, a c40 cell, a c4 cell, an ACCESS_EQUIP, each in a vehicle_type
@@ -59,8 +61,9 @@ cases =
     cell 1 7 (c4 "\"a\"\"b\"") (0 ∷ 0 ∷ 0 ∷ 0 ∷ 2 ∷ 0 ∷ 38 ∷ 4 ∷ []) ∷
     long "\"a\"\"b\"" 3 ∷
     cell 1 6 (c40 "\"a") (6 ∷ 1 ∷ 2 ∷ 3 ∷ 0 ∷ 0 ∷ 0 ∷ 0 ∷ []) ∷
-    -- "ACCESS_EQUIP 2 passes, 3 is 8.": since request 4/13 outside its range is 21
-    cell 1 11 (equip "2") (0 ∷ 0 ∷ 0 ∷ 0 ∷ 1 ∷ 2 ∷ 0 ∷ 0 ∷ []) ∷
+    -- "ACCESS_EQUIP 2 passes, 3 is 8.": since request 4/13 outside its range is 21, and since 5/13 the answer
+    -- names its meaning, 3 by 2.1
+    cell 1 11 (equip "2") (0 ∷ 0 ∷ 0 ∷ 0 ∷ 3 ∷ 2 ∷ 0 ∷ 0 ∷ []) ∷
     cell 1 11 (equip "3") (21 ∷ 1 ∷ 2 ∷ 11 ∷ 0 ∷ 0 ∷ 0 ∷ 0 ∷ []) ∷
     -- "END equal to BEGIN gives 0 seconds; one below is 11": since request 2/13 where either time is 86,400 or more
     block "20" "500" "500" "T\t1\t4\t0\t1\nS\t1\t1\n" ∷

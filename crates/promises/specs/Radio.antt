@@ -11,6 +11,9 @@ use Rattle.refusals.specs.Verdicts.{paper}
 use Rattle.refusals.specs.declared.Place.{Place}
 use Rattle.refusals.specs.declared.Verdict.{Verdict}
 use Rattle.refusals.specs.declared.Verdict.the-variants.{Accepted, Refused}
+use Rattle.editions.specs.Editions.{choice}
+use Rattle.editions.specs.declared.Choice.the-variants.{Chosen, Unknown}
+use Rattle.editions.specs.declared.Edition.{Edition}
 use Rattle.tables.specs.Columns.{number}
 use Rattle.tables.specs.declared.Table.{Table}
 use Rattle.tables.specs.declared.Table.the-variants.{VehicleType, Depot, Stop, StopPoint, Block}
@@ -72,14 +75,14 @@ unfoldable pub sendingOf : (Table → ℕ) → (Table → List Bytes) → Sendin
 sendingOf a ps = record { announced = a; sent = λ t. joined (ps t) }
 
 abbrev pub DeliveryHeard : Type 0
-DeliveryHeard = (a : Table → ℕ) (ps : Table → List Bytes) → run (callsOf a ps) start ≡ over (hearing (sendingOf a ps))
+DeliveryHeard = (e : Edition) (a : Table → ℕ) (ps : Table → List Bytes) → run (callsOf a ps) (start e) ≡ over (hearing e (sendingOf a ps))
 
 -- "When the announced bytes have come, verdict, place and book are those of the whole reading"
 abbrev pub deliveryOf : Sending → Delivery
 deliveryOf d = record { types = d .sent VehicleType; depots = d .sent Depot; stops = d .sent Stop; points = d .sent StopPoint; blocks = d .sent Block }
 
 abbrev pub HeardAsRead : Type 0
-HeardAsRead = (d : Sending) → ((t : Table) → d .announced t ≡ length (d .sent t)) → hearing d ≡ reading (deliveryOf d)
+HeardAsRead = (e : Edition) (d : Sending) → ((t : Table) → d .announced t ≡ length (d .sent t)) → hearing e d ≡ reading e (deliveryOf d)
 
 -- behind a fault ----------------------------------------------------------------------------------------------------------------
 
@@ -144,13 +147,18 @@ unfoldable pub called : Verdict → List Call → Slices → Outcome
 called v [] s = outcome v s
 called v (c ∷ cs) s = called (radioCall c s .verdict) cs (radioCall c s .slices)
 
+-- "an unknown edition is 22, right after 16": and an earlier delivery may go on
+abbrev pub UnknownOpeningStays : Type 0
+UnknownOpeningStays = (n : ℕ) (s : Slices) → choice n ≡ Unknown → fits s ≡ true → (paper (openCall n s .verdict) ≡ unplaced 22) × (openCall n s .slices ≡ s)
+
 -- from the opening on, it is the run on what the slices keep
 abbrev pub CallsRun : Type 0
-CallsRun = (cs : List Call) (s : Slices) → fits s ≡ true → called Accepted cs (openCall s .slices) ≡ outcome (lastAnswer Accepted cs start) (laidOut (run cs start))
+CallsRun = (n : ℕ) (e : Edition) (cs : List Call) (s : Slices) → choice n ≡ Chosen e → fits s ≡ true →
+    called Accepted cs (openCall n s .slices) ≡ outcome (lastAnswer Accepted cs (start e)) (laidOut (run cs (start e)))
 
 -- "When the announced bytes have come, verdict, place and book are those of the whole reading, however it was cut."
 abbrev pub RadioReads : Type 0
-RadioReads = (a : Table → ℕ) (ps : Table → List Bytes) (s : Slices) → fits s ≡ true → ((t : Table) → a t ≡ length (joined (ps t))) →
-    let o = called Accepted (callsOf a ps) (openCall s .slices) in
-    let r = reading (deliveryOf (sendingOf a ps)) in
+RadioReads = (n : ℕ) (e : Edition) (a : Table → ℕ) (ps : Table → List Bytes) (s : Slices) → choice n ≡ Chosen e → fits s ≡ true → ((t : Table) → a t ≡ length (joined (ps t))) →
+    let o = called Accepted (callsOf a ps) (openCall n s .slices) in
+    let r = reading e (deliveryOf (sendingOf a ps)) in
     (o .verdict ≡ readOutcome r .verdict) × (o .slices .book ≡ readOutcome r .book)

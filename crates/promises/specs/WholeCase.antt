@@ -2,6 +2,7 @@
 use mathlib.Core.Path.{_≡_}
 use mathlib.Core.List.{[]}
 use Rattle.words.specs.Words.{bytes, Bytes}
+use Rattle.editions.specs.declared.Edition.the-variants.{Dino21}
 use Rattle.delivery.specs.Delivery.{Delivery}
 use Rattle.promises.specs.Sheet.{sheet}
 
@@ -20,8 +21,8 @@ slip = bytes "R\t1\t5\t3\t102\t4\t31\t2\t21600\t20\t1\t25200\nD\t1\t6\t3\t101\n"
 
 -- the day sheet with its slip
 abbrev pub WholeCase : Type 0
-WholeCase = sheet delivery slip ≡ bytes "T\t1\t4\t32400\t2\nT\t1\t7\t0\t0\nS\t2\t2\n"
+WholeCase = sheet Dino21 delivery slip ≡ bytes "T\t1\t4\t32400\t2\nT\t1\t7\t0\t0\nS\t2\t2\n"
 
 -- "With an empty slip: 38800 and 2; 3601 and 1; `S 2 3`."
 abbrev pub WholeCaseEmptySlip : Type 0
-WholeCaseEmptySlip = sheet delivery [] ≡ bytes "T\t1\t4\t38800\t2\nT\t1\t7\t3601\t1\nS\t2\t3\n"
+WholeCaseEmptySlip = sheet Dino21 delivery [] ≡ bytes "T\t1\t4\t38800\t2\nT\t1\t7\t3601\t1\nS\t2\t3\n"

@@ -14,7 +14,6 @@ use Rattle.words.specs.Words.{Row, same, if_then_else_}
 use Rattle.words.proofs.Lists.{and-left, and-right, drop-step}
 use Rattle.refusals.specs.Verdicts.{passes}
 use Rattle.rows.specs.Rows.{wide}
-use Rattle.tables.specs.declared.Edition.the-variants.{Dino21}
 use Rattle.tables.specs.Columns.{Column, noColumn, inRange, columnsOf, columnAt, keptWidth}
 use Rattle.tables.specs.declared.Table.{Table}
 use Rattle.tables.specs.declared.Table.the-variants.{Block}
@@ -42,16 +41,16 @@ module _ (t : Table) (b : Book) (row : Row) (law : lawful t b row ≡ true) wher
   rest = same row (wide (take (keptWidth t) row))
 
   abbrev inRanges : Bool
-  inRanges = ranged (columnsOf Dino21 t) (take (keptWidth t) row)
+  inRanges = ranged (columnsOf (b .edition) t) (take (keptWidth t) row)
 
   three : (rest && inRanges && not (timeFault t row)) ≡ true
   three = and-left (rest && inRanges && not (timeFault t row)) (passes (unknown t row b)) law
 
   -- no number that is kept is above its column's range
-  pub lawful-high : (i : ℕ) → i < keptWidth t → getD row i 0 ≤ columnAt Dino21 t i .rules .high
+  pub lawful-high : (i : ℕ) → i < keptWidth t → getD row i 0 ≤ columnAt (b .edition) t i .rules .high
   lawful-high i h =
       let e : inRanges ≡ true = and-right rest inRanges (and-left (rest && inRanges) (not (timeFault t row)) three) in
-      rw (getD-take (keptWidth t) row i 0 h) at (ranged-high (columnsOf Dino21 t) (take (keptWidth t) row) e i (omega (arith, kept-columns Dino21 t)))
+      rw (getD-take (keptWidth t) row i 0 h) at (ranged-high (columnsOf (b .edition) t) (take (keptWidth t) row) e i (omega (arith, kept-columns (b .edition) t)))
 
 -- END has six digits, and a block that runs into the next day is shorter than a day
 pub block-seconds : (xs : List Row) → keepsRule xs ≡ true → (i : ℕ) (row : Row) → i < length (bookOf xs .blocks) → row ≡ getD (bookOf xs .blocks) i []

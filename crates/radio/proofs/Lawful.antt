@@ -17,21 +17,21 @@ pub record Kept (t : Table) (n : ℕ) (b : Book) (i : ℕ) (head rest : Bytes) :
   pub book : lawfulBook b ≡ true
   pub some : 1 ≤ i
   pub few : i + length rest ≤ suc n
-  pub top : lawfulHead t i head ≡ true
+  pub top : lawfulHead (b .edition) t i head ≡ true
   pub short : length rest ≤ keptLine
 
 module _ (t : Table) (n : ℕ) (b : Book) (i : ℕ) (head rest : Bytes) where
   pub kept : lawfulCourse t n (going b i head rest) ≡ true → Kept t n b i head rest
   kept e =
-      let e4 = and-left (lawfulBook b && leb 1 i && leb (i + length rest) (suc n) && lawfulHead t i head) (leb (length rest) keptLine) e in
-      let e3 = and-left (lawfulBook b && leb 1 i && leb (i + length rest) (suc n)) (lawfulHead t i head) e4 in
+      let e4 = and-left (lawfulBook b && leb 1 i && leb (i + length rest) (suc n) && lawfulHead (b .edition) t i head) (leb (length rest) keptLine) e in
+      let e3 = and-left (lawfulBook b && leb 1 i && leb (i + length rest) (suc n)) (lawfulHead (b .edition) t i head) e4 in
       let e2 = and-left (lawfulBook b && leb 1 i) (leb (i + length rest) (suc n)) e3 in
       record {
         book = and-left (lawfulBook b) (leb 1 i) e2;
         some = leb-true 1 i (and-right (lawfulBook b) (leb 1 i) e2);
         few = leb-true (i + length rest) (suc n) (and-right (lawfulBook b && leb 1 i) (leb (i + length rest) (suc n)) e3);
-        top = and-right (lawfulBook b && leb 1 i && leb (i + length rest) (suc n)) (lawfulHead t i head) e4;
-        short = leb-true (length rest) keptLine (and-right (lawfulBook b && leb 1 i && leb (i + length rest) (suc n) && lawfulHead t i head) (leb (length rest) keptLine) e);
+        top = and-right (lawfulBook b && leb 1 i && leb (i + length rest) (suc n)) (lawfulHead (b .edition) t i head) e4;
+        short = leb-true (length rest) keptLine (and-right (lawfulBook b && leb 1 i && leb (i + length rest) (suc n) && lawfulHead (b .edition) t i head) (leb (length rest) keptLine) e);
       }
 
   pub is-lawful : Kept t n b i head rest → lawfulCourse t n (going b i head rest) ≡ true

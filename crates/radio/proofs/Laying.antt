@@ -14,7 +14,7 @@ use Rattle.refusals.specs.Verdicts.{passes, lineTooLong}
 use Rattle.lines.specs.Lines.{mostLine}
 use Rattle.rows.specs.Room.{sameRows}
 use Rattle.rows.proofs.Room.{sameRows-refl, sameRows-true}
-use Rattle.tables.specs.declared.Edition.the-variants.{Dino21}
+use Rattle.editions.specs.declared.Edition.{Edition}
 use Rattle.tables.specs.Parts.{bookRows}
 use Rattle.tables.specs.declared.Table.{Table}
 use Rattle.tables.specs.declared.Table.the-variants.{VehicleType, Depot, Stop, StopPoint, Block}
@@ -54,22 +54,22 @@ module _ (head rest : Bytes) (h : length head ≤ mostLine) where
   lines-long : length rest ≤ keptLine → length (padded mostLine head ++ padded keptLine rest) ≡ radioBytes
   lines-long k = length-append (padded mostLine head) (padded keptLine rest) ∙ omega (arith, padded-long mostLine head h, padded-long keptLine rest k)
 
-head-short : (t : Table) (i : ℕ) (head : Bytes) → lawfulHead t i head ≡ true → length head ≤ mostLine
-head-short t i head e = go (eqb i 1) e
+head-short : (e : Edition) (t : Table) (i : ℕ) (head : Bytes) → lawfulHead e t i head ≡ true → length head ≤ mostLine
+head-short e t i head k = go (eqb i 1) k
   where
     none-short : (s : Bytes) → none s ≡ true → length s ≤ mostLine
     none-short [] f = omega arith
     none-short (x ∷ xs) f = let z : _≡_ {A = ℕ} 0 1 = cc in let y : ⊥ = omega arith in absurd y
 
-    passed-short : (q : Bool) → ltb mostLine (length head) ≡ q → passes (headerCheck Dino21 t head) ≡ true → length head ≤ mostLine
+    passed-short : (q : Bool) → ltb mostLine (length head) ≡ q → passes (headerCheck e t head) ≡ true → length head ≤ mostLine
     passed-short true f p =
-        let long : headerCheck Dino21 t head ≡ lineTooLong = long-headed t head (ltb-true mostLine (length head) f) in
+        let long : headerCheck e t head ≡ lineTooLong = long-headed e t head (ltb-true mostLine (length head) f) in
         let z : _≡_ {A = ℕ} 0 1 = cc in
         let y : ⊥ = omega arith in
         absurd y
     passed-short false f p = ltb-false mostLine (length head) f
 
-    go : (q : Bool) → (if q then none head else passes (headerCheck Dino21 t head)) ≡ true → length head ≤ mostLine
+    go : (q : Bool) → (if q then none head else passes (headerCheck e t head)) ≡ true → length head ≤ mostLine
     go true f = none-short head f
     go false f = passed-short (ltb mostLine (length head)) refl f
 
@@ -106,7 +106,7 @@ unfolding laidOut
 found-course t a n (stopped p) e o = refl
 found-course t a n (going b i head rest) e o =
     let k : Kept t n b i head rest = kept t n b i head rest e in
-    let h : length head ≤ mostLine = head-short t i head (k .top) in
+    let h : length head ≤ mostLine = head-short (b .edition) t i head (k .top) in
     rw (book-laid b o, head-back head rest h, rest-back head rest h)
 
 -- what is laid out is found again
@@ -130,7 +130,7 @@ all-lines-long (awaits t r) e = lines-long [] [] (omega arith) (omega arith)
 all-lines-long (hears t a n (stopped p)) e = lines-long [] [] (omega arith) (omega arith)
 all-lines-long (hears t a n (going b i head rest)) e =
     let k : Kept t n b i head rest = kept t n b i head rest (heard-of t a n (going b i head rest) e .course) in
-    lines-long head rest (head-short t i head (k .top)) (k .short)
+    lines-long head rest (head-short (b .edition) t i head (k .top)) (k .short)
 all-lines-long (over r) e = lines-long [] [] (omega arith) (omega arith)
 
 same-again : (s : Slices) → sameSlices s s ≡ true

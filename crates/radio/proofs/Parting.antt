@@ -1,76 +1,106 @@
 -- The lines of a text, as its bytes come: of the first line some have come already. Assumes nothing.
 use mathlib.Core.Path.{_≡_, refl, ap, sym, _∙_}
 use mathlib.Core.List.{List, [], _∷_, _++_, append-nil}
-use mathlib.Core.Bool.{Bool, true, false, _&&_, and-false}
+use mathlib.Core.Bool.{Bool, true, false, _&&_, not}
 use Prim.Native.Nat.{ℕ, suc, _+_, _≤_, _<_}
 use native.Mathlib.Omega.{arith}
 use lib.Dec.{eqb}
 use lib.ListN.{length, length-append}
 use lib.Seq.{append-snoc}
+use borrow.Author.Tests.{eqb-true}
 use Rattle.words.specs.Words.{Bytes, if_then_else_}
-use Rattle.lines.specs.Lines.{lines, onto, feedNext, mostLine}
+use Rattle.words.proofs.Lists.{and-left}
+use Rattle.editions.specs.declared.Edition.{Edition}
+use Rattle.cells.specs.Cells.{breakable}
+use Rattle.cells.specs.declared.State.{State}
+use Rattle.cells.specs.declared.State.the-variants.{Fresh}
+use Rattle.lines.specs.Lines.{lines, linesFrom, onto, from, quoting, quotingBehind, endsRow, mostLine}
+use Rattle.lines.proofs.Lining.{from-on, return-ends}
 use Rattle.radio.specs.Radio.{ended, endsLine, keptLine}
 
 abbrev pub lastLine : Bytes → List Bytes
 lastLine [] = []
 lastLine (x ∷ xs) = (x ∷ xs) ∷ []
 
-unfoldable pub linesFrom : Bytes → Bytes → List Bytes
-linesFrom rest [] = lastLine rest
-linesFrom rest (x ∷ s) = if endsLine rest x then ended rest ∷ linesFrom [] s else linesFrom (rest ++ (x ∷ [])) s
+unfoldable pub linesBehind : Edition → Bytes → Bytes → List Bytes
+linesBehind e rest [] = lastLine rest
+linesBehind e rest (x ∷ s) = if endsLine e rest x then ended rest ∷ linesBehind e [] s else linesBehind e (rest ++ (x ∷ [])) s
 
--- no line feed
-unfoldable pub Unfed : Bytes → Type 0
-Unfed [] = Unit {0}
-Unfed (x ∷ xs) = (eqb x 10 ≡ false) × Unfed xs
+-- how the quotes of a row stand behind more of its bytes
+pub behind-more : (q : State) (xs ys : Bytes) → quotingBehind q (xs ++ ys) ≡ quotingBehind (quotingBehind q xs) ys
+unfolding quotingBehind
+behind-more q [] ys = refl
+behind-more q (x ∷ xs) ys = behind-more (quoting q x) xs ys
 
-unfed-more : (rest : Bytes) (x : ℕ) → Unfed rest → eqb x 10 ≡ false → Unfed (rest ++ (x ∷ []))
-unfolding Unfed
-unfed-more [] x h e = (e, tt)
-unfed-more (y ∷ ys) x h e = (h .0, unfed-more ys x (h .1) e)
+pub behind-one : (q : State) (xs : Bytes) (x : ℕ) → quotingBehind q (xs ++ (x ∷ [])) ≡ quoting (quotingBehind q xs) x
+unfolding quotingBehind
+behind-one q xs x = behind-more q xs (x ∷ [])
 
-no-feed-next : (xs : Bytes) → Unfed xs → feedNext xs ≡ false
-unfolding Unfed
-no-feed-next [] h = refl
-no-feed-next (x ∷ xs) h = h .0
+-- a byte that ends a row is a line feed
+pub feed-is : (e : Edition) (q : State) (x : ℕ) → endsRow e q x ≡ true → x ≡ 10
+feed-is e q x h = eqb-true x 10 (and-left (eqb x 10) (not (breakable e q)) h)
+
+-- none of these bytes ends a row whose quotes stand so
+unfoldable pub Unfed : Edition → State → Bytes → Type 0
+Unfed e q [] = Unit {0}
+Unfed e q (x ∷ xs) = (endsRow e q x ≡ false) × Unfed e (quoting q x) xs
 
 onto-last : (x : ℕ) (xs : Bytes) → onto x (lastLine xs) ≡ (x ∷ xs) ∷ []
 onto-last x [] = refl
 onto-last x (y ∷ ys) = refl
 
-lines-last : (rest : Bytes) → Unfed rest → lines rest ≡ lastLine rest
-unfolding Unfed lines
-lines-last [] h = refl
-lines-last (x ∷ xs) h = simp (h .0, no-feed-next xs (h .1), and-false, lines-last xs (h .1)) (onto-last x xs)
+module _ (e : Edition) where
+  unfed-more : (q : State) (rest : Bytes) (x : ℕ) → Unfed e q rest → endsRow e (quotingBehind q rest) x ≡ false → Unfed e q (rest ++ (x ∷ []))
+  unfolding Unfed quotingBehind
+  unfed-more q [] x h k = (k, tt)
+  unfed-more q (y ∷ ys) x h k = (h .0, unfed-more (quoting q y) ys x (h .1) k)
 
-lines-on : (y : ℕ) (s : Bytes) → eqb y 10 ≡ false → feedNext s ≡ false → lines (y ∷ s) ≡ onto y (lines s)
-unfolding lines
-lines-on y s e f = simp (e, f, and-false)
+  -- a carriage return before a byte that does not end the row is one of its bytes
+  return-kept : (q : State) (b c : ℕ) → endsRow e (quoting q b) c ≡ false → (eqb b 13 && endsRow e q c) ≡ false
+  return-kept q b c h = go (eqb b 13) refl
+    where
+      go : (u : Bool) → eqb b 13 ≡ u → (u && endsRow e q c) ≡ false
+      go true r = sym (return-ends e q b c r) ∙ h
+      go false r = refl
 
--- a line that a line feed ends
-pub lines-fed : (rest : Bytes) (x : ℕ) (s : Bytes) → Unfed rest → eqb x 10 ≡ true → lines (rest ++ (x ∷ s)) ≡ ended rest ∷ lines s
-unfolding Unfed lines ended
-lines-fed [] x s h e = rw e
-lines-fed (y ∷ []) x s h e = go (eqb y 13)
-  where
-    go : (q : Bool) → (if eqb y 10 then [] ∷ lines (x ∷ s) else if q && eqb x 10 then lines (x ∷ s) else onto y (lines (x ∷ s))) ≡ (if q then [] else y ∷ []) ∷ lines s
-    go true = simp (h .0, e)
-    go false = simp (h .0, e)
-lines-fed (y ∷ (z ∷ zs)) x s h e = lines-on y ((z ∷ zs) ++ (x ∷ s)) (h .0) (h .1 .0) ∙ ap (onto y) (lines-fed (z ∷ zs) x s (h .1) e)
+  lines-on : (q : State) (b c : ℕ) (s : Bytes) → endsRow e q b ≡ false → endsRow e (quoting q b) c ≡ false → linesFrom e q (b ∷ (c ∷ s)) ≡ onto b (linesFrom e (quoting q b) (c ∷ s))
+  unfolding linesFrom
+  lines-on q b c s h k = rw (h, return-kept q b c k) (from-on (quoting q b) (λ t. onto b (linesFrom e t (c ∷ s))))
 
-lines-from : (rest s : Bytes) → Unfed rest → linesFrom rest s ≡ lines (rest ++ s)
-unfolding linesFrom Unfed endsLine
-lines-from rest [] h = sym (ap lines (append-nil rest) ∙ lines-last rest h)
-lines-from rest (x ∷ s) h = go (eqb x 10) refl (lines-from [] s tt) (lines-from (rest ++ (x ∷ [])) s)
-  where
-    go : (q : Bool) → eqb x 10 ≡ q → linesFrom [] s ≡ lines s → (Unfed (rest ++ (x ∷ [])) → linesFrom (rest ++ (x ∷ [])) s ≡ lines ((rest ++ (x ∷ [])) ++ s))
-        → (if q then ended rest ∷ linesFrom [] s else linesFrom (rest ++ (x ∷ [])) s) ≡ lines (rest ++ (x ∷ s))
-    go true e f g = ap (λ (l : List Bytes). ended rest ∷ l) f ∙ sym (lines-fed rest x s h e)
-    go false e f g = g (unfed-more rest x h e) ∙ ap lines (append-snoc rest x s)
+  lines-last : (q : State) (rest : Bytes) → Unfed e q rest → linesFrom e q rest ≡ lastLine rest
+  unfolding Unfed linesFrom
+  lines-last q [] h = refl
+  lines-last q (b ∷ []) h = rw (h .0) (go (eqb b 13))
+    where
+      go : (u : Bool) → (if u && false then [] else from (quoting q b) (λ t. (b ∷ []) ∷ [])) ≡ (b ∷ []) ∷ []
+      go true = from-on (quoting q b) (λ t. (b ∷ []) ∷ [])
+      go false = from-on (quoting q b) (λ t. (b ∷ []) ∷ [])
+  lines-last q (b ∷ (c ∷ cs)) h = lines-on q b c cs (h .0) (h .1 .0) ∙ ap (onto b) (lines-last (quoting q b) (c ∷ cs) (h .1))
 
-pub lines-all : (s : Bytes) → linesFrom [] s ≡ lines s
+  -- a line that a line feed ends
+  pub lines-fed : (q : State) (rest : Bytes) (x : ℕ) (s : Bytes) → Unfed e q rest → endsRow e (quotingBehind q rest) x ≡ true → linesFrom e q (rest ++ (x ∷ s)) ≡ ended rest ∷ linesFrom e Fresh s
+  unfolding Unfed linesFrom ended quotingBehind
+  lines-fed q [] x s h k = rw k
+  lines-fed q (b ∷ []) x s h k = rw (h .0) (go (eqb b 13) refl)
+    where
+      go : (u : Bool) → eqb b 13 ≡ u → (if u && endsRow e q x then linesFrom e q (x ∷ s) else from (quoting q b) (λ t. onto b (linesFrom e t (x ∷ s)))) ≡ (if u then [] else b ∷ []) ∷ linesFrom e Fresh s
+      go true r = let z : endsRow e q x ≡ true = sym (return-ends e q b x r) ∙ k in rw z
+      go false r = from-on (quoting q b) (λ t. onto b (linesFrom e t (x ∷ s))) ∙ rw k
+  lines-fed q (b ∷ (c ∷ cs)) x s h k = lines-on q b c (cs ++ (x ∷ s)) (h .0) (h .1 .0) ∙ ap (onto b) (lines-fed (quoting q b) (c ∷ cs) x s (h .1) k)
+
+  lines-from : (rest s : Bytes) → Unfed e Fresh rest → linesBehind e rest s ≡ lines e (rest ++ s)
+  unfolding linesBehind Unfed endsLine
+  lines-from rest [] h = sym (ap (lines e) (append-nil rest) ∙ lines-last Fresh rest h)
+  lines-from rest (x ∷ s) h = go (endsRow e (quotingBehind Fresh rest) x) refl (lines-from [] s tt) (lines-from (rest ++ (x ∷ [])) s)
+    where
+      go : (t : Bool) → endsRow e (quotingBehind Fresh rest) x ≡ t → linesBehind e [] s ≡ lines e s → (Unfed e Fresh (rest ++ (x ∷ [])) → linesBehind e (rest ++ (x ∷ [])) s ≡ lines e ((rest ++ (x ∷ [])) ++ s))
+          → (if t then ended rest ∷ linesBehind e [] s else linesBehind e (rest ++ (x ∷ [])) s) ≡ lines e (rest ++ (x ∷ s))
+      go true k f g = ap (λ (l : List Bytes). ended rest ∷ l) f ∙ sym (lines-fed Fresh rest x s h k)
+      go false k f g = g (unfed-more Fresh rest x h k) ∙ ap (lines e) (append-snoc rest x s)
+
+pub lines-all : (e : Edition) (s : Bytes) → linesBehind e [] s ≡ lines e s
 unfolding Unfed
-lines-all s = lines-from [] s tt
+lines-all e s = lines-from e [] s tt
 
 -- a line that is too long whatever follows ------------------------------------------------------------------------------------
 
@@ -100,12 +130,12 @@ pub record FirstLong (ls : List Bytes) : Type 0 where
   pub is : ls ≡ line ∷ behind
   pub long : mostLine < length line
 
-pub first-long : (rest s : Bytes) → (suc keptLine) ≤ length rest → FirstLong (linesFrom rest s)
-unfolding linesFrom
-first-long [] [] h = absurd (omega arith)
-first-long (y ∷ ys) [] h = record { line = y ∷ ys; behind = []; is = refl; long = omega arith }
-first-long rest (x ∷ s) h = go (endsLine rest x) (first-long (rest ++ (x ∷ [])) s (rw length-append (omega arith)))
+pub first-long : (e : Edition) (rest s : Bytes) → (suc keptLine) ≤ length rest → FirstLong (linesBehind e rest s)
+unfolding linesBehind
+first-long e [] [] h = absurd (omega arith)
+first-long e (y ∷ ys) [] h = record { line = y ∷ ys; behind = []; is = refl; long = omega arith }
+first-long e rest (x ∷ s) h = go (endsLine e rest x) (first-long e (rest ++ (x ∷ [])) s (rw length-append (omega arith)))
   where
-    go : (q : Bool) → FirstLong (linesFrom (rest ++ (x ∷ [])) s) → FirstLong (if q then ended rest ∷ linesFrom [] s else linesFrom (rest ++ (x ∷ [])) s)
-    go true f = record { line = ended rest; behind = linesFrom [] s; is = refl; long = omega (arith, ended-long rest) }
+    go : (q : Bool) → FirstLong (linesBehind e (rest ++ (x ∷ [])) s) → FirstLong (if q then ended rest ∷ linesBehind e [] s else linesBehind e (rest ++ (x ∷ [])) s)
+    go true f = record { line = ended rest; behind = linesBehind e [] s; is = refl; long = omega (arith, ended-long rest) }
     go false f = f

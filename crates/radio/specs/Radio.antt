@@ -10,17 +10,18 @@ use Rattle.refusals.specs.declared.Place.{Place}
 use Rattle.refusals.specs.declared.Check.{Check}
 use Rattle.refusals.specs.declared.Verdict.{Verdict}
 use Rattle.refusals.specs.declared.Verdict.the-variants.{Accepted, Refused}
-use Rattle.lines.specs.Lines.{mostBytes, mostLine}
+use Rattle.editions.specs.declared.Edition.{Edition}
 use Rattle.cells.specs.Cells.{cut, cellsOf}
-use Rattle.tables.specs.declared.Edition.the-variants.{Dino21}
+use Rattle.cells.specs.declared.State.the-variants.{Fresh}
+use Rattle.lines.specs.Lines.{endsRow, quotingBehind, lineAfter, mostBytes, mostLine}
 use Rattle.tables.specs.Columns.{number}
 use Rattle.tables.specs.declared.Table.{Table}
 use Rattle.tables.specs.declared.Table.the-variants.{VehicleType, Depot, Stop, StopPoint, Block}
-use Rattle.book.specs.Book.{Book, empty, entered}
+use Rattle.book.specs.Book.{Book, emptyBy, entered}
 use Rattle.book.specs.Result.{Result, refused, leaves, unless, _▹_}
 use Rattle.header.specs.Header.{Header, header, headerCheck}
 use Rattle.row_line.specs.RowLine.{rowRead}
-use Rattle.table_lines.specs.Reading.{judged, lineAfter}
+use Rattle.table_lines.specs.Reading.{judged}
 use Rattle.table_reading.specs.Reading.{tableRead}
 
 -- the meaning ----------------------------------------------------------------------------------------------------------------
@@ -41,10 +42,10 @@ pub record Sending : Type 0 where
   pub announced : Table → ℕ
   pub sent : Table → Bytes
 
--- the tables in the order of the reading: "The first fault ends the reading"
-unfoldable pub hearing : Sending → Result
-hearing d =
-    leaves empty
+-- the tables in the order of the reading, by "the delivery's edition": "The first fault ends the reading"
+unfoldable pub hearing : Edition → Sending → Result
+hearing e d =
+    leaves (emptyBy e)
     ▹ heard VehicleType (d .announced VehicleType) (d .sent VehicleType)
     ▹ heard Depot (d .announced Depot) (d .sent Depot)
     ▹ heard Stop (d .announced Stop) (d .sent Stop)
@@ -87,24 +88,25 @@ abbrev pub onward : Verdict → Course → Course
 onward Accepted c = c
 onward (Refused p) c = stopped p
 
-abbrev pub headerIn : Table → Bytes → Header
-headerIn t head = header Dino21 t (cellsOf (cut head))
+abbrev pub headerIn : Edition → Table → Bytes → Header
+headerIn e t head = header e t (cellsOf (cut e head))
 
 -- a line that is whole. "Line 1 is the header."
 abbrev pub headHeard : Table → Bytes → Book → Course
-headHeard t line b = onward (inHeader (number t) (headerCheck Dino21 t line)) (going b (lineAfter 1 line) line [])
+headHeard t line b = onward (inHeader (number t) (headerCheck (b .edition) t line)) (going b (lineAfter (b .edition) 1 line) line [])
 
 -- and any other is a row, judged on the book as the earlier ones left it
 abbrev pub rowHeard : Table → Bytes → Book → ℕ → Bytes → Course
 rowHeard t line b i head =
-    onward (placed (number t) i (judged t (headerIn t head) line b)) (going (entered t (rowRead Dino21 t (headerIn t head) line) b) (lineAfter i line) head [])
+    let h = headerIn (b .edition) t head in
+    onward (placed (number t) i (judged t h line b)) (going (entered t (rowRead (b .edition) t h line) b) (lineAfter (b .edition) i line) head [])
 
 unfoldable pub lineHeard : Table → Bytes → Book → ℕ → Bytes → Course
 lineHeard t line b i head = if eqb i 1 then headHeard t line b else rowHeard t line b i head
 
--- whether a byte behind these of a line ends it: "A line feed ends a line"
-unfoldable pub endsLine : Bytes → ℕ → Bool
-endsLine rest x = eqb x 10
+-- whether a byte behind these of a line ends it: "A line feed ends a line"; 2.3: "A row ends at the first line feed outside a cell's quotes"
+unfoldable pub endsLine : Edition → Bytes → ℕ → Bool
+endsLine e rest x = endsRow e (quotingBehind Fresh rest) x
 
 -- "one carriage return just before it is dropped"
 unfoldable pub ended : Bytes → Bytes
@@ -117,7 +119,7 @@ ended (x ∷ (y ∷ ys)) = x ∷ ended (y ∷ ys)
 unfoldable pub byteHeard : Table → ℕ → Course → Course
 byteHeard t x (stopped p) = stopped p
 byteHeard t x (going b i head rest) =
-    if endsLine rest x then lineHeard t (ended rest) b i head
+    if endsLine (b .edition) rest x then lineHeard t (ended rest) b i head
     else if ltb (length rest) keptLine then going b i head (rest ++ (x ∷ []))
     else lineHeard t (rest ++ (x ∷ [])) b i head
 
@@ -153,8 +155,9 @@ pub data Call : Type 0 where
   part : Bytes → Call
   close : Call
 
-abbrev pub start : Radio
-start = awaits VehicleType (leaves empty)
+-- "both editions stay, chosen by the caller for a whole delivery"
+abbrev pub start : Edition → Radio
+start e = awaits VehicleType (leaves (emptyBy e))
 
 -- the table behind this one, "in this order"
 abbrev pub next : Table → Result → Radio

@@ -5,10 +5,13 @@ use Prim.Native.Nat.{ℕ, suc, _+_, _-_}
 use lib.Dec.{ltb, eqb}
 use lib.ListN.{length, getD, take, drop, replicate}
 use Rattle.words.specs.Words.{Bytes, Row, if_then_else_, same}
-use Rattle.refusals.specs.Verdicts.{place, nowhere, badLoan}
+use Rattle.refusals.specs.Verdicts.{place, nowhere, badLoan, unknownEdition}
 use Rattle.refusals.specs.declared.Place.{Place}
 use Rattle.refusals.specs.declared.Verdict.{Verdict}
 use Rattle.refusals.specs.declared.Verdict.the-variants.{Accepted}
+use Rattle.editions.specs.Editions.{choice}
+use Rattle.editions.specs.declared.Choice.{Choice}
+use Rattle.editions.specs.declared.Choice.the-variants.{Chosen, Unknown}
 use Rattle.lines.specs.Lines.{mostLine}
 use Rattle.rows.specs.Room.{sameRows}
 use Rattle.tables.specs.Parts.{partOf, tables, bookRows}
@@ -35,7 +38,7 @@ radioBytes = mostLine + keptLine
 
 -- laid out --------------------------------------------------------------------------------------------------------------------
 
--- "A refused reading leaves an empty book": a fault empties it at once
+-- "A refused reading leaves an empty book": a fault empties it at once, and its edition is "2.1 after a refused reading"
 abbrev pub laidBook : Result → List Row
 laidBook (refused p) = laid empty
 laidBook (leaves b) = laid b
@@ -176,6 +179,11 @@ radioCall c s =
     if keepsRadio s then outcome (answer c (radioIn s)) (laidOut (after c (radioIn s)))
     else outcome (nowhere badLoan) s
 
--- the opening: what the slices held does not matter; "one lent at another length is 16", and then all stay as they came
-abbrev pub openCall : Slices → Outcome
-openCall s = if fits s then outcome Accepted (laidOut start) else outcome (nowhere badLoan) s
+-- the opening: what the slices held does not matter; "an unknown edition is 22, right after 16", "one lent at another length is 16", and then all
+-- stay as they came
+abbrev pub openBy : Choice → Slices → Outcome
+openBy (Chosen e) s = outcome Accepted (laidOut (start e))
+openBy Unknown s = outcome (nowhere unknownEdition) s
+
+abbrev pub openCall : ℕ → Slices → Outcome
+openCall n s = if fits s then openBy (choice n) s else outcome (nowhere badLoan) s

@@ -7,7 +7,7 @@ use lib.ListN.{length}
 use Rattle.words.specs.Words.{Bytes, if_then_else_}
 use Rattle.refusals.specs.Verdicts.{passes}
 use Rattle.refusals.specs.declared.Place.{Place}
-use Rattle.tables.specs.declared.Edition.the-variants.{Dino21}
+use Rattle.editions.specs.declared.Edition.{Edition}
 use Rattle.tables.specs.Columns.{number}
 use Rattle.tables.specs.Parts.{tables}
 use Rattle.tables.specs.declared.Table.{Table}
@@ -16,8 +16,8 @@ use Rattle.keeping.specs.Keeping.{lawfulBook}
 use Rattle.header.specs.Header.{member, headerCheck}
 use Rattle.radio.specs.Radio.{Course, stopped, going, Radio, awaits, hears, over, mostCounted, keptLine, none}
 
--- "Numbers of refusal": those of tables that are read, whole or by radio. 12 and 13 are a slip's, 14 is the writer's, 15 and 16 are of what is
--- asked and lent
+-- "Numbers of refusal": those of tables that are read, whole or by radio. 12 and 13 are a slip's, 14 is the writer's, 15, 16 and 22 are of what
+-- is asked and lent
 abbrev pub readingNumbers : List ℕ
 readingNumbers = 1 ∷ 2 ∷ 3 ∷ 4 ∷ 5 ∷ 6 ∷ 7 ∷ 8 ∷ 9 ∷ 10 ∷ 11 ∷ 17 ∷ 18 ∷ 19 ∷ 20 ∷ 21 ∷ []
 
@@ -31,8 +31,8 @@ lawfulResult (refused p) = lawfulFault p
 lawfulResult (leaves b) = lawfulBook b
 
 -- a header line that is kept has passed its checks
-abbrev pub lawfulHead : Table → ℕ → Bytes → Bool
-lawfulHead t i head = if eqb i 1 then none head else passes (headerCheck Dino21 t head)
+abbrev pub lawfulHead : Edition → Table → ℕ → Bytes → Bool
+lawfulHead e t i head = if eqb i 1 then none head else passes (headerCheck e t head)
 
 -- no more lines, and bytes behind them, than bytes came; and room for the unfinished line
 abbrev pub lawfulCourse : Table → ℕ → Course → Bool
@@ -41,7 +41,7 @@ lawfulCourse t n (going b i head rest) =
     lawfulBook b
     && leb 1 i
     && leb (i + length rest) (suc n)
-    && lawfulHead t i head
+    && lawfulHead (b .edition) t i head
     && leb (length rest) keptLine
 
 unfoldable pub lawfulRadio : Radio → Bool

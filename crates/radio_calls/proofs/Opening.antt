@@ -5,26 +5,37 @@ use mathlib.Core.Bool.{true, false}
 use Prim.Native.Nat.{ℕ, _<_}
 use lib.ListN.{replicate}
 use Rattle.words.specs.Words.{Bytes, Row}
-use Rattle.refusals.specs.Verdicts.{nowhere, badLoan}
+use Rattle.refusals.specs.Verdicts.{nowhere, badLoan, unknownEdition}
 use Rattle.refusals.specs.declared.Verdict.the-variants.{Accepted}
+use Rattle.editions.specs.Editions.{choice}
+use Rattle.editions.specs.declared.Edition.{Edition}
+use Rattle.editions.specs.declared.Choice.{Choice}
+use Rattle.editions.specs.declared.Choice.the-variants.{Chosen, Unknown}
 use Rattle.tables.specs.declared.Table.{Table}
 use Rattle.tables.specs.declared.Table.the-variants.{VehicleType, Depot, Stop, StopPoint, Block}
 use Rattle.book.specs.Result.{Result, refused, leaves}
 use Rattle.radio.specs.Radio.{awaits, hears, announce, counted, begun}
-use Rattle.radio.specs.Room.{Slices, outcome, laidOut, tableAt, resultIn, fits, keepsRadio, radioCall, openCall, radioNumbers, allClosed, turnOf}
+use Rattle.radio.specs.Room.{Slices, outcome, laidOut, tableAt, resultIn, fits, keepsRadio, radioCall, openBy, openCall, radioNumbers, allClosed, turnOf}
 use Rattle.radio.proofs.Laying.{handed}
 use Rattle.radio_rule.specs.Lent.{slices}
 use Rattle.radio_slices.specs.Numbers.{emptySlices, numbersAnnounced}
 use Rattle.radio_slices.proofs.Turns.{is-awaited}
 use Rattle.radio_calls.proofs.Turns.{announced-in-turn}
 
-module _ (b : List Row) (k : List ℕ) (l : Bytes) where
-  pub not-fit : fits (slices b k l) ≡ false → openCall (slices b k l) ≡ outcome (nowhere badLoan) (slices b k l)
+module _ (n : ℕ) (b : List Row) (k : List ℕ) (l : Bytes) where
+  pub not-fit : fits (slices b k l) ≡ false → openCall n (slices b k l) ≡ outcome (nowhere badLoan) (slices b k l)
   not-fit e = rw e
 
-  pub opened : fits (slices b k l) ≡ true → (s : Slices) → s ≡ emptySlices (replicate radioNumbers 0) → outcome Accepted s ≡ openCall (slices b k l)
-  unfolding laidOut
-  opened e s f = rw e (ap (outcome Accepted) f)
+  module _ (fit : fits (slices b k l) ≡ true) where
+    chosen : (c : Choice) → choice n ≡ c → openCall n (slices b k l) ≡ openBy c (slices b k l)
+    chosen c e = rw fit (ap (λ (x : Choice). openBy x (slices b k l)) e)
+
+    pub not-known : choice n ≡ Unknown → openCall n (slices b k l) ≡ outcome (nowhere unknownEdition) (slices b k l)
+    not-known e = chosen Unknown e
+
+    pub opened : (x : Edition) → choice n ≡ Chosen x → (s : Slices) → s ≡ emptySlices x (replicate radioNumbers 0) → outcome Accepted s ≡ openCall n (slices b k l)
+    unfolding laidOut
+    opened x e s f = ap (outcome Accepted) f ∙ sym (chosen (Chosen x) e)
 
 -- announced: the book and the lines stay
 announced-laid : (t : Table) (r : Result) (a : ℕ) → let u = laidOut (awaits t r) in slices (u .book) (numbersAnnounced a (u .numbers)) (u .lines) ≡ laidOut (hears t a 0 (begun r))

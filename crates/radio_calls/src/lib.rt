@@ -1,11 +1,13 @@
 // The calls of a delivery by radio: "Please take each table in parts, cut anywhere".
 ghost use mathlib.Core.Path.{_≡_};
-ghost use Rattle.refusals.specs.Verdicts.{nowhere, badLoan, notThere};
+ghost use Rattle.refusals.specs.Verdicts.{nowhere, badLoan, notThere, unknownEdition};
 ghost use Rattle.radio.specs.Radio as radio;
 ghost use Rattle.radio.specs.Room.{outcome};
 ghost use Rattle.radio_rule.specs.Lent.{slices};
 ghost use Rattle.radio_calls.specs.Calls.{OpenPermits, RadioPermits};
 ghost use Rattle.radio_calls.specs.Turns.{admitted};
+use editions::Choice;
+use editions::Edition;
 use radio_rule::HEARD;
 use radio_rule::KEPT;
 use radio_rule::LAST_TURN;
@@ -20,6 +22,12 @@ fn bad_loan() -> Verdict
     ensures { λ r. ⌜ r ≡ nowhere badLoan ⌝ }
 {
     Check::bad_loan().on(Place::NO_TABLE, Place::NO_LINE)
+}
+
+fn unknown_edition() -> Verdict
+    ensures { λ r. ⌜ r ≡ nowhere unknownEdition ⌝ }
+{
+    Check::unknown_edition().on(Place::NO_TABLE, Place::NO_LINE)
 }
 
 fn out_of_turn() -> Verdict
@@ -45,15 +53,21 @@ fn admit(first: u64, last: u64, book: &[Row], kept: &[u64], lines: &[u8]) -> Ver
     Verdict::Accepted
 }
 
-// A delivery begins, whatever the slices held.
-pub fn open(book: &mut [Row], kept: &mut [u64], lines: &mut [u8]) -> Verdict
-    ensures { λ r. ⌜ OpenPermits (slices (now (book .entry)) (now (kept .entry)) (now (lines .entry))) (outcome r (slices (now (book .exit)) (now (kept .exit)) (now (lines .exit)))) ⌝ }
+// A delivery begins by the edition of this number, whatever the slices held. 16, then 22.
+pub fn open(edition: u64, book: &mut [Row], kept: &mut [u64], lines: &mut [u8]) -> Verdict
+    ensures { λ r. ⌜ OpenPermits edition (slices (now (book .entry)) (now (kept .entry)) (now (lines .entry))) (outcome r (slices (now (book .exit)) (now (kept .exit)) (now (lines .exit)))) ⌝ }
 {
     if !radio_rule::fit(book, kept, lines) {
         return bad_loan();
     }
-    radio_slices::empty(&[0; KEPT], book, kept, lines);
-    Verdict::Accepted
+    let choice = Edition::numbered(edition);
+    match choice {
+        Choice::Unknown => unknown_edition(),
+        Choice::Chosen(chosen) => {
+            radio_slices::empty(chosen, &[0; KEPT], book, kept, lines);
+            Verdict::Accepted
+        }
+    }
 }
 
 // "The length of each table is announced before its first byte."

@@ -89,7 +89,7 @@ module _ (t : Table) (b : List Row) (k : List ℕ) (l : Bytes) (h : Hears b k l)
         }
 
     -- what the last line asks
-    pub last-asks : t ≡ tableOf k → Holding t (taken k) b l × (lineOf k + 1 < 2 ^ 64)
+    pub last-asks : t ≡ tableOf k → Holding t (taken k) b l × (lineOf k + restOf k + 1 < 2 ^ 64)
     last-asks f =
         let c = lengths b k l h e .came in
         let n = h .come in

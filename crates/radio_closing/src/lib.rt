@@ -62,7 +62,7 @@ fn none_left(kept: &[u64]) -> bool
 
 // "A last line may lack its line feed": the unfinished line is the last. It is copied, for its room is lent on.
 fn last_line(t: Table, book: &mut [Row], lines: &mut [u8], from: Heard) -> Verdict
-    requires { ⌜ Holding t from (now book) (now lines) × (from .line + 1 < 2 ^ 64) ⌝ }
+    requires { ⌜ Holding t from (now book) (now lines) × (from .line + from .rest + 1 < 2 ^ 64) ⌝ }
     ensures { λ r. ⌜ Comes (radio.cameTo (radio.lineHeard t (take (from .rest) (drop mostLine (now (lines .entry)))) (bookOf (now (book .entry))) (from .line) (take (from .head) (now (lines .entry))))) r (now (book .exit)) ⌝ }
 {
     let rest = from.rest;

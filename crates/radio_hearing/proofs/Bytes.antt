@@ -1,17 +1,24 @@
 -- Bytes of a line put behind others, and the line that they end. Assumes nothing.
-use mathlib.Core.Path.{_≡_, refl, ap, sym, _∙_}
+use mathlib.Core.Path.{_≡_, refl, ap, sym, subst, _∙_}
+use mathlib.Core.Bool.{Bool, true, false}
 use mathlib.Core.List.{[], _∷_, _++_, append-assoc}
 use Prim.Native.Nat.{ℕ, zero, suc, _+_, _-_, _≤_, _<_}
 use native.Mathlib.Omega.{arith}
 use lib.ListN.{length, getD, take, drop, length-append, length-drop, take-append-drop}
-use lib.Seq.{take-append-le, take-take, take-add, take-at, drop-at, length-take-le, take-suc, getD-drop}
+use lib.Seq.{take-append-le, take-take, take-add, take-at, drop-at, drop-drop, length-take-le}
 use borrow.Author.Tests.{eq-eqb, ne-eqb}
 use Rattle.words.specs.Words.{Bytes, if_then_else_}
 use Rattle.numbers.specs.Putting.{put}
 use Rattle.numbers.proofs.Putting.{rest, back, lent}
-use Rattle.lines.specs.Ends.{slipLength}
-use Rattle.lines.proofs.Lining.{feed-on}
+use Rattle.editions.specs.declared.Edition.{Edition}
+use Rattle.editions.specs.declared.Edition.the-variants.{Dino21}
+use Rattle.cells.specs.declared.State.{State}
+use Rattle.cells.specs.declared.State.the-variants.{Fresh}
+use Rattle.lines.specs.Lines.{quoting, quotingBehind, endsRow}
+use Rattle.lines.specs.Ends.{feedFrom}
+use Rattle.lines.proofs.Lining.{feed-plain}
 use Rattle.radio.specs.Radio.{ended, endsLine}
+use Rattle.radio.proofs.Parting.{behind-one}
 use Rattle.radio_lines.specs.Lines.{Finished}
 use Rattle.radio_hearing.specs.Hearing.{Feedless}
 
@@ -98,30 +105,66 @@ module _ (s room r : Bytes) (n : ℕ) (e : room ≡ s ++ r) (l : n ≡ length s)
       let same : getD room (n - 1) 0 ≡ getD s (n - 1) 0 = ap (λ (z : Bytes). getD z (n - 1) 0) e ∙ getD-front s r (n - 1) (omega arith) in
       (omega (arith, room-long), ap (take n) e ∙ take-at s r n (sym l) ∙ sym (ended-other s (n - 1) (omega arith) (λ q. b (same ∙ q))))
 
--- a part from its begin, or to its end
+-- rows that are finished ------------------------------------------------------------------------------------------------------------
 
--- line feeds ------------------------------------------------------------------------------------------------------------------------
+module _ (e : Edition) where
+  -- a row up to the line feed that ends it, of which some came before
+  finished-row : (rest s : Bytes) → feedFrom e (quotingBehind Fresh rest) s < length s → Finished e rest (take (suc (feedFrom e (quotingBehind Fresh rest) s)) s)
+  unfolding Finished feedFrom endsLine
+  finished-row rest [] h = absurd (omega arith)
+  finished-row rest (x ∷ s) h = go (endsRow e (quotingBehind Fresh rest) x) refl h (finished-row (rest ++ (x ∷ [])) s)
+    where
+      q : State
+      q = quotingBehind Fresh rest
 
-finished-fed : (rest s : Bytes) → Finished rest (s ++ (10 ∷ []))
-unfolding Finished endsLine
-finished-fed rest [] = refl
-finished-fed rest (x ∷ s) = finished-fed (if endsLine rest x then [] else rest ++ (x ∷ [])) s
+      go : (t : Bool) → endsRow e q x ≡ t → (if t then 0 else suc (feedFrom e (quoting q x) s)) < suc (length s) →
+          (feedFrom e (quotingBehind Fresh (rest ++ (x ∷ []))) s < length s → Finished e (rest ++ (x ∷ [])) (take (suc (feedFrom e (quotingBehind Fresh (rest ++ (x ∷ []))) s)) s)) →
+          Finished e (if t then [] else rest ++ (x ∷ [])) (take (if t then 0 else suc (feedFrom e (quoting q x) s)) s)
+      go true k l ih = refl
+      go false k l ih = (rw (behind-one Fresh rest x) at ih) (omega arith)
 
-pub finished-none : (s : Bytes) (from i : ℕ) → i ≤ from → Finished [] (take (i - from) (drop from s))
-unfolding Finished
-finished-none s from i h = let z : i - from ≡ 0 = omega arith in rw z refl
+  finished-join : (rest xs ys : Bytes) → Finished e rest xs → Finished e [] ys → Finished e rest (xs ++ ys)
+  unfolding Finished
+  finished-join rest [] ys h k = subst (λ (z : Bytes). Finished e z ys) (sym h) k
+  finished-join rest (x ∷ xs) ys h k = finished-join (if endsLine e rest x then [] else rest ++ (x ∷ [])) xs ys h k
 
-pub finished-behind : (s : Bytes) (from i : ℕ) → from < i → i ≤ length s → getD s (i - 1) 0 ≡ 10 → Finished [] (take (i - from) (drop from s))
-finished-behind s from i h l e =
-    let one : i - from ≡ suc (i - 1 - from) = omega arith in
-    let same : from + (i - 1 - from) ≡ i - 1 = omega arith in
-    rw (one, take-suc (drop from s) (i - 1 - from) 0 (rw length-drop (omega arith)), getD-drop, same, e) (finished-fed [] (take (i - 1 - from) (drop from s)))
+  -- from a place of a part
+  module _ (s : Bytes) (from : ℕ) where
+    pub finished-none : (at : ℕ) → at ≡ from → Finished e [] (take (at - from) (drop from s))
+    unfolding Finished
+    finished-none at h = let z : at - from ≡ 0 = omega arith in rw z refl
 
-pub feedless-end : (s : Bytes) (i : ℕ) → i ≡ length s → Feedless (drop i s)
-feedless-end s i e = rw length-drop (omega arith)
+    pub finished-on : (at feed : ℕ) → from ≤ at → at ≤ length s → feed ≡ at + feedFrom e Fresh (drop at s) → feed < length s
+        → Finished e [] (take (at - from) (drop from s)) → Finished e [] (take (feed + 1 - from) (drop from s))
+    unfolding quotingBehind
+    finished-on at feed l w f h k =
+        let n : ℕ = feedFrom e Fresh (drop at s) in
+        let long : length (drop at s) ≡ length s - at = length-drop at s in
+        let one : feed + 1 - from ≡ (at - from) + suc n = omega arith in
+        let same : from + (at - from) ≡ at = omega arith in
+        let row : Finished e [] (take (suc n) (drop at s)) = finished-row [] (drop at s) (omega arith) in
+        let both : Finished e [] (take (at - from) (drop from s) ++ take (suc n) (drop at s)) = finished-join [] (take (at - from) (drop from s)) (take (suc n) (drop at s)) k row in
+        let parts : take (feed + 1 - from) (drop from s) ≡ take (at - from) (drop from s) ++ take (suc n) (drop at s) =
+        ap (λ (m : ℕ). take m (drop from s)) one ∙ take-add (at - from) (suc n) (drop from s)
+        ∙ ap (λ (z : Bytes). take (at - from) (drop from s) ++ take (suc n) z) (drop-drop (at - from) from s ∙ ap (λ (m : ℕ). drop m s) same) in
+        subst (Finished e []) (sym parts) both
 
-pub feedless-before : (s : Bytes) (i : ℕ) → 0 < i → i ≤ length s → (getD s (i - 1) 0 ≡ 10 → ⊥) → Feedless (drop i s) → Feedless (drop (i - 1) s)
-feedless-before s i p h n f =
-    let one : i - 1 + 1 ≡ i = omega arith in
-    let more : slipLength (drop (i - 1) s) ≡ suc (slipLength (drop i s)) = rw one at (feed-on s (i - 1) (omega arith) n) in
-    omega (arith, more, f, length-drop (i - 1) s, length-drop i s)
+  pub feedless-end : (s : Bytes) (i : ℕ) → length s ≤ i → Feedless e Fresh (drop i s)
+  feedless-end s i h = rw length-drop (omega arith)
+
+  pub feedless-here : (s : Bytes) (at feed : ℕ) → feed ≡ at + feedFrom e Fresh (drop at s) → length s ≤ feed → Feedless e Fresh (drop at s)
+  feedless-here s at feed f h = rw length-drop (omega arith)
+
+-- by 2.1 quotes do not matter
+pub feed-any : (q p : State) (s : Bytes) → feedFrom Dino21 q s ≡ feedFrom Dino21 p s
+feed-any q p s = sym (feed-plain q s) ∙ feed-plain p s
+
+-- nothing came before
+pub none-came : (l : Bytes) (n : ℕ) → n ≡ 0 → quotingBehind Fresh (take n l) ≡ Fresh
+unfolding quotingBehind
+none-came l n h = rw h
+
+pub length-most : (n : ℕ) (s : Bytes) → length (take n s) ≤ n
+length-most zero s = omega arith
+length-most (suc n) [] = omega arith
+length-most (suc n) (x ∷ s) = omega (arith, length-most n s)

@@ -4,16 +4,19 @@ use mathlib.Core.List.{[]}
 use Prim.Native.Nat.{ℕ, _-_, _≤_}
 use lib.ListN.{length, take, drop}
 use Rattle.words.specs.Words.{Bytes}
-use Rattle.lines.specs.Ends.{slipLength}
+use Rattle.editions.specs.declared.Edition.{Edition}
+use Rattle.cells.specs.declared.State.{State}
+use Rattle.cells.specs.declared.State.the-variants.{Fresh}
+use Rattle.lines.specs.Ends.{feedFrom}
 use Rattle.radio_lines.specs.Lines.{Finished}
 
--- no line feed stands in these bytes
-abbrev pub Feedless : Bytes → Type 0
-Feedless s = length s ≤ slipLength s
+-- none of these bytes ends a row whose quotes stand so
+abbrev pub Feedless : Edition → State → Bytes → Type 0
+Feedless e q s = length s ≤ feedFrom e q s
 
--- a place of a part: the bytes from a place before it are whole lines, and no line feed follows
-pub record BehindFeeds (part : Bytes) (from : ℕ) (r : ℕ) : Type 0 where
+-- a place of a part: the bytes from a place before it are whole rows, and none ends behind it
+pub record BehindRows (e : Edition) (part : Bytes) (from : ℕ) (r : ℕ) : Type 0 where
   pub low : from ≤ r
   pub high : r ≤ length part
-  pub finished : Finished [] (take (r - from) (drop from part))
-  pub feedless : Feedless (drop r part)
+  pub finished : Finished e [] (take (r - from) (drop from part))
+  pub feedless : Feedless e Fresh (drop r part)

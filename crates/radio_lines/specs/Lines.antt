@@ -11,7 +11,7 @@ use Rattle.refusals.specs.declared.Place.{Place}
 use Rattle.refusals.specs.declared.Verdict.{Verdict}
 use Rattle.refusals.specs.declared.Verdict.the-variants.{Accepted, Refused}
 use Rattle.lines.specs.Lines.{mostLine}
-use Rattle.tables.specs.declared.Edition.the-variants.{Dino21}
+use Rattle.editions.specs.declared.Edition.{Edition}
 use Rattle.tables.specs.declared.Table.{Table}
 use Rattle.book.specs.Holding.{Sound}
 use Rattle.book.specs.Room.{bookOf}
@@ -39,7 +39,7 @@ pub record Holding (t : Table) (h : Heard) (book : List Row) (lines : Bytes) : T
   pub rests : h .rest ≤ keptLine
   pub begun : 1 ≤ h .line
   pub first : h .line ≡ 1 → h .head ≡ 0
-  pub headed : (h .line ≡ 1 → ⊥) → headerCheck Dino21 t (take (h .head) lines) ≡ Passes
+  pub headed : (h .line ≡ 1 → ⊥) → headerCheck (bookOf book .edition) t (take (h .head) lines) ≡ Passes
 
 -- what was heard came to this; behind a refusal nothing is said of the book and the lines
 pub record CameTo (t : Table) (c : Course) (book : List Row) (lines : Bytes) (h : Heard) : Type 0 where
@@ -53,6 +53,6 @@ pub record Stopping (v : Verdict) (c : Course) : Type 0 where
   pub is : c ≡ stopped at
 
 -- these bytes, behind some of a line, are lines that are finished
-unfoldable pub Finished : Bytes → Bytes → Type 0
-Finished rest [] = rest ≡ []
-Finished rest (x ∷ s) = Finished (if endsLine rest x then [] else rest ++ (x ∷ [])) s
+unfoldable pub Finished : Edition → Bytes → Bytes → Type 0
+Finished e rest [] = rest ≡ []
+Finished e rest (x ∷ s) = Finished e (if endsLine e rest x then [] else rest ++ (x ∷ [])) s

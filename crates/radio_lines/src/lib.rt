@@ -21,12 +21,12 @@ ghost use Rattle.radio.specs.Radio.{lineHeard, headerIn};
 ghost use Rattle.radio.specs.Room.{radioBytes};
 ghost use Rattle.radio.specs.Hearing.{bytesHeard};
 ghost use Rattle.radio_lines.specs.Lines.{kept, Holding, CameTo, Stopping, Finished};
+use editions::Edition;
 use refusals::Check;
 use refusals::Place;
 use refusals::Verdict;
 use rows::ROWS;
 use rows::Row;
-use tables::Edition;
 use tables::Table;
 
 // What is kept of a table while its parts come: the fault, or none; the number of the unfinished line; and how many bytes are kept of the
@@ -53,12 +53,12 @@ pub fn too_long(t: Table, line: u64, book: &[Row]) -> Verdict
 }
 
 // The header line; where it passes it is kept at the begin of the lines.
-fn hear_head(line: &[u8], t: Table, lines: &mut [u8]) -> Verdict
+fn hear_head(edition: Edition, line: &[u8], t: Table, lines: &mut [u8]) -> Verdict
     requires { ⌜ length (now lines) ≡ radioBytes ⌝ }
-    ensures { λ r. ⌜ (r ≡ inHeader (number t) (headerCheck Edition.Dino21 t (now (line .entry)))) × (r ≡ Verdict.Accepted → now (lines .exit) ≡ put (now (line .entry)) (now (lines .entry))) ⌝ }
+    ensures { λ r. ⌜ (r ≡ inHeader (number t) (headerCheck edition t (now (line .entry)))) × (r ≡ Verdict.Accepted → now (lines .exit) ≡ put (now (line .entry)) (now (lines .entry))) ⌝ }
 {
-    let columns = t.column_rules(Edition::Dino21);
-    let heading = header::read_header(line, Edition::Dino21, t, &columns);
+    let columns = t.column_rules(edition);
+    let heading = header::read_header(line, edition, t, &columns);
     let check = heading.check;
     let verdict = check.on(t.number(), Place::HEADER_LINE);
     match verdict {
@@ -72,27 +72,30 @@ fn hear_head(line: &[u8], t: Table, lines: &mut [u8]) -> Verdict
 
 // A row, under the header line that is kept.
 fn hear_row(line: &[u8], i: u64, t: Table, head: &[u8], book: &mut [Row]) -> Verdict
-    requires { ⌜ Sound (now book) × (pointsNamed (bookOf (now book)) ≡ true) × (headerCheck Edition.Dino21 t (now head) ≡ Check.Passes) ⌝ }
-    ensures { λ r. ⌜ Sound (now (book .exit)) × NamedIn (resultOf r (now (book .exit))) × (resultOf r (now (book .exit)) ≡ unless (placed (number t) i (judged t (headerIn t (now (head .entry))) (now (line .entry)) (bookOf (now (book .entry))))) (leaves (entered t (rowRead Edition.Dino21 t (headerIn t (now (head .entry))) (now (line .entry))) (bookOf (now (book .entry)))))) ⌝ }
+    requires { ⌜ Sound (now book) × (pointsNamed (bookOf (now book)) ≡ true) × (headerCheck (bookOf (now book) .edition) t (now head) ≡ Check.Passes) ⌝ }
+    ensures { λ r. ⌜ Sound (now (book .exit)) × NamedIn (resultOf r (now (book .exit))) × (resultOf r (now (book .exit)) ≡ unless (placed (number t) i (judged t (headerIn (bookOf (now (book .entry)) .edition) t (now (head .entry))) (now (line .entry)) (bookOf (now (book .entry))))) (leaves (entered t (rowRead (bookOf (now (book .entry)) .edition) t (headerIn (bookOf (now (book .entry)) .edition) t (now (head .entry))) (now (line .entry))) (bookOf (now (book .entry)))))) ⌝ }
 {
-    let columns = t.column_rules(Edition::Dino21);
-    let heading = header::read_header(head, Edition::Dino21, t, &columns);
+    let edition = book::edition_of(&book[..]);
+    let columns = t.column_rules(edition);
+    let heading = header::read_header(head, edition, t, &columns);
     let at = heading.at;
     table_reading::take_line(line, i, t, &columns, &at, book)
 }
 
 // A line that is whole: the header or a row. It does not lie in the lines that are kept.
 pub fn hear_line(line: &[u8], t: Table, book: &mut [Row], lines: &mut [u8], from: Heard) -> Heard
-    requires { ⌜ Holding t from (now book) (now lines) × (from .line + 1 < 2 ^ 64) ⌝ }
-    ensures { λ r. ⌜ CameTo t (lineHeard t (now (line .entry)) (bookOf (now (book .entry))) (from .line) (take (from .head) (now (lines .entry)))) (now (book .exit)) (now (lines .exit)) r × (r .line ≡ from .line + 1) × (r .rest ≡ 0) ⌝ }
+    requires { ⌜ Holding t from (now book) (now lines) × (from .line + length (now line) + 1 < 2 ^ 64) ⌝ }
+    ensures { λ r. ⌜ CameTo t (lineHeard t (now (line .entry)) (bookOf (now (book .entry))) (from .line) (take (from .head) (now (lines .entry)))) (now (book .exit)) (now (lines .exit)) r × (from .line < r .line) × (r .line ≤ from .line + length (now (line .entry)) + 1) × (r .rest ≡ 0) ⌝ }
 {
     let i = from.line;
     let head = from.head;
+    let edition = book::edition_of(&book[..]);
+    let next = lines::line_after(edition, i, line);
     if i == Place::HEADER_LINE {
-        let verdict = hear_head(line, t, lines);
+        let verdict = hear_head(edition, line, t, lines);
         return Heard {
             verdict,
-            line: i + 1,
+            line: next,
             head: line.len(),
             rest: 0,
         };
@@ -100,7 +103,7 @@ pub fn hear_line(line: &[u8], t: Table, book: &mut [Row], lines: &mut [u8], from
     let verdict = hear_row(line, i, t, &lines[0..head], book);
     Heard {
         verdict,
-        line: i + 1,
+        line: next,
         head,
         rest: 0,
     }
@@ -108,8 +111,8 @@ pub fn hear_line(line: &[u8], t: Table, book: &mut [Row], lines: &mut [u8], from
 
 // Rows that are finished, read where they lie.
 pub fn hear_rows(body: &[u8], t: Table, book: &mut [Row], lines: &[u8], from: Heard) -> Heard
-    requires { ⌜ Holding t from (now book) (now lines) × (2 ≤ from .line) × (from .line + length (now body) < 2 ^ 64) × (from .rest ≡ 0) × Finished [] (now body) ⌝ }
-    ensures { λ r. ⌜ CameTo t (bytesHeard t (now (body .entry)) (kept from (now (book .entry)) (now (lines .entry)))) (now (book .exit)) (now (lines .entry)) r ⌝ }
+    requires { ⌜ Holding t from (now book) (now lines) × (2 ≤ from .line) × (from .line + length (now body) + 1 < 2 ^ 64) × (from .rest ≡ 0) × Finished (bookOf (now book) .edition) [] (now body) ⌝ }
+    ensures { λ r. ⌜ CameTo t (bytesHeard t (now (body .entry)) (kept from (now (book .entry)) (now (lines .entry)))) (now (book .exit)) (now (lines .entry)) r × (r .rest ≡ 0) ⌝ }
 {
     let line = from.line;
     let head = from.head;
@@ -121,8 +124,9 @@ pub fn hear_rows(body: &[u8], t: Table, book: &mut [Row], lines: &[u8], from: He
             rest: 0,
         };
     }
-    let columns = t.column_rules(Edition::Dino21);
-    let heading = header::read_header(&lines[0..head], Edition::Dino21, t, &columns);
+    let edition = book::edition_of(&book[..]);
+    let columns = t.column_rules(edition);
+    let heading = header::read_header(&lines[0..head], edition, t, &columns);
     let at = heading.at;
     let taken = table_reading::take_rows(body, line, t, &columns, &at, book);
     let verdict = taken.verdict;

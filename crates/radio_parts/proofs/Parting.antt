@@ -8,7 +8,7 @@ use Rattle.words.specs.Words.{Bytes, Row}
 use Rattle.refusals.specs.declared.Place.{Place}
 use Rattle.tables.specs.declared.Table.{Table}
 use Rattle.radio.specs.Radio.{Course, stopped, hears, counted, mostCounted}
-use Rattle.radio.specs.Room.{Slices, laidOut, faultIn, courseIn, announcedOf, comeOf, lineOf, flagOf}
+use Rattle.radio.specs.Room.{Slices, laidOut, faultIn, courseIn, announcedOf, comeOf, lineOf, restOf, flagOf}
 use Rattle.radio.specs.Hearing.{bytesHeard}
 use Rattle.radio.proofs.Hearing.{over-stopped}
 use Rattle.radio.proofs.Laying.{handed}
@@ -44,9 +44,10 @@ module _ (x : Bytes) (b : List Row) (k : List ℕ) (l : Bytes) (h : Hears b k l)
     short : length p ≤ mostCounted
     short = omega (arith, ap length q ∙ length-take (announcedOf k - comeOf k) x, h .announced)
 
-    pub hear-asks : Holding t y b l × (y .line + length p + 1 < 2 ^ 64)
+    pub hear-asks : Holding t y b l × (y .line + y .rest + length p + 1 < 2 ^ 64)
     hear-asks =
         let i : y .line ≡ lineOf k = ap (λ (z : Heard). z .line) f in
+        let j : y .rest ≡ restOf k = ap (λ (z : Heard). z .rest) f in
         let c = lengths b k l h e .came in
         let n = h .come in
         let o = short in

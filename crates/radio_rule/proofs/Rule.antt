@@ -11,7 +11,7 @@ use Rattle.words.specs.Words.{Bytes, Row, if_then_else_, same}
 use Rattle.words.proofs.Lists.{and-left, and-right, same-refl, same-true}
 use Rattle.refusals.specs.Verdicts.{passes, place}
 use Rattle.rows.specs.Room.{sameRows}
-use Rattle.tables.specs.declared.Edition.the-variants.{Dino21}
+use Rattle.editions.specs.declared.Edition.{Edition}
 use Rattle.tables.specs.declared.Table.{Table}
 use Rattle.tables.specs.Parts.{partOf, bookRows}
 use Rattle.tables.proofs.Figures.{part-below}
@@ -70,30 +70,30 @@ module _ (t : Table) (a n : ℕ) where
   going-keeps i h r f g e = rw (le-leb (6 + partOf t) 10 (omega (arith, part-below t)), le-ltb (6 + partOf t) 6 (omega arith), f, g, e)
 
 -- a header line that is lawful is none on the first line
-first-head : (t : Table) (i : ℕ) (head : Bytes) → lawfulHead t i head ≡ true → (if eqb i 1 then eqb (length head) 0 else true) ≡ true
-first-head t i head e = go (eqb i 1) e
+first-head : (ed : Edition) (t : Table) (i : ℕ) (head : Bytes) → lawfulHead ed t i head ≡ true → (if eqb i 1 then eqb (length head) 0 else true) ≡ true
+first-head ed t i head e = go (eqb i 1) e
   where
     no-bytes : (s : Bytes) → none s ≡ true → eqb (length s) 0 ≡ true
     no-bytes [] f = refl
     no-bytes (x ∷ xs) f = let z : _≡_ {A = ℕ} 0 1 = cc in let y : ⊥ = omega arith in absurd y
 
-    go : (q : Bool) → (if q then none head else passes (headerCheck Dino21 t head)) ≡ true → (if q then eqb (length head) 0 else true) ≡ true
+    go : (q : Bool) → (if q then none head else passes (headerCheck ed t head)) ≡ true → (if q then eqb (length head) 0 else true) ≡ true
     go true f = no-bytes head f
     go false f = refl
 
 -- and behind it it has passed
-later-head : (t : Table) (i : ℕ) (head : Bytes) → lawfulHead t i head ≡ true → (if ltb 1 i then passes (headerCheck Dino21 t head) else true) ≡ true
-later-head t i head e = go (ltb 1 i) refl
+later-head : (ed : Edition) (t : Table) (i : ℕ) (head : Bytes) → lawfulHead ed t i head ≡ true → (if ltb 1 i then passes (headerCheck ed t head) else true) ≡ true
+later-head ed t i head e = go (ltb 1 i) refl
   where
-    go : (q : Bool) → ltb 1 i ≡ q → (if q then passes (headerCheck Dino21 t head) else true) ≡ true
+    go : (q : Bool) → ltb 1 i ≡ q → (if q then passes (headerCheck ed t head) else true) ≡ true
     go true f = let h : 1 < i = ltb-true 1 i f in rw (ne-eqb i 1 (λ (z : i ≡ 1). omega arith)) at e
     go false f = refl
 
 -- what a lawful course shows, laid out in the room that there is
-record Going (t : Table) (n i : ℕ) (head rest : Bytes) : Type 0 where
+record Going (ed : Edition) (t : Table) (n i : ℕ) (head rest : Bytes) : Type 0 where
   some : leb 1 i ≡ true
   came : leb (i + length rest) (suc n) ≡ true
-  top : lawfulHead t i head ≡ true
+  top : lawfulHead ed t i head ≡ true
   fit : length rest ≤ 2049
   room : length head ≤ 2048
 
@@ -102,11 +102,11 @@ module _ (t : Table) (a n : ℕ) where
   unfolding lawfulRadio
   heard-of c e = and-three (leb a 65537) (leb n 65537) (lawfulCourse t n c) e
 
-  module _ (i : ℕ) (head rest : Bytes) where
-    going-of : (w : Bool) → (w && leb 1 i && leb (i + length rest) (suc n) && lawfulHead t i head && leb (length rest) 2049) ≡ true
-        → length (two 2048 2049 head rest) ≡ 4097 → Going t n i head rest
+  module _ (ed : Edition) (i : ℕ) (head rest : Bytes) where
+    going-of : (w : Bool) → (w && leb 1 i && leb (i + length rest) (suc n) && lawfulHead ed t i head && leb (length rest) 2049) ≡ true
+        → length (two 2048 2049 head rest) ≡ 4097 → Going ed t n i head rest
     going-of w e long =
-        let k = and-three (w && leb 1 i && leb (i + length rest) (suc n)) (lawfulHead t i head) (leb (length rest) 2049) e in
+        let k = and-three (w && leb 1 i && leb (i + length rest) (suc n)) (lawfulHead ed t i head) (leb (length rest) 2049) e in
         let j = and-three w (leb 1 i) (leb (i + length rest) (suc n)) (k .0) in
         record { some = j .1; came = j .2; top = k .1; fit = leb-true (length rest) 2049 (k .2); room = head-within 2048 2049 head rest long }
 
@@ -118,38 +118,44 @@ numbers-laid (hears t a n (stopped p)) e l =
     stopped-keeps t a n (laidFault (refused p)) (h .2) (λ z. let y : _≡_ {A = ℕ} 1 0 = z in omega arith) (h .0) (h .1)
 numbers-laid (hears t a n (going b i head rest)) e l =
     let h = heard-of t a n (going b i head rest) e in
-    let g : Going t n i head rest = going-of t a n i head rest (lawfulBook b) (h .2) l in
+    let g : Going (b .edition) t n i head rest = going-of t a n (b .edition) i head rest (lawfulBook b) (h .2) l in
     going-keeps t a n i (length head) (length rest) (h .0) (h .1)
-    (rw (g .some, g .came, le-leb (length rest) 2049 (g .fit), le-leb (length head) 2048 (g .room), first-head t i head (g .top)))
+    (rw (g .some, g .came, le-leb (length rest) 2049 (g .fit), le-leb (length head) 2048 (g .room), first-head (b .edition) t i head (g .top)))
 numbers-laid (over r) e l = between-keeps 5 r (omega arith) e
 
 -- two lines laid out
-lines-laid-as : (ns : List ℕ) (head rest : Bytes) → headLength ns ≡ length head → restLength ns ≡ length rest → length head ≤ 2048 → length rest ≤ 2049
-    → headerKeeps ns (two 2048 2049 head rest) ≡ true → linesKeep ns (two 2048 2049 head rest) ≡ true
+lines-laid-as : (ed : Edition) (ns : List ℕ) (head rest : Bytes) → headLength ns ≡ length head → restLength ns ≡ length rest → length head ≤ 2048 → length rest ≤ 2049
+    → headerKeeps ed ns (two 2048 2049 head rest) ≡ true → linesKeep ed ns (two 2048 2049 head rest) ≡ true
 unfolding linesKeep
-lines-laid-as ns head rest e f h k g =
-    and-both (zeros (stretch (headLength ns) 2048 (two 2048 2049 head rest)) && zeros (stretch (2048 + restLength ns) 4097 (two 2048 2049 head rest))) (headerKeeps ns (two 2048 2049 head rest))
+lines-laid-as ed ns head rest e f h k g =
+    and-both (zeros (stretch (headLength ns) 2048 (two 2048 2049 head rest)) && zeros (stretch (2048 + restLength ns) 4097 (two 2048 2049 head rest))) (headerKeeps ed ns (two 2048 2049 head rest))
     (and-both (zeros (stretch (headLength ns) 2048 (two 2048 2049 head rest))) (zeros (stretch (2048 + restLength ns) 4097 (two 2048 2049 head rest)))
     (ap (λ (m : ℕ). zeros (stretch m 2048 (two 2048 2049 head rest))) e ∙ head-zeros 2048 2049 head rest h)
     (ap (λ (m : ℕ). zeros (stretch (2048 + m) 4097 (two 2048 2049 head rest))) f ∙ rest-zeros 2048 2049 head rest h k))
     g
 
-lines-none : (i : ℕ) (r : Result) → linesKeep (i ∷ replicate 5 0 ++ laidFault r) (two 2048 2049 [] []) ≡ true
-lines-none i r = lines-laid-as (i ∷ replicate 5 0 ++ laidFault r) [] [] refl refl (omega arith) (omega arith) refl
+lines-none : (ed : Edition) (i : ℕ) (r : Result) → linesKeep ed (i ∷ replicate 5 0 ++ laidFault r) (two 2048 2049 [] []) ≡ true
+lines-none ed i r = lines-laid-as ed (i ∷ replicate 5 0 ++ laidFault r) [] [] refl refl (omega arith) (omega arith) refl
 
 table-back : (t : Table) → tableAt ((6 + partOf t) - 6) ≡ t
 table-back t = let e : (6 + partOf t) - 6 ≡ partOf t = omega arith in ap tableAt e ∙ in-order t
 
-lines-laid : (k : Radio) → lawfulRadio k ≡ true → length (laidLines k) ≡ 4097 → linesKeep (laidNumbers k) (laidLines k) ≡ true
-lines-laid (awaits t r) e l = lines-none (partOf t) r
-lines-laid (hears t a n (stopped p)) e l = lines-laid-as (laidNumbers (hears t a n (stopped p))) [] [] refl refl (omega arith) (omega arith) refl
-lines-laid (hears t a n (going b i head rest)) e l =
+-- a book that is left is of an edition
+abbrev Of : Edition → Result → Type 0
+Of ed (refused p) = Unit {0}
+Of ed (leaves b) = b .edition ≡ ed
+
+lines-laid : (ed : Edition) (k : Radio) → lawfulRadio k ≡ true → length (laidLines k) ≡ 4097 → Of ed (standing k) → linesKeep ed (laidNumbers k) (laidLines k) ≡ true
+lines-laid ed (awaits t r) e l o = lines-none ed (partOf t) r
+lines-laid ed (hears t a n (stopped p)) e l o = lines-laid-as ed (laidNumbers (hears t a n (stopped p))) [] [] refl refl (omega arith) (omega arith) refl
+lines-laid ed (hears t a n (going b i head rest)) e l o =
     let h = heard-of t a n (going b i head rest) e in
-    let g : Going t n i head rest = going-of t a n i head rest (lawfulBook b) (h .2) l in
-    lines-laid-as (laidNumbers (hears t a n (going b i head rest))) head rest refl refl (g .room) (g .fit)
-    (ap (λ (s : Bytes). if ltb 1 i then passes (headerCheck Dino21 (tableAt ((6 + partOf t) - 6)) s) else true) (head-back 2048 2049 head rest (g .room))
-    ∙ ap (λ (u : Table). if ltb 1 i then passes (headerCheck Dino21 u head) else true) (table-back t) ∙ later-head t i head (g .top))
-lines-laid (over r) e l = lines-none 5 r
+    let g : Going (b .edition) t n i head rest = going-of t a n (b .edition) i head rest (lawfulBook b) (h .2) l in
+    lines-laid-as ed (laidNumbers (hears t a n (going b i head rest))) head rest refl refl (g .room) (g .fit)
+    (ap (λ (s : Bytes). if ltb 1 i then passes (headerCheck ed (tableAt ((6 + partOf t) - 6)) s) else true) (head-back 2048 2049 head rest (g .room))
+    ∙ ap (λ (u : Table). if ltb 1 i then passes (headerCheck ed u head) else true) (table-back t)
+    ∙ later-head ed t i head (subst (λ (x : Edition). lawfulHead x t i head ≡ true) o (g .top)))
+lines-laid ed (over r) e l o = lines-none ed 5 r
 
 -- what is found again -----------------------------------------------------------------------------------------------------------
 
@@ -186,6 +192,16 @@ module _ (s : Slices) where
       go false true = refl
       go false false = course-in
 
+  abbrev ed : Edition
+  ed = bookOf (s .book) .edition
+
+  of-in : Of ed (standing (radioIn s))
+  of-in = subst (Of ed) (sym standing-in) (go (eqb (fault ns) 0))
+    where
+      go : (q : Bool) → Of ed (if q then leaves (bookOf (s .book)) else refused (faultIn s))
+      go true = refl
+      go false = tt
+
   -- the book's test, with the fault's
   abbrev faultLawful : Bool
   faultLawful = if eqb (fault ns) 0 then true else lawfulFault (faultIn s)
@@ -204,7 +220,7 @@ unfolding lawfulRadio
 standing-lawful (awaits t r) e = e
 standing-lawful (hears t a n (stopped p)) e = heard-of t a n (stopped p) e .2
 standing-lawful (hears t a n (going b i head rest)) e =
-    let k = and-three (lawfulBook b && leb 1 i && leb (i + length rest) (suc n)) (lawfulHead t i head) (leb (length rest) 2049) (and-right (leb a 65537 && leb n 65537) (lawfulCourse t n (going b i head rest)) e) in
+    let k = and-three (lawfulBook b && leb 1 i && leb (i + length rest) (suc n)) (lawfulHead (b .edition) t i head) (leb (length rest) 2049) (and-right (leb a 65537 && leb n 65537) (lawfulCourse t n (going b i head rest)) e) in
     and-three (lawfulBook b) (leb 1 i) (leb (i + length rest) (suc n)) (k .0) .0
 standing-lawful (over r) e = e
 
@@ -221,7 +237,7 @@ fitting s e =
 
 -- the tests together
 abbrev pub tested : Slices → Bool
-tested s = numbersKeep (s .numbers) && linesKeep (s .numbers) (s .lines) && bookKeeps (s .numbers) (s .book)
+tested s = numbersKeep (s .numbers) && linesKeep (bookOf (s .book) .edition) (s .numbers) (s .lines) && bookKeeps (s .numbers) (s .book)
 
 rule-passes : (s : Slices) → keepsRadio s ≡ true → tested s ≡ true
 unfolding keepsRadio laidOut
@@ -233,10 +249,10 @@ rule-passes s e =
     let n : s .numbers ≡ laidNumbers k = same-true (s .numbers) (laidNumbers k) (v .1) in
     let l : s .lines ≡ laidLines k = same-true (s .lines) (laidLines k) (v .2) in
     let m : length (laidLines k) ≡ 4097 = ap length (sym l) ∙ f .lines in
-    and-both (numbersKeep (s .numbers) && linesKeep (s .numbers) (s .lines)) (bookKeeps (s .numbers) (s .book))
-    (and-both (numbersKeep (s .numbers)) (linesKeep (s .numbers) (s .lines))
+    and-both (numbersKeep (s .numbers) && linesKeep (bookOf (s .book) .edition) (s .numbers) (s .lines)) (bookKeeps (s .numbers) (s .book))
+    (and-both (numbersKeep (s .numbers)) (linesKeep (bookOf (s .book) .edition) (s .numbers) (s .lines))
     (ap numbersKeep n ∙ numbers-laid k (u .1) m)
-    (ap (λ (x : List ℕ). linesKeep x (s .lines)) n ∙ ap (linesKeep (laidNumbers k)) l ∙ lines-laid k (u .1) m))
+    (ap (λ (x : List ℕ). linesKeep (ed s) x (s .lines)) n ∙ ap (linesKeep (ed s) (laidNumbers k)) l ∙ lines-laid (ed s) k (u .1) m (of-in s)))
     (and-right (faultLawful s) (bookKeeps (s .numbers) (s .book))
     (book-result s (f .book) ∙ and-both (lawfulResult (resultIn s)) (sameRows (s .book) (laidBook (resultIn s)))
     (ap lawfulResult (sym (standing-in s)) ∙ standing-lawful k (u .1))
@@ -298,7 +314,7 @@ module _ (s : Slices) (fit : fits s ≡ true) (nums : numbersKeep (s .numbers) �
       (and-both (sameRows (s .book) (laidBook (standing k)) && same (s .numbers) (laidNumbers k)) (same (s .lines) (laidLines k))
       (and-both (sameRows (s .book) (laidBook (standing k))) (same (s .numbers) (laidNumbers k)) b c) d))
 
-  module _ (lins : linesKeep (s .numbers) (s .lines) ≡ true) where
+  module _ (lins : linesKeep (bookOf (s .book) .edition) (s .numbers) (s .lines) ≡ true) where
     abbrev ms : List ℕ
     ms = s .numbers
 
@@ -314,9 +330,9 @@ module _ (s : Slices) (fit : fits s ≡ true) (nums : numbersKeep (s .numbers) �
     faults : drop 6 ms ≡ laidFault (resultIn s)
     faults = fault-back (s .book) (s .lines) ms (sizes .numbers) (shown .faults)
 
-    lines-tested : (zeros (stretch (headLength ms) 2048 (s .lines)) ≡ true) × (zeros (stretch (2048 + restLength ms) 4097 (s .lines)) ≡ true) × (headerKeeps ms (s .lines) ≡ true)
+    lines-tested : (zeros (stretch (headLength ms) 2048 (s .lines)) ≡ true) × (zeros (stretch (2048 + restLength ms) 4097 (s .lines)) ≡ true) × (headerKeeps (bookOf (s .book) .edition) ms (s .lines) ≡ true)
     unfolding linesKeep
-    lines-tested = and-three (zeros (stretch (headLength ms) 2048 (s .lines))) (zeros (stretch (2048 + restLength ms) 4097 (s .lines))) (headerKeeps ms (s .lines)) lins
+    lines-tested = and-three (zeros (stretch (headLength ms) 2048 (s .lines))) (zeros (stretch (2048 + restLength ms) 4097 (s .lines))) (headerKeeps (bookOf (s .book) .edition) ms (s .lines)) lins
 
     lines-back : s .lines ≡ two 2048 2049 (take (headLength ms) (s .lines)) (take (restLength ms) (drop 2048 (s .lines)))
     lines-back = two-lines 2048 2049 (headLength ms) (restLength ms) (s .lines) (sizes .lines) (room .head) (room .rest) (lines-tested .0) (lines-tested .1)
@@ -394,7 +410,7 @@ module _ (s : Slices) (fit : fits s ≡ true) (nums : numbersKeep (s .numbers) �
           three : (xs : List ℕ) → length xs ≡ 11 → stretch 3 6 xs ≡ line xs ∷ headLength xs ∷ restLength xs ∷ []
           three xs e = of-eleven (λ ys. stretch 3 6 ys ≡ line ys ∷ headLength ys ∷ restLength ys ∷ []) (λ n0 n1 n2 n3 n4 n5 n6 n7 n8 n9 n10. refl) xs e
 
-          lawful-head : (q : Bool) → eqb (line ms) 1 ≡ q → numbers.Course ms → lawfulHead t (line ms) (take (headLength ms) (s .lines)) ≡ true
+          lawful-head : (q : Bool) → eqb (line ms) 1 ≡ q → numbers.Course ms → lawfulHead (bookOf (s .book) .edition) t (line ms) (take (headLength ms) (s .lines)) ≡ true
           lawful-head true e v =
               let w : eqb (headLength ms) 0 ≡ true = rw e at (v .first) in
               let z : headLength ms ≡ 0 = eqb-true (headLength ms) 0 w in
@@ -406,10 +422,10 @@ module _ (s : Slices) (fit : fits s ≡ true) (nums : numbersKeep (s .numbers) �
 
 tests-keep : (s : Slices) → fits s ≡ true → tested s ≡ true → keepsRadio s ≡ true
 tests-keep s fit e =
-    let k = and-three (numbersKeep (s .numbers)) (linesKeep (s .numbers) (s .lines)) (bookKeeps (s .numbers) (s .book)) e in
+    let k = and-three (numbersKeep (s .numbers)) (linesKeep (bookOf (s .book) .edition) (s .numbers) (s .lines)) (bookKeeps (s .numbers) (s .book)) e in
     go (k .0) (k .1) (k .2) (ltb (turn (s .numbers)) 5) refl (ltb (turn (s .numbers)) 6) refl (eqb (fault (s .numbers)) 0) refl
   where
-    go : numbersKeep (s .numbers) ≡ true → linesKeep (s .numbers) (s .lines) ≡ true → bookKeeps (s .numbers) (s .book) ≡ true
+    go : numbersKeep (s .numbers) ≡ true → linesKeep (bookOf (s .book) .edition) (s .numbers) (s .lines) ≡ true → bookKeeps (s .numbers) (s .book) ≡ true
         → (p : Bool) → ltb (turn (s .numbers)) 5 ≡ p → (q : Bool) → ltb (turn (s .numbers)) 6 ≡ q → (r : Bool) → eqb (fault (s .numbers)) 0 ≡ r → keepsRadio s ≡ true
     go n l b true p q o r m = let h : turn (s .numbers) < 5 = ltb-true (turn (s .numbers)) 5 p in awaits-keeps s fit n b l (omega arith) h
     go n l b false p true o r m =
@@ -425,31 +441,31 @@ rule-tested s fit = both-ways (keepsRadio s) (tested s) (rule-passes s) (tests-k
 
 -- as the code tests it --------------------------------------------------------------------------------------------------------------
 
-module _ (k : List ℕ) (l : Bytes) where
-  pub header-none : line k ≤ 1 → headerKeeps k l ≡ true
+module _ (ed : Edition) (k : List ℕ) (l : Bytes) where
+  pub header-none : line k ≤ 1 → headerKeeps ed k l ≡ true
   header-none h = rw (le-ltb 1 (line k) h)
 
-  pub header-some : 1 < line k → (t : Table) → t ≡ tableAt (turn k - 6) → (g : Heading) → g ≡ heading Dino21 t (stretch 0 (headLength k) l) → headerKeeps k l ≡ passes (g .check)
+  pub header-some : 1 < line k → (t : Table) → t ≡ tableAt (turn k - 6) → (g : Heading) → g ≡ heading ed t (stretch 0 (headLength k) l) → headerKeeps ed k l ≡ passes (g .check)
   header-some h t e g f =
       let z : headLength k - 0 ≡ headLength k = omega arith in
-      let c : g .check ≡ headerCheck Dino21 t (take (headLength k) l) =
-      ap (λ (x : Heading). x .check) (f ∙ ap (λ (n : ℕ). heading Dino21 t (take n l)) z) ∙ told (headerCheck Dino21 t (take (headLength k) l)) (header Dino21 t (cellsOf (cut (take (headLength k) l)))) in
-      rw (lt-ltb 1 (line k) h) (ap (λ (u : Table). passes (headerCheck Dino21 u (take (headLength k) l))) (sym e) ∙ ap passes (sym c))
+      let c : g .check ≡ headerCheck ed t (take (headLength k) l) =
+      ap (λ (x : Heading). x .check) (f ∙ ap (λ (n : ℕ). heading ed t (take n l)) z) ∙ told (headerCheck ed t (take (headLength k) l)) (header ed t (cellsOf (cut ed (take (headLength k) l)))) in
+      rw (lt-ltb 1 (line k) h) (ap (λ (u : Table). passes (headerCheck ed u (take (headLength k) l))) (sym e) ∙ ap passes (sym c))
     where
       told : (x : Check) (y : Header) → headed x y .check ≡ x
       told Passes y = refl
       told (Fails m j) y = refl
 
-  pub lines-head : zeros (stretch (headLength k) 2048 l) ≡ false → linesKeep k l ≡ false
+  pub lines-head : zeros (stretch (headLength k) 2048 l) ≡ false → linesKeep ed k l ≡ false
   unfolding linesKeep
   lines-head e = rw e
 
   module _ (e : zeros (stretch (headLength k) 2048 l) ≡ true) where
-    pub lines-rest : zeros (stretch (2048 + restLength k) 4097 l) ≡ false → linesKeep k l ≡ false
+    pub lines-rest : zeros (stretch (2048 + restLength k) 4097 l) ≡ false → linesKeep ed k l ≡ false
     unfolding linesKeep
     lines-rest f = rw (e, f)
 
-    pub lines-header : zeros (stretch (2048 + restLength k) 4097 l) ≡ true → linesKeep k l ≡ headerKeeps k l
+    pub lines-header : zeros (stretch (2048 + restLength k) 4097 l) ≡ true → linesKeep ed k l ≡ headerKeeps ed k l
     unfolding linesKeep
     lines-header f = rw (e, f)
 
@@ -489,8 +505,8 @@ module _ (b : List Row) (k : List ℕ) (l : Bytes) where
     pub by-numbers : numbersKeep k ≡ false → keepsRadio (slices b k l) ≡ false
     by-numbers e = rule-tested (slices b k l) fit ∙ rw e
 
-    pub by-lines : numbersKeep k ≡ true → linesKeep k l ≡ false → keepsRadio (slices b k l) ≡ false
+    pub by-lines : numbersKeep k ≡ true → linesKeep (bookOf b .edition) k l ≡ false → keepsRadio (slices b k l) ≡ false
     by-lines e f = rule-tested (slices b k l) fit ∙ rw (e, f)
 
-    pub by-book : numbersKeep k ≡ true → linesKeep k l ≡ true → keepsRadio (slices b k l) ≡ bookKeeps k b
+    pub by-book : numbersKeep k ≡ true → linesKeep (bookOf b .edition) k l ≡ true → keepsRadio (slices b k l) ≡ bookKeeps k b
     by-book e f = rule-tested (slices b k l) fit ∙ rw (e, f)

@@ -8,6 +8,7 @@ use lib.ListN.{length, getD, take, drop, replicate}
 use Rattle.words.specs.Words.{Bytes, Row, if_then_else_, same}
 use Rattle.refusals.specs.Verdicts.{passes, place}
 use Rattle.refusals.specs.declared.Place.{Place}
+use Rattle.editions.specs.declared.Edition.{Edition}
 use Rattle.lines.specs.Lines.{mostLine}
 use Rattle.rows.specs.Room.{sameRows}
 use Rattle.book.specs.Book.{empty}
@@ -17,7 +18,6 @@ use Rattle.header.specs.Header.{headerCheck}
 use Rattle.radio.specs.Radio.{mostCounted, keptLine}
 use Rattle.radio.specs.Rule.{lawfulFault}
 use Rattle.radio.specs.Room.{radioNumbers, radioBytes, tableAt}
-use Rattle.tables.specs.declared.Edition.the-variants.{Dino21}
 
 -- from place a to before place e
 abbrev pub stretch : ℕ → ℕ → List ℕ → List ℕ
@@ -80,13 +80,13 @@ numbersKeep ns = leb (turn ns) 10 && faultKeeps ns && (if ltb (turn ns) 6 then z
 
 -- the lines ---------------------------------------------------------------------------------------------------------------------
 
--- there is a header line where the unfinished line is not the first
-abbrev pub headerKeeps : List ℕ → Bytes → Bool
-headerKeeps ns l = if ltb 1 (line ns) then passes (headerCheck Dino21 (tableAt (turn ns - 6)) (take (headLength ns) l)) else true
+-- there is a header line where the unfinished line is not the first, by the edition of the book that is lent
+abbrev pub headerKeeps : Edition → List ℕ → Bytes → Bool
+headerKeeps e ns l = if ltb 1 (line ns) then passes (headerCheck e (tableAt (turn ns - 6)) (take (headLength ns) l)) else true
 
 -- zeros behind each line, and the header line
-unfoldable pub linesKeep : List ℕ → Bytes → Bool
-linesKeep ns l = zeros (stretch (headLength ns) mostLine l) && zeros (stretch (mostLine + restLength ns) radioBytes l) && headerKeeps ns l
+unfoldable pub linesKeep : Edition → List ℕ → Bytes → Bool
+linesKeep e ns l = zeros (stretch (headLength ns) mostLine l) && zeros (stretch (mostLine + restLength ns) radioBytes l) && headerKeeps e ns l
 
 -- the book ----------------------------------------------------------------------------------------------------------------------
 

@@ -15,11 +15,11 @@ ghost use Rattle.radio.specs.Rule.{lawfulFault};
 ghost use Rattle.radio.specs.Room.{radioNumbers, radioBytes, fits, keepsRadio};
 ghost use Rattle.radio_rule.specs.Lent.{slices};
 ghost use Rattle.radio_rule.specs.Testing.{zeros, faultPlace, faultKeeps, come, courseKeeps, heardKeeps, numbersKeep, headerKeeps, linesKeep, bookKeeps};
+use editions::Edition;
 use refusals::Check;
 use refusals::Place;
 use rows::Row;
 use tables::BOOK_ROWS;
-use tables::Edition;
 use tables::Named;
 use tables::Table;
 
@@ -152,7 +152,7 @@ fn names_table(number: u64) -> bool
     }
 }
 
-// Whether the fault is one of a table that is read: a call's own 15 and 16 are none.
+// Whether the fault is one of a table that is read: a call's own 15, 16 and 22 are none.
 fn lawful_fault(kept: &[u64]) -> bool
     requires { ⌜ length (now kept) ≡ radioNumbers ⌝ }
     ensures { λ r. ⌜ r ≡ lawfulFault (faultPlace (now (kept .entry))) ⌝ }
@@ -238,21 +238,16 @@ fn numbers_keep(kept: &[u64]) -> bool
 }
 
 // The header line, where there is one: it has passed its checks.
-fn header_keeps(kept: &[u64], lines: &[u8]) -> bool
+fn header_keeps(edition: Edition, kept: &[u64], lines: &[u8]) -> bool
     requires { ⌜ (length (now kept) ≡ radioNumbers) × (length (now lines) ≡ radioBytes) × (numbersKeep (now kept) ≡ true) ⌝ }
-    ensures { λ r. ⌜ r ≡ headerKeeps (now (kept .entry)) (now (lines .entry)) ⌝ }
+    ensures { λ r. ⌜ r ≡ headerKeeps edition (now (kept .entry)) (now (lines .entry)) ⌝ }
 {
     if kept[LINE] <= 1 {
         return true;
     }
     let t = Table::in_order((kept[TURN] - HEARD) as usize);
-    let columns = t.column_rules(Edition::Dino21);
-    let heading = header::read_header(
-        &lines[0..kept[HEAD_LENGTH] as usize],
-        Edition::Dino21,
-        t,
-        &columns,
-    );
+    let columns = t.column_rules(edition);
+    let heading = header::read_header(&lines[0..kept[HEAD_LENGTH] as usize], edition, t, &columns);
     let check = heading.check;
     match check {
         Check::Passes => true,
@@ -263,9 +258,9 @@ fn header_keeps(kept: &[u64], lines: &[u8]) -> bool
     }
 }
 
-fn lines_keep(kept: &[u64], lines: &[u8]) -> bool
+fn lines_keep(edition: Edition, kept: &[u64], lines: &[u8]) -> bool
     requires { ⌜ (length (now kept) ≡ radioNumbers) × (length (now lines) ≡ radioBytes) × (numbersKeep (now kept) ≡ true) ⌝ }
-    ensures { λ r. ⌜ r ≡ linesKeep (now (kept .entry)) (now (lines .entry)) ⌝ }
+    ensures { λ r. ⌜ r ≡ linesKeep edition (now (kept .entry)) (now (lines .entry)) ⌝ }
 {
     let head = kept[HEAD_LENGTH] as usize;
     let rest = kept[REST_LENGTH] as usize;
@@ -275,7 +270,7 @@ fn lines_keep(kept: &[u64], lines: &[u8]) -> bool
     if !zero_bytes(&lines[HEAD + rest..LINES]) {
         return false;
     }
-    header_keeps(kept, lines)
+    header_keeps(edition, kept, lines)
 }
 
 fn book_keeps(kept: &[u64], book: &[Row]) -> bool
@@ -311,7 +306,8 @@ pub fn keeps_radio(book: &[Row], kept: &[u64], lines: &[u8]) -> bool
     if !numbers_keep(kept) {
         return false;
     }
-    if !lines_keep(kept, lines) {
+    let edition = book::edition_of(book);
+    if !lines_keep(edition, kept, lines) {
         return false;
     }
     book_keeps(kept, book)

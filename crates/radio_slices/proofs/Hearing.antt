@@ -9,7 +9,6 @@ use lib.Seq.{length-take-le}
 use borrow.Author.Tests.{eq-eqb, ne-eqb, eqb-true}
 use Rattle.words.specs.Words.{Bytes, Row}
 use Rattle.lines.specs.Lines.{mostLine}
-use Rattle.tables.specs.declared.Edition.the-variants.{Dino21}
 use Rattle.tables.specs.declared.Table.the-variants.{StopPoint}
 use Rattle.book.specs.Room.{bookOf}
 use Rattle.rules.proofs.Referring.{passed}
@@ -51,9 +50,9 @@ module _ (b : List Row) (k : List ℕ) (l : Bytes) (h : Hears b k l) where
     book-keeps : keepsRule b ≡ true
     book-keeps =
         sym (book-lawful k b e)
-        ∙ and-three (numbersKeep k) (linesKeep k l) (bookKeeps k b) (sym (rule-tested (slices b k l) (fit b k l (h .keeps))) ∙ h .keeps) .2
+        ∙ and-three (numbersKeep k) (linesKeep (bookOf b .edition) k l) (bookKeeps k b) (sym (rule-tested (slices b k l) (fit b k l (h .keeps))) ∙ h .keeps) .2
 
-    head-lawful : lawfulHead (tableOf k) (lineOf k) (take (headOf k) l) ≡ true
+    head-lawful : lawfulHead (bookOf b .edition) (tableOf k) (lineOf k) (take (headOf k) l) ≡ true
     head-lawful =
         let c : lawfulCourse (tableOf k) (comeOf k) (hearing.kept (taken k) b l) ≡ true =
         ap (lawfulCourse (tableOf k) (comeOf k)) (sym course-going) ∙ heard-keeps (slices b k l) (h .keeps) (h .heard) .course in
@@ -69,7 +68,7 @@ module _ (b : List Row) (k : List ℕ) (l : Bytes) (h : Hears b k l) where
           rests = lengths .rest;
           begun = lengths .some;
           first = λ f. eqb-true (headOf k) 0 (rw (eq-eqb (lineOf k) 1 f) at (lengths .first));
-          headed = λ n. passed (headerCheck Dino21 (tableOf k) (take (headOf k) l)) (rw (ne-eqb (lineOf k) 1 n) at head-lawful);
+          headed = λ n. passed (headerCheck (bookOf b .edition) (tableOf k) (take (headOf k) l)) (rw (ne-eqb (lineOf k) 1 n) at head-lawful);
         }
 
     pub rest-long : length (take (restOf k) (drop mostLine l)) ≡ restOf k

@@ -6,6 +6,7 @@ use Prim.Native.Nat.{ℕ, _≤_}
 use lib.ListN.{length}
 use Rattle.words.specs.Words.{Bytes, Row}
 use Rattle.tables.specs.Parts.{bookRows}
+use Rattle.book.specs.Room.{bookOf}
 use Rattle.radio.specs.Room.{fits, keepsRadio, radioNumbers, radioBytes, flagOf}
 use Rattle.radio.proofs.Laying.{handed}
 use Rattle.radio_rule.specs.Lent.{slices}
@@ -28,7 +29,7 @@ module _ (b : List Row) (k : List ℕ) (l : Bytes) (keeps : keepsRadio (slices b
   lines-long = lines-fit b k l fit
 
   pub numbers-kept : Numbers k
-  numbers-kept = numbers k (and-three (numbersKeep k) (linesKeep k l) (bookKeeps k b) (sym (rule-tested (slices b k l) fit) ∙ keeps) .0)
+  numbers-kept = numbers k (and-three (numbersKeep k) (linesKeep (bookOf b .edition) k l) (bookKeeps k b) (sym (rule-tested (slices b k l) fit) ∙ keeps) .0)
 
   -- whether there is a fault is 0 or 1
   pub fault-flag : flagOf k ≤ 1

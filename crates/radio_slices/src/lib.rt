@@ -12,6 +12,7 @@ ghost use Rattle.radio_rule.specs.Lent.{slices};
 ghost use Rattle.radio_slices.specs.Numbers.{emptySlices, stoppedSlices, numbersAnnounced};
 ghost use Rattle.radio_slices.specs.Hearing.{tableOf, taken};
 ghost use Rattle.radio_slices.specs.Settling.{Settling};
+use editions::Edition;
 use radio_lines::Heard;
 use radio_rule::FAULT;
 use radio_rule::FAULT_COLUMN;
@@ -63,17 +64,23 @@ pub fn counted(come: u64, more: u64) -> u64
     come + more
 }
 
-// No row, no line, and these numbers.
-pub fn empty(numbers: &[u64], book: &mut [Row], kept: &mut [u64], lines: &mut [u8])
+// The empty book of an edition, no line, and these numbers.
+pub fn empty(
+    edition: Edition,
+    numbers: &[u64],
+    book: &mut [Row],
+    kept: &mut [u64],
+    lines: &mut [u8],
+)
     requires { ⌜ (length (now numbers) ≡ radioNumbers) × (length (now book) ≡ bookRows) × (length (now kept) ≡ radioNumbers) × (length (now lines) ≡ radioBytes) ⌝ }
-    ensures { λ _. ⌜ slices (now (book .exit)) (now (kept .exit)) (now (lines .exit)) ≡ emptySlices (now (numbers .entry)) ⌝ }
+    ensures { λ _. ⌜ slices (now (book .exit)) (now (kept .exit)) (now (lines .exit)) ≡ emptySlices edition (now (numbers .entry)) ⌝ }
 {
-    book::clear(book);
+    book::begin(book, edition);
     copy_numbers(numbers, kept);
     clear_bytes(lines);
 }
 
-// A fault: "A refused reading leaves an empty book", and nothing else is kept but the fault and the counts.
+// A fault: "A refused reading leaves an empty book", of "2.1 after a refused reading", and nothing else is kept but the fault and the counts.
 pub fn stop(
     turn: u64,
     announced: u64,
@@ -99,7 +106,7 @@ pub fn stop(
         p.line,
         p.column,
     ];
-    empty(&numbers, book, kept, lines);
+    empty(Edition::Dino21, &numbers, book, kept, lines);
 }
 
 // A table begins: its first line, unless there is a fault.

@@ -8,7 +8,7 @@ use Rattle.refusals.specs.declared.Verdict.{Verdict}
 use Rattle.refusals.specs.declared.Verdict.the-variants.{Accepted, Refused}
 use Rattle.refusals.specs.declared.Place.{Place}
 use Rattle.refusals.specs.declared.Cell.{Cell}
-use Rattle.refusals.specs.declared.Cell.the-variants.{Number, Text, Empty}
+use Rattle.refusals.specs.declared.Cell.the-variants.{Number, Text, Empty, Equip21, Flags23}
 
 -- "Numbers of refusal": the number and the column of each. What is given is the column, or the cell "counted from 1"; a line and a
 -- table are put on below.
@@ -96,6 +96,10 @@ cellTooLong column = Fails 20 column
 abbrev pub outOfRange : ℕ → Check
 outOfRange column = Fails 21 column
 
+-- "an unknown edition is 22"
+abbrev pub unknownEdition : Check
+unknownEdition = Fails 22 0
+
 -- the order of checks -------------------------------------------------------------------------------------------------------
 
 infixr 20 _⊳_
@@ -138,7 +142,7 @@ inText table c = placed table 0 c
 abbrev pub inHeader : ℕ → Check → Verdict
 inHeader table c = placed table 1 c
 
--- 14, 15, 16: "0, 0", and the table number is 0 too
+-- 14, 15, 16, 22: "0, 0", and the table number is 0 too
 abbrev pub nowhere : Check → Verdict
 nowhere c = placed 0 0 c
 
@@ -150,8 +154,11 @@ paper Accepted = 0 ∷ 0 ∷ 0 ∷ 0 ∷ []
 paper (Refused p) = p .number ∷ p .table ∷ p .line ∷ p .column ∷ []
 
 -- the answer for a cell is 1 and a number, or 2 and a stretch of text by its start and length, or nothing: "every answer but a text hands
--- back an empty stretch"
+-- back an empty stretch". "A 2 there means a ramp, in 2.1 lift or ramp; the cell answer must name which": the access equipment of a vehicle
+-- type is 3 and its number by 2.1, 4 and its flags by 2.3
 abbrev pub values : Cell → List ℕ
 values (Number n) = 1 ∷ n ∷ 0 ∷ 0 ∷ []
 values (Text start len) = 2 ∷ 0 ∷ start ∷ len ∷ []
 values Empty = 0 ∷ 0 ∷ 0 ∷ 0 ∷ []
+values (Equip21 n) = 3 ∷ n ∷ 0 ∷ 0 ∷ []
+values (Flags23 n) = 4 ∷ n ∷ 0 ∷ 0 ∷ []

@@ -1,6 +1,6 @@
 // What is answered: a verdict with its place, and what a cell holds.
 ghost use mathlib.Core.Path.{_≡_};
-ghost use Rattle.refusals.specs.Verdicts.{place, placed, _⊳_, textTooLong, columnMissing, columnTwice, tooManyCells, tooManyRows, quoteFault, cellCount, keyStands, noRow, endsEarly, unknownLine, noBlock, outputShort, notThere, badLoan, lineTooLong, lengthDiffers};
+ghost use Rattle.refusals.specs.Verdicts.{place, placed, _⊳_, textTooLong, columnMissing, columnTwice, tooManyCells, tooManyRows, quoteFault, cellCount, keyStands, noRow, endsEarly, unknownLine, noBlock, outputShort, notThere, badLoan, lineTooLong, lengthDiffers, unknownEdition};
 
 // Where something is refused: the number of refusal, the table, the line, and the column or the cell, each 0 where it is not named.
 pub struct Place {
@@ -21,11 +21,14 @@ pub enum Check {
     Fails { number: u64, column: u64 },
 }
 
-// The answer to a question for a cell: a number, a stretch of the text, or nothing.
+// The answer to a question for a cell: a number, a stretch of the text, or nothing. The access equipment of a vehicle type is a number that names
+// its edition, since a 2 there means a lift or ramp by 2.1 and a ramp by 2.3, where the number is a set of flags.
 pub enum Cell {
     Number(u64),
     Text { start: u64, len: u64 },
     Empty,
+    Equip21(u64),
+    Flags23(u64),
 }
 
 impl Place {
@@ -70,6 +73,8 @@ impl Place {
     pub const CELL_TOO_LONG: u64 = 20;
 
     pub const OUT_OF_RANGE: u64 = 21;
+
+    pub const UNKNOWN_EDITION: u64 = 22;
 
     // The tables' numbers; a slip has one in places only.
     pub const VEHICLE_TYPE: u64 = 1;
@@ -211,6 +216,12 @@ impl Check {
         ensures { λ r. ⌜ r ≡ lengthDiffers ⌝ }
     {
         Check::fails(Place::LENGTH_DIFFERS, 0)
+    }
+
+    pub fn unknown_edition() -> Check
+        ensures { λ r. ⌜ r ≡ unknownEdition ⌝ }
+    {
+        Check::fails(Place::UNKNOWN_EDITION, 0)
     }
 
     // The verdict of a check that was made on this line of this table.

@@ -16,15 +16,15 @@ use Rattle.refusals.specs.declared.Check.the-variants.{Passes, Fails}
 use Rattle.lines.specs.Lines.{longLine}
 use Rattle.cells.specs.Numbered.{cellNumbered, MarksOf}
 use Rattle.cells.specs.Cells.{content, cut, cellsOf}
-use Rattle.tables.specs.declared.Edition.{Edition}
+use Rattle.editions.specs.declared.Edition.{Edition}
 use Rattle.tables.specs.Columns.{Column, columnsOf, noColumn}
 use Rattle.tables.specs.declared.Table.{Table}
 use Rattle.tables.proofs.Figures.{columns-few}
 use Rattle.values.specs.Values.{cellCheck, badCell}
 use Rattle.values.specs.Judged.{breaks}
 use Rattle.values.proofs.Values.{check-kept}
-use Rattle.header.specs.Header.{Header, placeFrom, under, badCut, cutCheck, contentsFrom, contents}
-use Rattle.header.specs.Heading.{places, lineCheck, LineCut}
+use Rattle.header.specs.Header.{Header, placeFrom, under, badCut, lineCheck, cutCheck, contentsFrom, contents}
+use Rattle.header.specs.Heading.{places, LineCut}
 use Rattle.header.specs.declared.CutLine.{CutLine}
 use Rattle.header.proofs.Cutting.{check-order}
 use Rattle.header.proofs.Names.{place-at}
@@ -121,36 +121,36 @@ all-kept j (x ∷ xs) (s ∷ ss) e (suc k) lx ls =
 -- the checks of a line -------------------------------------------------------------------------------------------------------------
 
 -- 7 comes behind 17 and 6
-cut-behind : (h : Header) (line : Bytes) → cutCheck h line ≡ lineCheck line ⊳ cellCount when not (eqb (length (cellsOf (cut line))) (length h))
-cut-behind h line = sym (check-order (lineTooLong when longLine line) (badCut (cut line)) (cellCount when not (eqb (length (cellsOf (cut line))) (length h))))
+cut-behind : (ed : Edition) (h : Header) (line : Bytes) → cutCheck ed h line ≡ lineCheck ed line ⊳ cellCount when not (eqb (length (cellsOf (cut ed line))) (length h))
+cut-behind ed h line = sym (check-order (lineTooLong when longLine line) (badCut (cut ed line)) (cellCount when not (eqb (length (cellsOf (cut ed line))) (length h))))
 
 -- 17, 6 and 7 of a row under a header of so many cells
-module _ (line : Bytes) (count : ℕ) (bounds : List ℕ) (r : CutLine) (e : LineCut line bounds r) where
-  pub cut-refused : (n k : ℕ) → r .check ≡ Fails n k → CutOf line count bounds (Fails n k)
+module _ (ed : Edition) (line : Bytes) (count : ℕ) (bounds : List ℕ) (r : CutLine) (e : LineCut ed line bounds r) where
+  pub cut-refused : (n k : ℕ) → r .check ≡ Fails n k → CutOf ed line count bounds (Fails n k)
   cut-refused n k g =
-      let p : lineCheck line ≡ Fails n k = sym (e .is) ∙ g in
+      let p : lineCheck ed line ≡ Fails n k = sym (e .is) ∙ g in
       record {
-        is = λ h q. sym (cut-behind h line ∙ rw p);
+        is = λ h q. sym (cut-behind ed h line ∙ rw p);
         marks = λ q. let z : _≡_ {A = ℕ} 0 1 = cc in absurd (omega arith);
       }
 
   module _ (g : r .check ≡ Passes) where
-    counted : length (cellsOf (cut line)) ≡ r .cells
+    counted : length (cellsOf (cut ed line)) ≡ r .cells
     counted = e .counted g
 
-    clean : lineCheck line ≡ Passes
+    clean : lineCheck ed line ≡ Passes
     clean = sym (e .is) ∙ g
 
-    pub cut-count : (r .cells ≡ count → ⊥) → (c : Check) → c ≡ cellCount → CutOf line count bounds c
+    pub cut-count : (r .cells ≡ count → ⊥) → (c : Check) → c ≡ cellCount → CutOf ed line count bounds c
     cut-count d c f =
         record {
-          is = λ h k. f ∙ sym (cut-behind h line ∙ rw (clean, ne-eqb (length (cellsOf (cut line))) (length h) (λ q. d (sym counted ∙ q ∙ sym k))));
+          is = λ h k. f ∙ sym (cut-behind ed h line ∙ rw (clean, ne-eqb (length (cellsOf (cut ed line))) (length h) (λ q. d (sym counted ∙ q ∙ sym k))));
           marks = λ q. let z : _≡_ {A = ℕ} 0 1 = cc in absurd (omega arith);
         }
 
-    pub cut-cells : r .cells ≡ count → count < length bounds → CutOf line count bounds Passes
+    pub cut-cells : r .cells ≡ count → count < length bounds → CutOf ed line count bounds Passes
     cut-cells d l =
         record {
-          is = λ h k. sym (cut-behind h line ∙ rw (clean, eq-eqb (length (cellsOf (cut line))) (length h) (counted ∙ d ∙ k)));
-          marks = λ q. subst (MarksOf line bounds) d (e .marks g (rw d l));
+          is = λ h k. sym (cut-behind ed h line ∙ rw (clean, eq-eqb (length (cellsOf (cut ed line))) (length h) (counted ∙ d ∙ k)));
+          marks = λ q. subst (MarksOf ed line bounds) d (e .marks g (rw d l));
         }

@@ -17,7 +17,7 @@ use Rattle.cells.specs.Numbered.{cellNumbered}
 use Rattle.numbers.specs.Numbers.{value}
 use Rattle.rows.specs.Rows.{wide, column}
 use Rattle.rows.specs.Room.{zeros}
-use Rattle.tables.specs.declared.Edition.{Edition}
+use Rattle.editions.specs.declared.Edition.{Edition}
 use Rattle.tables.specs.declared.Table.{Table}
 use Rattle.tables.specs.Columns.{keptWidth, columnsOf, columnAt}
 use Rattle.tables.proofs.Figures.{kept-few, kept-columns, keys-some, keys-kept, version-low, kept-decimal, kept-required}
@@ -70,38 +70,38 @@ module _ (t : Table) (ss : List Bytes) (k : ℕ) (row : Row) (e : row ≡ rowOf 
 
 -- k columns are walked: none of them has a fault, and the row has their numbers
 pub record Columned (ed : Edition) (t : Table) (h : Header) (line : Bytes) (row : Row) (k : ℕ) : Type 0 where
-  pub filled : row ≡ rowOf t (take k (contents ed t h (cellsOf (cut line))))
-  pub ahead : cellsCheck ed t h line ≡ badCell (k + 1) (drop k (columnsOf ed t)) (drop k (contents ed t h (cellsOf (cut line))))
+  pub filled : row ≡ rowOf t (take k (contents ed t h (cellsOf (cut ed line))))
+  pub ahead : cellsCheck ed t h line ≡ badCell (k + 1) (drop k (columnsOf ed t)) (drop k (contents ed t h (cellsOf (cut ed line))))
 
 pub columned-none : (ed : Edition) (t : Table) (h : Header) (line : Bytes) → Columned ed t h line (replicate 11 0) 0
 columned-none ed t h line = record { filled = rw (take-nil {A = Bytes} (keptWidth t)); ahead = refl }
 
-module _ (ed : Edition) (t : Table) (h : Header) (line : Bytes) (row at : List ℕ) (k : ℕ) (w : Columned ed t h line row k) (e : at ≡ places h) (l : k < length (columnsOf ed t)) (cell : Bytes) (f : cell ≡ cellNumbered (getD at (k + 1) 0) (cellsOf (cut line))) (v : Value) (q : v ≡ valueOf (columnAt ed t k .rules) (content cell)) (check : Check) (d : check ≡ checkOf (k + 1) v) where
-  ours : content cell ≡ getD (contents ed t h (cellsOf (cut line))) k []
-  ours = content-found ed t h (cellsOf (cut line)) at k cell e l f
+module _ (ed : Edition) (t : Table) (h : Header) (line : Bytes) (row at : List ℕ) (k : ℕ) (w : Columned ed t h line row k) (e : at ≡ places h) (l : k < length (columnsOf ed t)) (cell : Bytes) (f : cell ≡ cellNumbered (getD at (k + 1) 0) (cellsOf (cut ed line))) (v : Value) (q : v ≡ valueOf (columnAt ed t k .rules) (content cell)) (check : Check) (d : check ≡ checkOf (k + 1) v) where
+  ours : content cell ≡ getD (contents ed t h (cellsOf (cut ed line))) k []
+  ours = content-found ed t h (cellsOf (cut ed line)) at k cell e l f
 
-  enough : k < length (contents ed t h (cellsOf (cut line)))
+  enough : k < length (contents ed t h (cellsOf (cut ed line)))
   enough = rw contents-length l
 
-  check-here : cellCheck (k + 1) (columnAt ed t k .rules) (getD (contents ed t h (cellsOf (cut line))) k []) ≡ check
+  check-here : cellCheck (k + 1) (columnAt ed t k .rules) (getD (contents ed t h (cellsOf (cut ed line))) k []) ≡ check
   check-here = sym (d ∙ rw (q, check-of-value (k + 1) (columnAt ed t k .rules) (content cell), ours))
 
   pub columned-fault : (n c : ℕ) → check ≡ Fails n c → cellsCheck ed t h line ≡ Fails n c
-  columned-fault n c p = w .ahead ∙ bad-here (columnsOf ed t) (contents ed t h (cellsOf (cut line))) k l enough n c (check-here ∙ p)
+  columned-fault n c p = w .ahead ∙ bad-here (columnsOf ed t) (contents ed t h (cellsOf (cut ed line))) k l enough n c (check-here ∙ p)
 
-  next-ahead : check ≡ Passes → cellsCheck ed t h line ≡ badCell (k + 1 + 1) (drop (k + 1) (columnsOf ed t)) (drop (k + 1) (contents ed t h (cellsOf (cut line))))
-  next-ahead p = w .ahead ∙ bad-next (columnsOf ed t) (contents ed t h (cellsOf (cut line))) k l enough (check-here ∙ p)
+  next-ahead : check ≡ Passes → cellsCheck ed t h line ≡ badCell (k + 1 + 1) (drop (k + 1) (columnsOf ed t)) (drop (k + 1) (contents ed t h (cellsOf (cut ed line))))
+  next-ahead p = w .ahead ∙ bad-next (columnsOf ed t) (contents ed t h (cellsOf (cut ed line))) k l enough (check-here ∙ p)
 
   -- a column that the book keeps
   pub columned-kept : check ≡ Passes → k < keptWidth t → (x : ℕ) → ((n : ℕ) → v ≡ Number n → x ≡ n) → Columned ed t h line (set row k x) (k + 1)
   columned-kept p m x some =
-      let b : breaks (columnAt ed t k .rules) (content cell) ≡ false = rw ours (check-kept (k + 1) (columnAt ed t k .rules) (getD (contents ed t h (cellsOf (cut line))) k []) (check-here ∙ p)) in
-      let n : x ≡ value (getD (contents ed t h (cellsOf (cut line))) k []) = some (value (content cell)) (q ∙ kept-value ed t k m (content cell) b) ∙ ap value ours in
-      record { filled = row-more t (contents ed t h (cellsOf (cut line))) k row (w .filled) enough x m n; ahead = next-ahead p }
+      let b : breaks (columnAt ed t k .rules) (content cell) ≡ false = rw ours (check-kept (k + 1) (columnAt ed t k .rules) (getD (contents ed t h (cellsOf (cut ed line))) k []) (check-here ∙ p)) in
+      let n : x ≡ value (getD (contents ed t h (cellsOf (cut ed line))) k []) = some (value (content cell)) (q ∙ kept-value ed t k m (content cell) b) ∙ ap value ours in
+      record { filled = row-more t (contents ed t h (cellsOf (cut ed line))) k row (w .filled) enough x m n; ahead = next-ahead p }
 
   -- and one behind those
   pub columned-past : check ≡ Passes → keptWidth t ≤ k → Columned ed t h line row (k + 1)
-  columned-past p m = record { filled = row-stays t (contents ed t h (cellsOf (cut line))) k row (w .filled) enough m; ahead = next-ahead p }
+  columned-past p m = record { filled = row-stays t (contents ed t h (cellsOf (cut ed line))) k row (w .filled) enough m; ahead = next-ahead p }
 
 -- a column that has a fault: nothing is kept of the line
 pub columned-bad : (ed : Edition) (t : Table) (h : Header) (line : Bytes) (n k : ℕ) → cellsCheck ed t h line ≡ Fails n k → _≡_ {A = Judged} (record { check = Fails n k; row = zeros }) (rowed (cellsCheck ed t h line) (rowRead ed t h line))
@@ -109,8 +109,8 @@ columned-bad ed t h line n k e = rw e
 
 pub columned-all : (ed : Edition) (t : Table) (h : Header) (line : Bytes) (row : Row) (k : ℕ) → Columned ed t h line row k → length (columnsOf ed t) ≤ k → _≡_ {A = Judged} (record { check = Passes; row = row }) (rowed (cellsCheck ed t h line) (rowRead ed t h line))
 columned-all ed t h line row k w l =
-    let p : cellsCheck ed t h line ≡ Passes = w .ahead ∙ bad-end (columnsOf ed t) (drop k (contents ed t h (cellsOf (cut line)))) k l in
-    let a : take k (contents ed t h (cellsOf (cut line))) ≡ contents ed t h (cellsOf (cut line)) = take-all k (contents ed t h (cellsOf (cut line))) (rw contents-length l) in
+    let p : cellsCheck ed t h line ≡ Passes = w .ahead ∙ bad-end (columnsOf ed t) (drop k (contents ed t h (cellsOf (cut ed line)))) k l in
+    let a : take k (contents ed t h (cellsOf (cut ed line))) ≡ contents ed t h (cellsOf (cut ed line)) = take-all k (contents ed t h (cellsOf (cut ed line))) (rw contents-length l) in
     rw (p, w .filled, a)
 
 -- what a row that passes tells ------------------------------------------------------------------------------------------------------
@@ -129,13 +129,13 @@ row-number t ss i h l =
 module _ (ed : Edition) (t : Table) (h : Header) (line : Bytes) (e : cellsCheck ed t h line ≡ Passes) where
   module _ (i : ℕ) (l : i < keptWidth t) where
     abbrev there : Bytes
-    there = getD (contents ed t h (cellsOf (cut line))) i []
+    there = getD (contents ed t h (cellsOf (cut ed line))) i []
 
     number-there : getD (rowRead ed t h line) i 0 ≡ value there
-    number-there = row-number t (contents ed t h (cellsOf (cut line))) i l (omega (arith, contents-length 1 (columnsOf ed t) h (cellsOf (cut line)), kept-columns ed t))
+    number-there = row-number t (contents ed t h (cellsOf (cut ed line))) i l (omega (arith, contents-length 1 (columnsOf ed t) h (cellsOf (cut ed line)), kept-columns ed t))
 
     keeps : breaks (columnAt ed t i .rules) there ≡ false
-    keeps = all-kept 1 (columnsOf ed t) (contents ed t h (cellsOf (cut line))) e i (omega (arith, kept-columns ed t)) (omega (arith, contents-length 1 (columnsOf ed t) h (cellsOf (cut line)), kept-columns ed t))
+    keeps = all-kept 1 (columnsOf ed t) (contents ed t h (cellsOf (cut ed line))) e i (omega (arith, kept-columns ed t)) (omega (arith, contents-length 1 (columnsOf ed t) h (cellsOf (cut ed line)), kept-columns ed t))
 
     row-low : columnAt ed t i .rules .low ≤ getD (rowRead ed t h line) i 0
     row-low = rw number-there (number-from (columnAt ed t i .rules) there (kept-decimal ed t i l) (kept-required ed t i l) keeps)
@@ -150,11 +150,11 @@ rowed-passes Passes row e = refl
 rowed-passes (Fails n k) row e = e
 
 module _ (ed : Edition) (t : Table) (h : Header) (line : Bytes) (p : read ed t h line .check ≡ Passes) where
-  pub line-passes : (cutCheck h line ⊳ cellsCheck ed t h line) ≡ Passes
-  line-passes = rowed-passes (cutCheck h line ⊳ cellsCheck ed t h line) (rowRead ed t h line) p
+  pub line-passes : (cutCheck ed h line ⊳ cellsCheck ed t h line) ≡ Passes
+  line-passes = rowed-passes (cutCheck ed h line ⊳ cellsCheck ed t h line) (rowRead ed t h line) p
 
   pub read-passes : cellsCheck ed t h line ≡ Passes
-  read-passes = both (cutCheck h line) (cellsCheck ed t h line) line-passes .1
+  read-passes = both (cutCheck ed h line) (cellsCheck ed t h line) line-passes .1
 
   pub read-row : read ed t h line .row ≡ rowRead ed t h line
   read-row = rw line-passes

@@ -9,11 +9,11 @@ ghost use Rattle.values.specs.Judged.{rowed};
 ghost use Rattle.header.specs.Heading.{places, cellsKept};
 ghost use Rattle.row_line.specs.RowLine.{rowRead};
 ghost use Rattle.row_line.specs.Judging.{cellsCheck, CutOf, read};
+use editions::Edition;
 use header::Places;
 use refusals::Check;
 use rows::NO_ROW;
 use tables::Columns;
-use tables::Edition;
 use tables::Table;
 use values::Judged;
 use values::Value;
@@ -27,7 +27,7 @@ fn read_columns(
     columns: &Columns,
     at: &Places,
 ) -> Judged
-    requires { ⌜ MarksOf (now line) (now bounds) (cellsKept (now at)) × (now columns ≡ listed edition t) ⌝ }
+    requires { ⌜ MarksOf edition (now line) (now bounds) (cellsKept (now at)) × (now columns ≡ listed edition t) ⌝ }
     ensures { λ r. ⌜ ((h : List ℕ) → now (at .entry) ≡ places h → r ≡ rowed (cellsCheck edition t h (now (line .entry))) (rowRead edition t h (now (line .entry)))) ⌝ }
 {
     let cells = at[0];
@@ -38,7 +38,10 @@ fn read_columns(
     let mut k = 0;
     'columns: while k < count {
         let rules = tables::rules_at(columns, k);
-        let value = Value::of_cell(rules, cells::cell_of(line, bounds, cells, at[k + 1]));
+        let value = Value::of_cell(
+            rules,
+            cells::cell_of(edition, line, bounds, cells, at[k + 1]),
+        );
         match value.check(header::wide(k + 1)) {
             Check::Passes => {}
             Check::Fails { number, column } => {
@@ -56,11 +59,11 @@ fn read_columns(
 }
 
 // 17, 6 and 7: the cells of a row, as many as its header has. Their bounds are kept where the caller has room for them.
-pub fn cut_row(line: &[u8], cells: usize, bounds: &mut [usize]) -> Check
+pub fn cut_row(edition: Edition, line: &[u8], cells: usize, bounds: &mut [usize]) -> Check
     requires { ⌜ cells < length (now bounds) ⌝ }
-    ensures { λ r. ⌜ CutOf (now (line .entry)) cells (now (bounds .exit)) r ⌝ }
+    ensures { λ r. ⌜ CutOf edition (now (line .entry)) cells (now (bounds .exit)) r ⌝ }
 {
-    let cut = header::cut_line(line, bounds);
+    let cut = header::cut_line(edition, line, bounds);
     let check = cut.check;
     let count = cut.cells;
     match check {
@@ -86,7 +89,7 @@ pub fn read_row(
     requires { ⌜ (now columns ≡ listed edition t) × (cellsKept (now at) < length (now bounds)) ⌝ }
     ensures { λ r. ⌜ ((h : List ℕ) → now (at .entry) ≡ places h → r ≡ read edition t h (now (line .entry))) ⌝ }
 {
-    let check = cut_row(line, at[0], bounds);
+    let check = cut_row(edition, line, at[0], bounds);
     match check {
         Check::Passes => read_columns(line, &bounds[..], edition, t, columns, at),
         Check::Fails {

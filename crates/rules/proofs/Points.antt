@@ -14,10 +14,12 @@ use Rattle.rows.specs.declared.Order.{Order}
 use Rattle.rows.specs.declared.Order.the-variants.{Less, Same, More}
 use Rattle.rows.proofs.Keys.{same-number, sameKey-order}
 use Rattle.rows.proofs.Changes.{stands-key, stands-inserted, other-stands-inserted}
+use Rattle.editions.specs.declared.Edition.{Edition}
+use Rattle.editions.specs.declared.Edition.the-variants.{Dino21}
 use Rattle.tables.specs.Columns.{ref, references}
 use Rattle.tables.specs.declared.Table.the-variants.{Stop, StopPoint, VehicleType, Depot, Block}
 use Rattle.tables.specs.declared.Table.{Table}
-use Rattle.book.specs.Book.{Book, empty, entered}
+use Rattle.book.specs.Book.{Book, empty, emptyBy, entered}
 use Rattle.rules.specs.Rules.{finds, unknownOf, unknown, named}
 use Rattle.rules.specs.Points.{pointsNamed, Referable}
 use Rattle.rules.proofs.Referring.{one-missing}
@@ -64,9 +66,13 @@ module _ (b : Book) (row : Row) (named-all : pointsNamed b ≡ true) where
   block-passes d v p true q = rw (d, v, point-stop 7 p, p, point-stop 10 q, q)
   block-passes d v p false q = one-missing row b (references Block) 5 (lit< tt) q
 
-pub empty-named : (b : Book) → b ≡ empty → pointsNamed b ≡ true
+-- a book without rows has no point
+pub begun-named : (d : Edition) (b : Book) → b ≡ emptyBy d → pointsNamed b ≡ true
 unfolding all
-empty-named b e = rw e
+begun-named d b e = rw e
+
+pub empty-named : (b : Book) → b ≡ empty → pointsNamed b ≡ true
+empty-named b e = begun-named Dino21 b e
 
 -- a table that is no block's needs nothing
 pub referable : (t : Table) (b : Book) → pointsNamed b ≡ true → Referable t b

@@ -17,6 +17,7 @@ use Rattle.fields.specs.Fields.{fields}
 use Rattle.fields.specs.declared.Fields.{Fields}
 use Rattle.fields.proofs.Cutting.{fields-some, field-stands}
 use Rattle.rows.specs.Rows.{wide}
+use Rattle.editions.specs.declared.Edition.{Edition}
 use Rattle.values.specs.Judged.{rowed}
 use Rattle.values.specs.declared.Judged.{Judged}
 use Rattle.slip_line.specs.SlipLine.{letter, counted, wish, numbers, badField}
@@ -114,9 +115,9 @@ module _ (line : Bytes) (marks : Fields) (m : FieldsOf line marks) where
   wish-marked f w v p q h = h ∙ ap (λ (x : Wish). counted x (marks .count - 1)) (q ∙ ap letter p) ∙ sym counted-first
 
 -- a check of the row behind that of the fields
-pub read-then : (f : Row → Check) (fs : List Bytes) (j : Judged) → j ≡ fieldsRead fs → f (wide (map value fs)) ≡ f (map value fs)
-    → j .check ⊳ f (j .row) ≡ badField fs ⊳ f (map value fs)
-read-then f fs j e g = rw e (go (badField fs))
+pub read-then : (ed : Edition) (f : Row → Check) (fs : List Bytes) (j : Judged) → j ≡ fieldsRead ed fs → f (wide (map value fs)) ≡ f (map value fs)
+    → j .check ⊳ f (j .row) ≡ badField ed fs ⊳ f (map value fs)
+read-then ed f fs j e g = rw e (go (badField ed fs))
   where
     go : (q : Check) → rowed q (wide (map value fs)) .check ⊳ f (rowed q (wide (map value fs)) .row) ≡ q ⊳ f (map value fs)
     go Passes = g

@@ -21,7 +21,8 @@ use Rattle.fields.specs.declared.Fields.{Fields}
 use Rattle.fields.proofs.Cutting.{fields-some, field-stands}
 use Rattle.rows.specs.Rows.{wide, column}
 use Rattle.rows.specs.Room.{zeros}
-use Rattle.tables.specs.declared.Edition.the-variants.{Dino21}
+use Rattle.editions.specs.declared.Edition.{Edition}
+use Rattle.editions.specs.declared.Edition.the-variants.{Dino21, Dino23}
 use Rattle.tables.specs.Columns.{columnsOf, Column, columnAt, noColumn}
 use Rattle.tables.specs.declared.Table.the-variants.{Block}
 use Rattle.tables.proofs.Figures.{version-low, kept-decimal, kept-required}
@@ -51,40 +52,41 @@ number-stands line marks n i m c few h =
     rw (numbers-at (fields line) i, e) at (field-stands line 13 (marks .bounds) (i + 1) (m .1) (omega arith) (omega arith))
 
 -- 8, column by column
-abbrev pub badFrom : ℕ → List Bytes → Check
-badFrom i fs = badCell (i + 1) (drop i (columnsOf Dino21 Block)) (drop i fs)
+abbrev pub badFrom : Edition → ℕ → List Bytes → Check
+badFrom ed i fs = badCell (i + 1) (drop i (columnsOf ed Block)) (drop i fs)
 
-block-columns : length (columnsOf Dino21 Block) ≡ 11
+block-columns : (ed : Edition) → length (columnsOf ed Block) ≡ 11
 unfolding columnsOf
-block-columns = refl
+block-columns Dino21 = refl
+block-columns Dino23 = refl
 
-module _ (fs : List Bytes) (few : length fs ≤ 11) (i : ℕ) where
-  bad-here : i < length fs → badFrom i fs ≡ cellCheck (i + 1) (columnAt Dino21 Block i .rules) (getD fs i []) ⊳ badFrom (i + 1) fs
+module _ (ed : Edition) (fs : List Bytes) (few : length fs ≤ 11) (i : ℕ) where
+  bad-here : i < length fs → badFrom ed i fs ≡ cellCheck (i + 1) (columnAt ed Block i .rules) (getD fs i []) ⊳ badFrom ed (i + 1) fs
   unfolding badCell
   bad-here h =
-      let g : i < length (columnsOf Dino21 Block) = omega (arith, block-columns) in
-      rw (drop-step noColumn (columnsOf Dino21 Block) i g, drop-step [] fs i h, add-one (i + 1))
+      let g : i < length (columnsOf ed Block) = omega (arith, block-columns ed) in
+      rw (drop-step noColumn (columnsOf ed Block) i g, drop-step [] fs i h, add-one (i + 1))
 
   -- what a value answers to its column
-  module _ (v : Value) (q : Check) (in-row : i < length fs) (is : v ≡ valueOf (columnAt Dino21 Block i .rules) (getD fs i [])) (checked : q ≡ checkOf (i + 1) v) where
-    field-check : q ≡ cellCheck (i + 1) (columnAt Dino21 Block i .rules) (getD fs i [])
-    field-check = checked ∙ ap (checkOf (i + 1)) is ∙ check-of-value (i + 1) (columnAt Dino21 Block i .rules) (getD fs i [])
+  module _ (v : Value) (q : Check) (in-row : i < length fs) (is : v ≡ valueOf (columnAt ed Block i .rules) (getD fs i [])) (checked : q ≡ checkOf (i + 1) v) where
+    field-check : q ≡ cellCheck (i + 1) (columnAt ed Block i .rules) (getD fs i [])
+    field-check = checked ∙ ap (checkOf (i + 1)) is ∙ check-of-value (i + 1) (columnAt ed Block i .rules) (getD fs i [])
 
-    pub field-fault : (n k : ℕ) → q ≡ Fails n k → badFrom i fs ≡ Fails n k
-    field-fault n k e = bad-here in-row ∙ ap (λ (c : Check). c ⊳ badFrom (i + 1) fs) (sym field-check ∙ e)
+    pub field-fault : (n k : ℕ) → q ≡ Fails n k → badFrom ed i fs ≡ Fails n k
+    field-fault n k e = bad-here in-row ∙ ap (λ (c : Check). c ⊳ badFrom ed (i + 1) fs) (sym field-check ∙ e)
 
-    pub field-passes : q ≡ Passes → badFrom i fs ≡ badFrom (i + 1) fs
-    field-passes e = bad-here in-row ∙ ap (λ (c : Check). c ⊳ badFrom (i + 1) fs) (sym field-check ∙ e)
+    pub field-passes : q ≡ Passes → badFrom ed i fs ≡ badFrom ed (i + 1) fs
+    field-passes e = bad-here in-row ∙ ap (λ (c : Check). c ⊳ badFrom ed (i + 1) fs) (sym field-check ∙ e)
 
-    keeps : q ≡ Passes → breaks (columnAt Dino21 Block i .rules) (getD fs i []) ≡ false
-    keeps e = check-kept (i + 1) (columnAt Dino21 Block i .rules) (getD fs i []) (sym field-check ∙ e)
+    keeps : q ≡ Passes → breaks (columnAt ed Block i .rules) (getD fs i []) ≡ false
+    keeps e = check-kept (i + 1) (columnAt ed Block i .rules) (getD fs i []) (sym field-check ∙ e)
 
     pub field-number : q ≡ Passes → v ≡ value-is.Number (value (getD fs i []))
-    field-number e = is ∙ kept-value Dino21 Block i (omega arith) (getD fs i []) (keeps e)
+    field-number e = is ∙ kept-value ed Block i (omega arith) (getD fs i []) (keeps e)
 
-  pub bad-end : length fs ≤ i → badFrom i fs ≡ Passes
+  pub bad-end : length fs ≤ i → badFrom ed i fs ≡ Passes
   unfolding badCell
-  bad-end h = rw (drop-of-length-le fs {i = i} h) (none (drop i (columnsOf Dino21 Block)))
+  bad-end h = rw (drop-of-length-le fs {i = i} h) (none (drop i (columnsOf ed Block)))
     where
       none : (cs : List Column) → badCell (i + 1) cs [] ≡ Passes
       none [] = refl
@@ -111,9 +113,9 @@ module _ (q : Check) (row : Row) where
   passed l e f = rw (e, f)
 
 -- a line whose fields pass names a VERSION of at least 1
-pub version-some : (fs : List Bytes) → 1 ≤ length fs → length fs ≤ 11 → badField fs ≡ Passes → 1 ≤ column 1 (map value fs)
-version-some [] h few e = absurd (omega arith)
-version-some (f ∷ fs) h few e =
-    let p : cellCheck 1 (columnAt Dino21 Block 0 .rules) f ≡ Passes = both (cellCheck 1 (columnAt Dino21 Block 0 .rules) f) (badFrom 1 (f ∷ fs)) (sym (bad-here (f ∷ fs) few 0 (omega arith)) ∙ e) .0 in
-    let k : breaks (columnAt Dino21 Block 0 .rules) f ≡ false = check-kept 1 (columnAt Dino21 Block 0 .rules) f p in
-    omega (arith, version-low Dino21 Block, number-from (columnAt Dino21 Block 0 .rules) f (kept-decimal Dino21 Block 0 (lit< tt)) (kept-required Dino21 Block 0 (lit< tt)) k)
+pub version-some : (ed : Edition) (fs : List Bytes) → 1 ≤ length fs → length fs ≤ 11 → badField ed fs ≡ Passes → 1 ≤ column 1 (map value fs)
+version-some ed [] h few e = absurd (omega arith)
+version-some ed (f ∷ fs) h few e =
+    let p : cellCheck 1 (columnAt ed Block 0 .rules) f ≡ Passes = both (cellCheck 1 (columnAt ed Block 0 .rules) f) (badFrom ed 1 (f ∷ fs)) (sym (bad-here ed (f ∷ fs) few 0 (omega arith)) ∙ e) .0 in
+    let k : breaks (columnAt ed Block 0 .rules) f ≡ false = check-kept 1 (columnAt ed Block 0 .rules) f p in
+    omega (arith, version-low ed Block, number-from (columnAt ed Block 0 .rules) f (kept-decimal ed Block 0 (lit< tt)) (kept-required ed Block 0 (lit< tt)) k)

@@ -10,13 +10,14 @@ use Rattle.fields.specs.Fields.{fields}
 use Rattle.fields.specs.Marks.{fieldBounds}
 use Rattle.fields.specs.declared.Fields.{Fields}
 use Rattle.rows.specs.Rows.{wide}
+use Rattle.editions.specs.declared.Edition.{Edition}
 use Rattle.values.specs.Judged.{rowed}
 use Rattle.values.specs.declared.Judged.{Judged}
 use Rattle.slip_line.specs.SlipLine.{badField}
 
 -- what the code answers of the fields `fs` behind the kind: what is wrong with one, and their row
-abbrev pub fieldsRead : List Bytes → Judged
-fieldsRead fs = rowed (badField fs) (wide (map value fs))
+abbrev pub fieldsRead : Edition → List Bytes → Judged
+fieldsRead e fs = rowed (badField e fs) (wide (map value fs))
 
 -- where the fields of a line stand on it
 abbrev pub FieldsOf : Bytes → Fields → Type 0

@@ -7,7 +7,7 @@ use Rattle.words.specs.Words.{Bytes, if_then_else_, bytes, same, Row}
 use Rattle.refusals.specs.declared.Check.{Check}
 use Rattle.numbers.specs.Numbers.{value}
 use Rattle.fields.specs.Fields.{fields}
-use Rattle.tables.specs.declared.Edition.the-variants.{Dino21}
+use Rattle.editions.specs.declared.Edition.{Edition}
 use Rattle.tables.specs.Columns.{columnsOf, keyWidth, keptWidth}
 use Rattle.tables.specs.declared.Table.the-variants.{Block}
 use Rattle.values.specs.Values.{badCell}
@@ -36,8 +36,9 @@ wish [] = Unknown
 wish (f ∷ fs) = counted (letter f) (length fs)
 
 -- "Numbers follow their column's rules, unquoted": 19, 20, 8 or 21. "Fields count as the vehicle_block columns."
-abbrev pub badField : List Bytes → Check
-badField fs = badCell 1 (columnsOf Dino21 Block) fs
+-- "slips being judged by the delivery's edition"
+abbrev pub badField : Edition → List Bytes → Check
+badField e fs = badCell 1 (columnsOf e Block) fs
 
 -- the numbers of a line
 abbrev pub rowIn : Bytes → Row

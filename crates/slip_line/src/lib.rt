@@ -9,12 +9,12 @@ ghost use Rattle.rows.specs.Rows.{rowNumbers};
 ghost use Rattle.tables.specs.Listing.{listed};
 ghost use Rattle.slip_line.specs.SlipLine.{counted, letter, wish, numbers};
 ghost use Rattle.slip_line.specs.Marks.{FieldsOf, fieldsRead};
+use editions::Edition;
 use fields::Fields;
 use refusals::Check;
 use rows::NO_ROW;
 use rows::NUMBERS;
 use tables::Columns;
-use tables::Edition;
 use tables::Table;
 use values::Judged;
 use values::Value;
@@ -98,10 +98,10 @@ pub fn wish_of(line: &[u8], marks: Fields) -> Wish
     kind_of(&line[from..to]).with_numbers(n)
 }
 
-// 19, 20, 8 or 21, and the row of a line of n numbers.
+// 19, 20, 8 or 21, by the columns of an edition, and the row of a line of n numbers.
 pub fn read_fields(line: &[u8], marks: Fields, columns: &Columns, n: usize) -> Judged
-    requires { ⌜ FieldsOf (now line) marks × (length (numbers (fields (now line))) ≡ n) × (n ≤ rowNumbers) × (now columns ≡ listed Edition.Dino21 Table.Block) ⌝ }
-    ensures { λ r. ⌜ r ≡ fieldsRead (numbers (fields (now (line .entry)))) ⌝ }
+    requires { ⌜ FieldsOf (now line) marks × (length (numbers (fields (now line))) ≡ n) × (n ≤ rowNumbers) × ((e : Edition) × (now columns ≡ listed e Table.Block)) ⌝ }
+    ensures { λ r. ⌜ ((e : Edition) → now (columns .entry) ≡ listed e Table.Block → r ≡ fieldsRead e (numbers (fields (now (line .entry))))) ⌝ }
 {
     let bounds = marks.bounds;
     let mut check = Check::Passes;

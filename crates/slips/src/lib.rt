@@ -19,7 +19,6 @@ use refusals::Verdict;
 use rows::ROWS;
 use rows::Row;
 use tables::Columns;
-use tables::Edition;
 use tables::Table;
 
 // The lines of a slip: their verdict, and how many blocks stand then.
@@ -37,7 +36,7 @@ fn take_lines(
     order: &mut [u16],
     n: usize,
 ) -> Posted
-    requires { ⌜ OnShelf Table.Block (now book) (now slots) (now order) n × (length (now slip) ≤ mostBytes) × (now columns ≡ listed Edition.Dino21 Table.Block) ⌝ }
+    requires { ⌜ OnShelf Table.Block (now book) (now slots) (now order) n × (length (now slip) ≤ mostBytes) × (now columns ≡ listed (bookOf (now book) .edition) Table.Block) ⌝ }
     ensures { λ r. ⌜ LinesTaken (now (slip .entry)) (now (book .entry)) (now (slots .entry)) (now (slots .exit)) (now (order .entry)) (now (order .exit)) n r ⌝ }
 {
     let mut verdict = Verdict::Accepted;
@@ -76,12 +75,14 @@ fn lay_accepted(verdict: Verdict, book: &mut [Row], slots: &[Row], order: &[u16]
     }
 }
 
-// All lines or none: they are taken on a shelf, so that the book is touched only where all of them pass.
+// All lines or none: they are taken on a shelf, so that the book is touched only where all of them pass. "Slips being judged by the
+// delivery's edition, which the book keeps".
 fn take_whole(slip: &[u8], book: &mut [Row], work: &mut [Row]) -> Verdict
     requires { ⌜ Sound (now book) × (pointsNamed (bookOf (now book)) ≡ true) × (length (now slip) ≤ mostBytes) × (length (now work) ≡ workRows) ⌝ }
     ensures { λ r. ⌜ outcome r (now (book .exit)) (cleared (now (work .entry))) ≡ slipOutcome (linesPosted 1 (slipLines (now (slip .entry))) (bookOf (now (book .entry)))) (now (book .entry)) (now (work .entry)) ⌝ }
 {
-    let columns = Table::Block.column_rules(Edition::Dino21);
+    let edition = book::edition_of(&book[..]);
+    let columns = Table::Block.column_rules(edition);
     let mut order = [0u16; ROWS];
     let n = intake::shelve(&book[..], Table::Block, work, &mut order);
     let posted = take_lines(slip, &columns, &book[..], work, &mut order, n);

@@ -1,4 +1,7 @@
-// The morning's answer in words: good, with what the delivery holds; or the first fault, its place, its meaning and the line that it stands on.
+// The morning's answer in words, by the edition that is asked for: good, with what the delivery holds; or the first fault, its place, its meaning and the
+// line that it stands on.
+use editions::Choice;
+use editions::Edition;
 use fault_mark::Mark;
 use libc::STDOUT_FILENO;
 use refusals::Place;
@@ -8,13 +11,13 @@ use rows::Row;
 use tables::BOOK_ROWS;
 use tables::COLUMN_ROOM;
 use tables::Columns;
-use tables::Edition;
 use tables::Named;
 use tables::Rules;
 use tables::Table;
 
-// Room for the longest line of a text and, behind it, the mark of an empty last cell.
-const LINE_ROOM: usize = files::TEXT_ROOM;
+// Room for the longest row and, behind it, the mark of an empty last cell. Of one that is too long only so much is shown: by 2.3 a quote that is not
+// closed makes a row of all the rest of a text.
+const LINE_ROOM: usize = lines::MOST_LINE + 1;
 
 fn say(bytes: &[u8]) {
     io::write_all(STDOUT_FILENO, bytes);
@@ -43,8 +46,17 @@ fn row_count(book: &[Row], t: Table) -> usize {
     0
 }
 
-fn good(book: &[Row]) {
-    say(b"good: ");
+// ` by DINO 2.3: `, behind the answer's first word.
+fn by(edition: Edition) {
+    match edition {
+        Edition::Dino21 => say(b" by DINO 2.1: "),
+        Edition::Dino23 => say(b" by DINO 2.3: "),
+    }
+}
+
+fn good(edition: Edition, book: &[Row]) {
+    say(b"good");
+    by(edition);
     counted(
         row_count(book, Table::VehicleType),
         b"vehicle type",
@@ -89,18 +101,18 @@ fn unknown_row(column: u64) {
 }
 
 // The columns of a table by its number.
-fn columns_of(table: u64) -> Columns {
+fn columns_of(edition: Edition, table: u64) -> Columns {
     let named = Table::numbered(table);
     match named {
-        Named::Known(t) => t.column_rules(Edition::Dino21),
-        Named::Unknown => Table::Block.column_rules(Edition::Dino21),
+        Named::Known(t) => t.column_rules(edition),
+        Named::Unknown => Table::Block.column_rules(edition),
     }
 }
 
 // What the cells of the place's column must keep to. (A fault of a cell names a column of its table; that there is one of this number is tested, since
 // looking it up asks for it.)
-fn rules_of(p: Place) -> Rules {
-    let columns = columns_of(p.table);
+fn rules_of(edition: Edition, p: Place) -> Rules {
+    let columns = columns_of(edition, p.table);
     let k = p.column as usize;
     if k == 0 {
         return tables::rules_at(&columns, 0);
@@ -125,7 +137,7 @@ fn out_of_range(rules: Rules) {
 }
 
 // What each number of refusal means, for a person.
-fn meaning(p: Place) {
+fn meaning(edition: Edition, p: Place) {
     let refusal = p.number;
     match refusal {
         1 => say(b"the file has more than 65,536 bytes"),
@@ -134,25 +146,25 @@ fn meaning(p: Place) {
         4 => say(b"the header has more than 32 cells"),
         5 => say(b"the table has more than 512 rows; this is the first too many"),
         6 => say(b"this cell is badly quoted, or holds a byte that no cell may hold"),
-        7 => say(b"this line has more or fewer cells than the header"),
+        7 => say(b"this row has more or fewer cells than the header"),
         8 => say(b"this cell is not digits"),
         9 => say(b"the key of this row stands in an earlier row"),
         10 => unknown_row(p.column),
         11 => say(b"the block ends before it begins, and one of its two times is 86,400 or more"),
-        17 => say(b"this line has more than 2,048 bytes"),
+        17 => say(b"this row has more than 2,048 bytes"),
         18 => say(b"the table came with more or fewer bytes than were announced"),
         19 => say(b"this cell is empty and its column is required"),
-        20 => too_long(rules_of(p)),
-        21 => out_of_range(rules_of(p)),
+        20 => too_long(rules_of(edition, p)),
+        21 => out_of_range(rules_of(edition, p)),
         _ => say(b"the book was lent at another length"),
     }
 }
 
-// The name of a column, which is the cell of its number in a header of all names.
+// The name of a column, which is the cell of its number in a header of all names. Those of vehicle_type by 2.3 begin with those by 2.1.
 fn column_name(table: u64, column: u64) {
     match table {
         Place::VEHICLE_TYPE => say(fault_mark::cell_numbered(
-            &column_names::VEHICLE_TYPE_NAMES,
+            &column_names::VEHICLE_TYPE_NAMES_23,
             column,
         )),
         Place::DEPOT => say(fault_mark::cell_numbered(&column_names::DEPOT_NAMES, column)),
@@ -186,8 +198,11 @@ fn place(p: Place) {
     }
 }
 
-// A byte as a screen can show it.
+// A byte as a screen can show it, one character for one byte, so that the mark stands under its cell. A row is shown on one line: `|` is a break in it.
 fn legible(byte: u8) -> u8 {
+    if byte == b'\n' {
+        return b'|';
+    }
     if byte < 32 {
         return b'?';
     }
@@ -253,8 +268,8 @@ fn underline(from: usize, to: usize) {
 }
 
 // The line of the fault, if its file has it, and the mark under the cell.
-fn offence(text: &[u8], p: Place) {
-    let mark = fault_mark::marked(text, p);
+fn offence(edition: Edition, text: &[u8], p: Place) {
+    let mark = fault_mark::marked(edition, text, p);
     match mark {
         Mark::Nothing => {}
         Mark::Line { start, end } => show(text, start, end),
@@ -270,42 +285,71 @@ fn offence(text: &[u8], p: Place) {
     }
 }
 
-fn fault(p: Place, types: &[u8], depots: &[u8], stops: &[u8], points: &[u8], blocks: &[u8]) {
-    say(b"fault: ");
+fn fault(
+    edition: Edition,
+    p: Place,
+    types: &[u8],
+    depots: &[u8],
+    stops: &[u8],
+    points: &[u8],
+    blocks: &[u8],
+) {
+    say(b"fault");
+    by(edition);
     place(p);
     say(b", refusal ");
     number(p.number);
     say(b": ");
-    meaning(p);
+    meaning(edition, p);
     say(b"\n");
     let table = p.table;
     match table {
-        Place::VEHICLE_TYPE => offence(types, p),
-        Place::DEPOT => offence(depots, p),
-        Place::STOP => offence(stops, p),
-        Place::STOP_POINT => offence(points, p),
-        _ => offence(blocks, p),
+        Place::VEHICLE_TYPE => offence(edition, types, p),
+        Place::DEPOT => offence(edition, depots, p),
+        Place::STOP => offence(edition, stops, p),
+        Place::STOP_POINT => offence(edition, points, p),
+        _ => offence(edition, blocks, p),
     }
 }
 
-// Reads the delivery and says what came of it.
-fn answer(types: &[u8], depots: &[u8], stops: &[u8], points: &[u8], blocks: &[u8]) {
+// Reads the delivery by an edition, which is that of the number, and says what came of it.
+fn answer(
+    number: u64,
+    edition: Edition,
+    types: &[u8],
+    depots: &[u8],
+    stops: &[u8],
+    points: &[u8],
+    blocks: &[u8],
+) {
     let mut book = [NO_ROW; BOOK_ROWS];
-    let verdict = delivery::read(types, depots, stops, points, blocks, &mut book);
+    let verdict = delivery::read(number, types, depots, stops, points, blocks, &mut book);
     match verdict {
-        Verdict::Accepted => good(&book),
-        Verdict::Refused(p) => fault(p, types, depots, stops, points, blocks),
+        Verdict::Accepted => good(edition, &book),
+        Verdict::Refused(p) => fault(edition, p, types, depots, stops, points, blocks),
     }
 }
 
-fn main() {
+fn morning(number: u64, edition: Edition) {
     let mut room = [0u8; files::ROOM];
     let n = files::load_delivery(&mut room, true);
     answer(
+        number,
+        edition,
         files::text(&room, files::VEHICLE_TYPE, n.types),
         files::text(&room, files::DEPOT, n.depots),
         files::text(&room, files::STOP, n.stops),
         files::text(&room, files::STOP_POINT, n.points),
         files::text(&room, files::VEHICLE_BLOCK, n.blocks),
     );
+}
+
+// An unknown edition is refused before anything is read.
+fn main() {
+    let number = options::edition_asked();
+    let choice = Edition::numbered(number);
+    match choice {
+        Choice::Chosen(edition) => morning(number, edition),
+        Choice::Unknown => say(b"fault: refusal 22: this edition is not known: 2.1 or 2.3\n"),
+    }
 }

@@ -12,18 +12,19 @@ use Rattle.refusals.specs.declared.Place.{Place}
 use Rattle.refusals.specs.declared.Verdict.{Verdict}
 use Rattle.refusals.specs.declared.Verdict.the-variants.{Accepted, Refused}
 use Rattle.refusals.proofs.Placing.{placed-passes}
-use Rattle.lines.specs.Lines.{lines}
+use Rattle.lines.specs.Lines.{lines, lineAfter}
 use Rattle.lines.specs.Ends.{lineAt}
 use Rattle.lines.specs.declared.Line.{Line}
 use Rattle.lines.proofs.Lining.{line-from, lines-none}
 use Rattle.rows.specs.Rows.{column}
-use Rattle.tables.specs.declared.Edition.the-variants.{Dino21}
+use Rattle.editions.specs.declared.Edition.{Edition}
 use Rattle.tables.specs.declared.Table.{Table}
 use Rattle.tables.specs.Parts.{room}
 use Rattle.tables.specs.Columns.{number}
 use Rattle.tables.proofs.Parts.{room-alike}
 use Rattle.values.specs.declared.Judged.{Judged}
 use Rattle.book.specs.Book.{Book, entered}
+use Rattle.book.specs.Room.{bookOf}
 use Rattle.book.specs.Result.{refused, leaves, unless}
 use Rattle.intake.specs.Shelving.{shelfBook, OnShelf, Entered}
 use Rattle.intake.proofs.Shelving.{shelf-most, shelf-full, shelf-room}
@@ -31,7 +32,7 @@ use Rattle.header.specs.Header.{Header}
 use Rattle.row_line.specs.Judging.{read}
 use Rattle.row_line.specs.RowLine.{rowRead}
 use Rattle.table_lines.specs.Taking.{Taken, linesAfter}
-use Rattle.table_lines.specs.Reading.{judged, lineAfter, rowsRead}
+use Rattle.table_lines.specs.Reading.{judged, rowsRead}
 use Rattle.table_lines.proofs.Judging.{judged-full, judged-bad, judged-good, good-row, good-version}
 
 -- a line ------------------------------------------------------------------------------------------------------------------------
@@ -50,7 +51,7 @@ module _ (t : Table) (h : Header) (line : Bytes) (xs slots : List Row) (order : 
     pub line-room : n < room t
     line-room = omega (arith, shelf-most t xs slots order n on, less, room-alike t)
 
-    module _ (j : Judged) (is : j ≡ read Dino21 t h line) where
+    module _ (j : Judged) (is : j ≡ read (bookOf xs .edition) t h line) where
       pub line-faulty : (d : Book) (m k : ℕ) → j .check ≡ Fails m k → Taken t h line (shelfBook t xs slots order n) d (Fails m k)
       line-faulty d m k e =
           record {
@@ -73,38 +74,33 @@ module _ (t : Table) (h : Header) (line : Bytes) (xs slots : List Row) (order : 
 
 -- the lines of a text in turn -----------------------------------------------------------------------------------------------------
 
--- a line's number, and that of the next
-pub line-next : (n : ℕ) (l : Bytes) → lineAfter n l ≡ n + 1
-unfolding lineAfter
-line-next n l = omega arith
-
-module _ (n : ℕ) (s : Bytes) (i : ℕ) where
-  pub after-end : length s ≤ i → linesAfter n (lines (drop i s)) ≡ n
+module _ (e : Edition) (n : ℕ) (s : Bytes) (i : ℕ) where
+  pub after-end : length s ≤ i → linesAfter e n (lines e (drop i s)) ≡ n
   unfolding linesAfter
-  after-end l = rw (lines-none s i l)
+  after-end l = rw (lines-none e s i l)
 
-  pub after-next : (r : Line) → r ≡ lineAt s i → i < length s → linesAfter n (lines (drop i s)) ≡ linesAfter (n + 1) (lines (drop (r .next) s))
+  pub after-next : (r : Line) → r ≡ lineAt e s i → i < length s → (m : ℕ) → m ≡ lineAfter e n (take (r .end - i) (drop i s)) → linesAfter e n (lines e (drop i s)) ≡ linesAfter e m (lines e (drop (r .next) s))
   unfolding linesAfter
-  after-next r e l = ap (linesAfter n) (line-from s i r l e .is) ∙ ap (λ (m : ℕ). linesAfter m (lines (drop (r .next) s))) (line-next n (take (r .end - i) (drop i s)))
+  after-next r k l m p = ap (linesAfter e n) (line-from e s i r l k .is) ∙ ap (λ (q : ℕ). linesAfter e q (lines e (drop (r .next) s))) (sym p)
 
 module _ (t : Table) (h : Header) (n : ℕ) (s : Bytes) (i : ℕ) (b : Book) where
-  pub rows-end : length s ≤ i → rowsRead t h n (lines (drop i s)) b ≡ leaves b
+  pub rows-end : length s ≤ i → rowsRead t h n (lines (b .edition) (drop i s)) b ≡ leaves b
   unfolding rowsRead
-  rows-end l = rw (lines-none s i l)
+  rows-end l = rw (lines-none (b .edition) s i l)
 
-  module _ (r : Line) (e : r ≡ lineAt s i) (l : i < length s) (c : Check) (d : Book) (x : Taken t h (take (r .end - i) (drop i s)) b d c) (v : Verdict) (o : v ≡ placed (number t) n c) where
-    step : rowsRead t h n (lines (drop i s)) b
-        ≡ unless (placed (number t) n (judged t h (take (r .end - i) (drop i s)) b)) (rowsRead t h (lineAfter n (take (r .end - i) (drop i s))) (lines (drop (r .next) s)) (entered t (rowRead Dino21 t h (take (r .end - i) (drop i s))) b))
+  module _ (r : Line) (e : r ≡ lineAt (b .edition) s i) (l : i < length s) (c : Check) (d : Book) (x : Taken t h (take (r .end - i) (drop i s)) b d c) (v : Verdict) (o : v ≡ placed (number t) n c) where
+    step : rowsRead t h n (lines (b .edition) (drop i s)) b
+        ≡ unless (placed (number t) n (judged t h (take (r .end - i) (drop i s)) b)) (rowsRead t h (lineAfter (b .edition) n (take (r .end - i) (drop i s))) (lines (b .edition) (drop (r .next) s)) (entered t (rowRead (b .edition) t h (take (r .end - i) (drop i s))) b))
     unfolding rowsRead
-    step = rw (line-from s i r l e .is)
+    step = rw (line-from (b .edition) s i r l e .is)
 
-    pub rows-passed : v ≡ Accepted → rowsRead t h n (lines (drop i s)) b ≡ rowsRead t h (n + 1) (lines (drop (r .next) s)) d
-    rows-passed a =
+    pub rows-passed : v ≡ Accepted → (m : ℕ) → m ≡ lineAfter (b .edition) n (take (r .end - i) (drop i s)) → rowsRead t h n (lines (b .edition) (drop i s)) b ≡ rowsRead t h m (lines (b .edition) (drop (r .next) s)) d
+    rows-passed a m w =
         let p : c ≡ Passes = placed-passes (number t) n c (sym o ∙ a) in
         let q : judged t h (take (r .end - i) (drop i s)) b ≡ Passes = sym (x .is) ∙ p in
-        step ∙ rw (q, line-next n (take (r .end - i) (drop i s)), x .enters p)
+        step ∙ rw (q, ← w, x .enters p)
 
-    pub rows-refused : (p : Place) → v ≡ Refused p → rowsRead t h n (lines (drop i s)) b ≡ refused p
+    pub rows-refused : (p : Place) → v ≡ Refused p → rowsRead t h n (lines (b .edition) (drop i s)) b ≡ refused p
     rows-refused p a =
         let q : placed (number t) n (judged t h (take (r .end - i) (drop i s)) b) ≡ Refused p = ap (placed (number t) n) (sym (x .is)) ∙ sym o ∙ a in
         step ∙ rw q

@@ -1,6 +1,7 @@
 // The lines of a table, judged in turn and taken onto its shelf.
 ghost use Prim.Native.Nat.{_<_, _+_, _^_};
 ghost use lib.ListN.{length};
+ghost use Rattle.book.specs.Room.{bookOf};
 ghost use Rattle.intake.specs.Shelving.{OnShelf};
 ghost use Rattle.row_line.specs.Judging.{Guided};
 ghost use Rattle.table_lines.specs.Taking.{ReadBy, RowTaken, LinesTaken};
@@ -11,7 +12,6 @@ use refusals::Verdict;
 use rows::ROWS;
 use rows::Row;
 use tables::Columns;
-use tables::Edition;
 use tables::Table;
 use values::Judged;
 
@@ -37,7 +37,7 @@ pub fn take_row(
     order: &mut [u16],
     n: usize,
 ) -> Check
-    requires { ⌜ OnShelf t (now book) (now slots) (now order) n × ReadBy t read ⌝ }
+    requires { ⌜ OnShelf t (now book) (now slots) (now order) n × ReadBy (bookOf (now book) .edition) t read ⌝ }
     ensures { λ r. ⌜ RowTaken t read (now (book .entry)) (now (slots .entry)) (now (slots .exit)) (now (order .entry)) (now (order .exit)) n r ⌝ }
 {
     if n == ROWS {
@@ -62,9 +62,10 @@ pub fn take_lines(
     slots: &mut [Row],
     order: &mut [u16],
 ) -> Filled
-    requires { ⌜ Guided Edition.Dino21 t (now columns) (now at) × OnShelf t (now book) (now slots) (now order) (from .count) × (from .line + length (now bytes) < 2 ^ 64) ⌝ }
+    requires { ⌜ Guided (bookOf (now book) .edition) t (now columns) (now at) × OnShelf t (now book) (now slots) (now order) (from .count) × (from .line + length (now bytes) + 1 < 2 ^ 64) ⌝ }
     ensures { λ r. ⌜ LinesTaken t (now (at .entry)) (now (bytes .entry)) from (now (book .entry)) (now (slots .entry)) (now (slots .exit)) (now (order .entry)) (now (order .exit)) r ⌝ }
 {
+    let edition = book::edition_of(book);
     let table = t.number();
     let mut bounds = [0usize; BOUNDS];
     let mut verdict = Verdict::Accepted;
@@ -72,10 +73,10 @@ pub fn take_lines(
     let mut line = from.line;
     let mut i = 0;
     'rows: while i < bytes.len() {
-        let l = lines::next_line(bytes, i);
+        let l = lines::next_line(edition, bytes, i);
         let end = l.end;
         let next = l.next;
-        let read = row_line::read_row(&bytes[i..end], Edition::Dino21, t, columns, at, &mut bounds);
+        let read = row_line::read_row(&bytes[i..end], edition, t, columns, at, &mut bounds);
         let check = take_row(read, t, book, slots, order, count);
         let v = check.on(table, line);
         match v {
@@ -86,8 +87,8 @@ pub fn take_lines(
             }
         }
         count += 1;
+        line = lines::line_after(edition, line, &bytes[i..end]);
         i = next;
-        line += 1;
     }
     Filled {
         verdict,

@@ -10,9 +10,8 @@ use Rattle.refusals.specs.declared.Check.the-variants.{Passes, Fails}
 use Rattle.refusals.specs.declared.Check.{Check}
 use Rattle.refusals.specs.declared.Verdict.{Verdict}
 use Rattle.refusals.specs.declared.Verdict.the-variants.{Accepted, Refused}
-use Rattle.lines.specs.Lines.{lines, headLine, rowLines}
+use Rattle.lines.specs.Lines.{lineAfter, lines, headLine, rowLines}
 use Rattle.cells.specs.Cells.{cut, cellsOf}
-use Rattle.tables.specs.declared.Edition.the-variants.{Dino21}
 use Rattle.tables.specs.Columns.{columnsOf, number}
 use Rattle.tables.specs.declared.Table.{Table}
 use Rattle.values.specs.Values.{badCell}
@@ -23,17 +22,17 @@ use Rattle.rules.specs.Points.{pointsNamed, NamedIn}
 use Rattle.rules.proofs.Points.{entered-named}
 use Rattle.header.specs.Header.{Header, cutCheck, contents, headerOf, topFaults}
 use Rattle.row_line.specs.RowLine.{rowRead}
-use Rattle.table_lines.specs.Reading.{judged, lineAfter, rowsRead}
+use Rattle.table_lines.specs.Reading.{judged, rowsRead}
 use Rattle.table_reading.specs.Reading.{tableRead}
 
 -- a line that passes has its references
-passes-known : (t : Table) (h : Header) (line : Bytes) (b : Book) → judged t h line b ≡ Passes → unknown t (rowRead Dino21 t h line) b ≡ Passes
+passes-known : (t : Table) (h : Header) (line : Bytes) (b : Book) → judged t h line b ≡ Passes → unknown t (rowRead (b .edition) t h line) b ≡ Passes
 unfolding judged
 passes-known t h line b p =
-    let row = rowRead Dino21 t h line in
-    let cells = badCell 1 (columnsOf Dino21 t) (contents Dino21 t h (cellsOf (cut line))) in
-    let behind-5 = both (tooManyRows when full t b) (cutCheck h line ⊳ cells ⊳ ruled t row b) p .1 in
-    let behind-7 = both (cutCheck h line) (cells ⊳ ruled t row b) behind-5 .1 in
+    let row = rowRead (b .edition) t h line in
+    let cells = badCell 1 (columnsOf (b .edition) t) (contents (b .edition) t h (cellsOf (cut (b .edition) line))) in
+    let behind-5 = both (tooManyRows when full t b) (cutCheck (b .edition) h line ⊳ cells ⊳ ruled t row b) p .1 in
+    let behind-7 = both (cutCheck (b .edition) h line) (cells ⊳ ruled t row b) behind-5 .1 in
     let behind-8 = both cells (ruled t row b) behind-7 .1 in
     let behind-11 = both (endsEarly when timeFault t row) (keyStands when knows t row b ⊳ unknown t row b) behind-8 .1 in
     both (keyStands when knows t row b) (unknown t row b) behind-11 .1
@@ -42,10 +41,10 @@ rows-named : (t : Table) (h : Header) (i : ℕ) (ls : List Bytes) (b : Book) →
 unfolding rowsRead
 rows-named t h i [] b e = e
 rows-named t h i (l ∷ ls) b e =
-    go (judged t h l b) refl (λ p. rows-named t h (lineAfter i l) ls (entered t (rowRead Dino21 t h l) b) (entered-named t (rowRead Dino21 t h l) b (passes-known t h l b p) e))
+    go (judged t h l b) refl (λ p. rows-named t h (lineAfter (b .edition) i l) ls (entered t (rowRead (b .edition) t h l) b) (entered-named t (rowRead (b .edition) t h l) b (passes-known t h l b p) e))
   where
-    go : (c : Check) → judged t h l b ≡ c → (judged t h l b ≡ Passes → NamedIn (rowsRead t h (lineAfter i l) ls (entered t (rowRead Dino21 t h l) b)))
-        → NamedIn (unless (placed (number t) i c) (rowsRead t h (lineAfter i l) ls (entered t (rowRead Dino21 t h l) b)))
+    go : (c : Check) → judged t h l b ≡ c → (judged t h l b ≡ Passes → NamedIn (rowsRead t h (lineAfter (b .edition) i l) ls (entered t (rowRead (b .edition) t h l) b)))
+        → NamedIn (unless (placed (number t) i c) (rowsRead t h (lineAfter (b .edition) i l) ls (entered t (rowRead (b .edition) t h l) b)))
     go Passes q k = k q
     go (Fails n m) q k = tt
 
@@ -53,7 +52,7 @@ module _ (t : Table) (h : Header) (i : ℕ) (b : Book) (left : Result) where
   pub rows-left : (ls : List Bytes) → left ≡ rowsRead t h i ls b → pointsNamed b ≡ true → NamedIn left
   rows-left ls e p = subst NamedIn (sym e) (rows-named t h i ls b p)
 
-  pub line-left : (l : Bytes) → left ≡ unless (placed (number t) i (judged t h l b)) (leaves (entered t (rowRead Dino21 t h l) b)) → pointsNamed b ≡ true → NamedIn left
+  pub line-left : (l : Bytes) → left ≡ unless (placed (number t) i (judged t h l b)) (leaves (entered t (rowRead (b .edition) t h l) b)) → pointsNamed b ≡ true → NamedIn left
   unfolding rowsRead
   line-left l e p = rows-left (l ∷ []) e p
 
@@ -63,7 +62,7 @@ unless-named (Refused p) r k = tt
 
 table-named : (t : Table) (s : Bytes) (b : Book) → pointsNamed b ≡ true → NamedIn (tableRead t s b)
 unfolding tableRead
-table-named t s b e = unless-named (topFaults Dino21 t s) _ (rows-named t (headerOf Dino21 t s) (lineAfter 1 (headLine (lines s))) (rowLines (lines s)) b e)
+table-named t s b e = unless-named (topFaults (b .edition) t s) _ (rows-named t (headerOf (b .edition) t s) (lineAfter (b .edition) 1 (headLine (lines (b .edition) s))) (rowLines (lines (b .edition) s)) b e)
 
 pub table-left : (t : Table) (s : Bytes) (b : Book) (left : Result) → left ≡ tableRead t s b → pointsNamed b ≡ true → NamedIn left
 table-left t s b left e p = subst NamedIn (sym e) (table-named t s b p)

@@ -2,7 +2,7 @@
 use mathlib.Core.Path.{_≡_, ap, _∙_, subst, sym}
 use mathlib.Core.List.{List}
 use mathlib.Core.Bool.{true}
-use Prim.Native.Nat.{ℕ, suc, _+_, _-_, _≤_}
+use Prim.Native.Nat.{ℕ, suc, _+_, _-_, _≤_, _<_, _^_}
 use native.Mathlib.Omega.{arith}
 use native.Mathlib.Numerals.{add-one}
 use lib.ListN.{length, take, drop, length-take, length-drop}
@@ -15,15 +15,16 @@ use Rattle.refusals.specs.declared.Place.{Place}
 use Rattle.refusals.specs.declared.Verdict.{Verdict}
 use Rattle.refusals.specs.declared.Verdict.the-variants.{Accepted, Refused}
 use Rattle.refusals.proofs.Placing.{placed-passes}
-use Rattle.lines.specs.Lines.{lines}
-use Rattle.tables.specs.declared.Edition.the-variants.{Dino21}
+use Rattle.lines.specs.Lines.{lines, headLine}
+use Rattle.lines.proofs.Starting.{line-after, head-few}
+use Rattle.editions.specs.declared.Edition.{Edition}
 use Rattle.tables.specs.Columns.{number}
 use Rattle.tables.specs.declared.Table.{Table}
 use Rattle.book.specs.Room.{laid, bookOf}
 use Rattle.book.specs.Holding.{Sound, resultOf}
-use Rattle.book.specs.Book.{Book, empty, entered}
+use Rattle.book.specs.Book.{Book, emptyBy, entered}
 use Rattle.book.specs.Result.{Result, leaves, unless}
-use Rattle.book.proofs.Laying.{orderly-empty, sound-laid, book-laid}
+use Rattle.book.proofs.Laying.{sound-begun, book-begun}
 use Rattle.rules.specs.Points.{pointsNamed}
 use Rattle.intake.specs.Shelving.{shelfBook, OnShelf}
 use Rattle.intake.proofs.Shelving.{sound-shelf, book-shelf}
@@ -32,7 +33,7 @@ use Rattle.header.specs.Heading.{places}
 use Rattle.header.specs.Top.{TopOf}
 use Rattle.header.specs.declared.Top.{Top}
 use Rattle.row_line.specs.RowLine.{rowRead}
-use Rattle.table_lines.specs.Reading.{judged, lineAfter, rowsRead}
+use Rattle.table_lines.specs.Reading.{judged, rowsRead}
 use Rattle.table_lines.specs.Taking.{Taken, linesAfter}
 use Rattle.table_reading.specs.Reading.{tableRead}
 use Rattle.table_reading.specs.Taking.{RowsTaken, LineTaken}
@@ -53,18 +54,18 @@ not-accepted p e = let z : _≡_ {A = ℕ} 0 1 = cc in absurd (omega arith)
 
 -- the lines of a text on the shelf, from line i on
 module _ (t : Table) (at : List ℕ) (s : Bytes) (i : ℕ) (xs : List Row) (v : Verdict) (b : Book) (headed : (h : Header) × (at ≡ places h)) (named : pointsNamed (bookOf xs) ≡ true)
-    (is : (h : Header) → at ≡ places h → unless v (leaves b) ≡ rowsRead t h i (lines s) (bookOf xs)) where
-  pub rows-accepted : v ≡ Accepted → (ys : List Row) → Sound ys × (bookOf ys ≡ b) → (next : ℕ) → next ≡ linesAfter i (lines s)
+    (is : (h : Header) → at ≡ places h → unless v (leaves b) ≡ rowsRead t h i (lines (bookOf xs .edition) s) (bookOf xs)) where
+  pub rows-accepted : v ≡ Accepted → (ys : List Row) → Sound ys × (bookOf ys ≡ b) → (next : ℕ) → next ≡ linesAfter (bookOf xs .edition) i (lines (bookOf xs .edition) s)
       → RowsTaken t at s i xs ys (record { verdict = Accepted; line = next })
   rows-accepted a ys left next k =
-      record { sound = left .0; named = rows-left t (headed .0) i (bookOf xs) _ (lines s) (taken (headed .0) (headed .1)) named; next = λ e. k; taken = taken }
+      record { sound = left .0; named = rows-left t (headed .0) i (bookOf xs) _ (lines (bookOf xs .edition) s) (taken (headed .0) (headed .1)) named; next = λ e. k; taken = taken }
     where
-      taken : (h : Header) → at ≡ places h → resultOf Accepted ys ≡ rowsRead t h i (lines s) (bookOf xs)
-      taken h e = ap leaves (left .1) ∙ subst (λ (x : Verdict). unless x (leaves b) ≡ rowsRead t h i (lines s) (bookOf xs)) a (is h e)
+      taken : (h : Header) → at ≡ places h → resultOf Accepted ys ≡ rowsRead t h i (lines (bookOf xs .edition) s) (bookOf xs)
+      taken h e = ap leaves (left .1) ∙ subst (λ (x : Verdict). unless x (leaves b) ≡ rowsRead t h i (lines (bookOf xs .edition) s) (bookOf xs)) a (is h e)
 
   pub rows-refused : (p : Place) → v ≡ Refused p → Sound xs → (next : ℕ) → RowsTaken t at s i xs xs (record { verdict = Refused p; line = next })
   rows-refused p a sound next =
-      record { sound = sound; named = tt; next = not-accepted p; taken = λ h e. subst (λ (x : Verdict). unless x (leaves b) ≡ rowsRead t h i (lines s) (bookOf xs)) a (is h e) }
+      record { sound = sound; named = tt; next = not-accepted p; taken = λ h e. subst (λ (x : Verdict). unless x (leaves b) ≡ rowsRead t h i (lines (bookOf xs .edition) s) (bookOf xs)) a (is h e) }
 
 -- one line on the shelf, which is line i
 pub check-passes : (table i : ℕ) (c : Check) (v : Verdict) → v ≡ placed table i c → v ≡ Accepted → c ≡ Passes
@@ -74,7 +75,7 @@ module _ (t : Table) (at : List ℕ) (line : Bytes) (i : ℕ) (xs : List Row) (b
     (headed : (h : Header) × (at ≡ places h)) (named : pointsNamed (bookOf xs) ≡ true) (k : (h : Header) → at ≡ places h → Taken t h line b d c) where
   -- what the line comes to
   abbrev after : Header → Result
-  after h = unless (placed (number t) i (judged t h line (bookOf xs))) (leaves (entered t (rowRead Dino21 t h line) (bookOf xs)))
+  after h = unless (placed (number t) i (judged t h line (bookOf xs))) (leaves (entered t (rowRead (bookOf xs .edition) t h line) (bookOf xs)))
 
   judged-so : (h : Header) → at ≡ places h → c ≡ judged t h line (bookOf xs)
   judged-so h e = k h e .is ∙ ap (judged t h line) same
@@ -87,7 +88,7 @@ module _ (t : Table) (at : List ℕ) (line : Bytes) (i : ℕ) (xs : List Row) (b
       is h e =
           let p : c ≡ Passes = check-passes (number t) i c v o a in
           let q : judged t h line (bookOf xs) ≡ Passes = sym (judged-so h e) ∙ p in
-          rw q (ap leaves (left .1 ∙ k h e .enters p ∙ ap (entered t (rowRead Dino21 t h line)) same))
+          rw q (ap leaves (left .1 ∙ k h e .enters p ∙ ap (λ (x : Book). entered t (rowRead (x .edition) t h line) x) same))
 
   pub line-refused : (p : Place) → v ≡ Refused p → Sound xs → LineTaken t at line i xs xs (Refused p)
   line-refused p a sound = record { sound = sound; named = tt; taken = is }
@@ -105,21 +106,32 @@ rest-whole : (s : Bytes) (n : ℕ) → take (length s - n) (drop n s) ≡ drop n
 rest-whole s n = take-all (length s - n) (drop n s) (rw length-drop (omega arith))
 
 -- the rows below it
-module _ (t : Table) (s : Bytes) (top : Top) (o : TopOf Dino21 t s top) where
-  pub table-refused : (b : Book) (xs : List Row) (p : Place) → top .verdict ≡ Refused p → resultOf (Refused p) xs ≡ tableRead t s b
-  unfolding tableRead
-  table-refused b xs p e = let z : topFaults Dino21 t s ≡ Refused p = sym (o .is) ∙ e in rw z
+module _ (t : Table) (s : Bytes) (top : Top) (xs : List Row) (e : Edition) (same : e ≡ bookOf xs .edition) (o : TopOf e t s top) where
+  by-book : TopOf (bookOf xs .edition) t s top
+  by-book = subst (λ (d : Edition). TopOf d t s top) same o
 
-  pub table-rows : (a : top .verdict ≡ Accepted) (xs ys : List Row) (r : Reached) → RowsTaken t (top .at) (take (length s - top .next) (drop (top .next) s)) 2 xs ys r → resultOf (r .verdict) ys ≡ tableRead t s (bookOf xs)
-  unfolding tableRead lineAfter
-  table-rows a xs ys r w =
-      let z : topFaults Dino21 t s ≡ Accepted = sym (o .is) ∙ a in
-      w .taken (headerOf Dino21 t s) (o .kept a .headed) ∙ rw (z, rest-whole s (top .next), o .kept a .rest)
+  pub table-refused : (p : Place) → top .verdict ≡ Refused p → resultOf (Refused p) xs ≡ tableRead t s (bookOf xs)
+  unfolding tableRead
+  table-refused p q = let z : topFaults (bookOf xs .edition) t s ≡ Refused p = sym (by-book .is) ∙ q in rw z
+
+  pub table-rows : (a : top .verdict ≡ Accepted) (ys : List Row) (r : Reached) → RowsTaken t (top .at) (take (length s - top .next) (drop (top .next) s)) (top .line) xs ys r → resultOf (r .verdict) ys ≡ tableRead t s (bookOf xs)
+  unfolding tableRead
+  table-rows a ys r w =
+      let z : topFaults (bookOf xs .edition) t s ≡ Accepted = sym (by-book .is) ∙ a in
+      let kept = by-book .kept a in
+      w .taken (headerOf (bookOf xs .edition) t s) (kept .headed) ∙ rw (z, rest-whole s (top .next), kept .rest, kept .first)
+
+  -- the lines of a text do not overflow
+  pub few-lines : (a : top .verdict ≡ Accepted) → top .line + length (take (length s - top .next) (drop (top .next) s)) + 1 < 2 ^ 64
+  few-lines a =
+      let kept = by-book .kept a in
+      let d = bookOf xs .edition in
+      omega (arith, rest-length s (top .next), kept .short, kept .first, line-after d 1 (headLine (lines d s)), head-few d s)
 
 -- a delivery ------------------------------------------------------------------------------------------------------------------------
 
-pub sound-empty : (ys : List Row) → ys ≡ laid empty → Sound ys
-sound-empty ys e = rw e (sound-laid empty orderly-empty)
+pub sound-empty : (d : Edition) (ys : List Row) → ys ≡ laid (emptyBy d) → Sound ys
+sound-empty d ys e = rw e (sound-begun d)
 
-pub book-empty : (ys : List Row) → ys ≡ laid empty → bookOf ys ≡ empty
-book-empty ys e = rw e (book-laid empty orderly-empty)
+pub book-empty : (d : Edition) (ys : List Row) → ys ≡ laid (emptyBy d) → bookOf ys ≡ emptyBy d
+book-empty d ys e = rw e (book-begun d)

@@ -8,7 +8,6 @@ use Rattle.refusals.specs.Verdicts.{placed}
 use Rattle.refusals.specs.declared.Verdict.{Verdict}
 use Rattle.refusals.specs.declared.Verdict.the-variants.{Accepted}
 use Rattle.lines.specs.Lines.{lines}
-use Rattle.tables.specs.declared.Edition.the-variants.{Dino21}
 use Rattle.tables.specs.Columns.{number}
 use Rattle.tables.specs.declared.Table.{Table}
 use Rattle.book.specs.Book.{entered}
@@ -27,12 +26,12 @@ use Rattle.table_reading.specs.declared.Taken.{Taken}
 pub record RowsTaken (t : Table) (at : List ℕ) (s : Bytes) (i : ℕ) (slice slice′ : List Row) (r : Taken) : Type 0 where
   pub sound : Sound slice′
   pub named : NamedIn (resultOf (r .verdict) slice′)
-  pub next : r .verdict ≡ Accepted → r .line ≡ linesAfter i (lines s)
-  pub taken : (h : Header) → at ≡ places h → resultOf (r .verdict) slice′ ≡ rowsRead t h i (lines s) (bookOf slice)
+  pub next : r .verdict ≡ Accepted → r .line ≡ linesAfter (bookOf slice .edition) i (lines (bookOf slice .edition) s)
+  pub taken : (h : Header) → at ≡ places h → resultOf (r .verdict) slice′ ≡ rowsRead t h i (lines (bookOf slice .edition) s) (bookOf slice)
 
 -- and one line, which is line i
 pub record LineTaken (t : Table) (at : List ℕ) (line : Bytes) (i : ℕ) (slice slice′ : List Row) (v : Verdict) : Type 0 where
   pub sound : Sound slice′
   pub named : NamedIn (resultOf v slice′)
   pub taken : (h : Header) → at ≡ places h →
-      resultOf v slice′ ≡ unless (placed (number t) i (judged t h line (bookOf slice))) (leaves (entered t (rowRead Dino21 t h line) (bookOf slice)))
+      resultOf v slice′ ≡ unless (placed (number t) i (judged t h line (bookOf slice))) (leaves (entered t (rowRead (bookOf slice .edition) t h line) (bookOf slice)))

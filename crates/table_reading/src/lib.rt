@@ -16,7 +16,6 @@ use rows::ROWS;
 use rows::Row;
 use table_lines::Reached;
 use tables::Columns;
-use tables::Edition;
 use tables::Table;
 
 // Rows taken: what they are refused for, and the number of the next line where they are not.
@@ -24,9 +23,6 @@ pub struct Taken {
     pub verdict: Verdict,
     pub line: u64,
 }
-
-// The line of the first row, behind the header's.
-const FIRST_ROW: u64 = 2;
 
 // The rows of a text, from any line on, into their table. They stand on a shelf while they are read, since a row that comes before others
 // would move these in the book. A refused table leaves the book as it was.
@@ -38,7 +34,7 @@ pub fn take_rows(
     at: &Places,
     book: &mut [Row],
 ) -> Taken
-    requires { ⌜ Guided Edition.Dino21 t (now columns) (now at) × Sound (now book) × (pointsNamed (bookOf (now book)) ≡ true) × (first + length (now bytes) < 2 ^ 64) ⌝ }
+    requires { ⌜ Guided (bookOf (now book) .edition) t (now columns) (now at) × Sound (now book) × (pointsNamed (bookOf (now book)) ≡ true) × (first + length (now bytes) + 1 < 2 ^ 64) ⌝ }
     ensures { λ r. ⌜ RowsTaken t (now (at .entry)) (now (bytes .entry)) first (now (book .entry)) (now (book .exit)) r ⌝ }
 {
     let mut slots = [[0u64; 11]; ROWS];
@@ -84,14 +80,15 @@ pub fn take_line(
     at: &Places,
     book: &mut [Row],
 ) -> Verdict
-    requires { ⌜ Guided Edition.Dino21 t (now columns) (now at) × Sound (now book) × (pointsNamed (bookOf (now book)) ≡ true) ⌝ }
+    requires { ⌜ Guided (bookOf (now book) .edition) t (now columns) (now at) × Sound (now book) × (pointsNamed (bookOf (now book)) ≡ true) ⌝ }
     ensures { λ r. ⌜ LineTaken t (now (at .entry)) (now (line .entry)) i (now (book .entry)) (now (book .exit)) r ⌝ }
 {
+    let edition = book::edition_of(&book[..]);
     let mut slots = [[0u64; 11]; ROWS];
     let mut order = [0u16; ROWS];
     let mut bounds = [0usize; BOUNDS];
     let n = intake::shelve(&book[..], t, &mut slots, &mut order);
-    let read = row_line::read_row(line, Edition::Dino21, t, columns, at, &mut bounds);
+    let read = row_line::read_row(line, edition, t, columns, at, &mut bounds);
     let check = table_lines::take_row(read, t, &book[..], &mut slots, &mut order, n);
     let verdict = check.on(t.number(), i);
     match verdict {
@@ -108,15 +105,17 @@ pub fn take_table(bytes: &[u8], t: Table, book: &mut [Row]) -> Verdict
     requires { ⌜ Sound (now book) × (pointsNamed (bookOf (now book)) ≡ true) ⌝ }
     ensures { λ r. ⌜ Sound (now (book .exit)) × (resultOf r (now (book .exit)) ≡ tableRead t (now (bytes .entry)) (bookOf (now (book .entry)))) × NamedIn (resultOf r (now (book .exit))) ⌝ }
 {
-    let columns = t.column_rules(Edition::Dino21);
-    let top = header::read_top(bytes, Edition::Dino21, t, &columns);
+    let edition = book::edition_of(&book[..]);
+    let columns = t.column_rules(edition);
+    let top = header::read_top(bytes, edition, t, &columns);
     let verdict = top.verdict;
     let at = top.at;
     let next = top.next;
+    let line = top.line;
     match verdict {
         Verdict::Refused(p) => Verdict::Refused(p),
         Verdict::Accepted => {
-            let taken = take_rows(&bytes[next..], FIRST_ROW, t, &columns, &at, book);
+            let taken = take_rows(&bytes[next..], line, t, &columns, &at, book);
             taken.verdict
         }
     }

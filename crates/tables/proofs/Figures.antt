@@ -9,8 +9,8 @@ use lib.ListN.{length, getD, take}
 use lib.Seq.{getD-take}
 use borrow.Author.Tests.{leb-true}
 use Rattle.words.proofs.Lists.{every, every-at, and-left, and-right}
-use Rattle.tables.specs.declared.Edition.{Edition}
-use Rattle.tables.specs.declared.Edition.the-variants.{Dino21, Dino23}
+use Rattle.editions.specs.declared.Edition.{Edition}
+use Rattle.editions.specs.declared.Edition.the-variants.{Dino21, Dino23}
 use Rattle.tables.specs.declared.Table.{Table}
 use Rattle.tables.specs.declared.Table.the-variants.{VehicleType, Depot, Stop, StopPoint, Block}
 use Rattle.tables.specs.Parts.{partOf}

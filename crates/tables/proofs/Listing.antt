@@ -12,8 +12,8 @@ use Rattle.tables.specs.declared.Rules.{Rules}
 use Rattle.tables.specs.declared.Sort.{Sort}
 use Rattle.tables.specs.Listing.{six, listing, listed, chosen}
 use Rattle.tables.specs.Columns.{Column, noColumn, columnsOf, columnAt}
-use Rattle.tables.specs.declared.Edition.{Edition}
-use Rattle.tables.specs.declared.Edition.the-variants.{Dino21, Dino23}
+use Rattle.editions.specs.declared.Edition.{Edition}
+use Rattle.editions.specs.declared.Edition.the-variants.{Dino21, Dino23}
 use Rattle.tables.specs.declared.Table.{Table}
 
 -- a column read back from its six numbers

@@ -9,8 +9,8 @@ use lib.Dec.{eqb}
 use Rattle.words.specs.Words.{Bytes, if_then_else_, same, bytes}
 use Rattle.words.proofs.Lists.{every}
 use Rattle.tables.specs.Columns.{Column, columnFrom, columnsOf, columnNumber}
-use Rattle.tables.specs.declared.Edition.{Edition}
-use Rattle.tables.specs.declared.Edition.the-variants.{Dino21, Dino23}
+use Rattle.editions.specs.declared.Edition.{Edition}
+use Rattle.editions.specs.declared.Edition.the-variants.{Dino21, Dino23}
 use Rattle.tables.specs.declared.Table.{Table}
 use Rattle.tables.specs.declared.Table.the-variants.{VehicleType, Depot, Stop, StopPoint, Block}
 

@@ -9,8 +9,8 @@ use Rattle.words.specs.Words.{Bytes, bytes, if_then_else_, same}
 use Rattle.rows.specs.Rows.{rowNumbers}
 use Rattle.tables.specs.declared.Rules.{Rules}
 use Rattle.tables.specs.declared.Sort.the-variants.{Decimal, Text}
-use Rattle.tables.specs.declared.Edition.{Edition}
-use Rattle.tables.specs.declared.Edition.the-variants.{Dino21, Dino23}
+use Rattle.editions.specs.declared.Edition.{Edition}
+use Rattle.editions.specs.declared.Edition.the-variants.{Dino21, Dino23}
 use Rattle.tables.specs.declared.Table.{Table}
 use Rattle.tables.specs.declared.Table.the-variants.{VehicleType, Depot, Stop, StopPoint, Block}
 use Rattle.tables.specs.declared.Named.{Named}

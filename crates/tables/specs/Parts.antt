@@ -1,6 +1,6 @@
 -- The tables in the order of reading, and their rooms in the book.
 use mathlib.Core.List.{List, [], _∷_}
-use Prim.Native.Nat.{ℕ, _+_}
+use Prim.Native.Nat.{ℕ, _+_, suc}
 use lib.ListN.{take}
 use Rattle.rows.specs.Room.{mostRows}
 use Rattle.tables.specs.declared.Table.{Table}
@@ -35,6 +35,10 @@ rooms (t ∷ ts) = room t + rooms ts
 abbrev pub begin : Table → ℕ
 begin t = rooms (take (partOf t) tables)
 
--- how many rows a book has: the rooms of all its tables
+-- where the row of marks stands, in which "the delivery's edition, which the book keeps" is marked: behind the rooms of all tables
+abbrev pub marksAt : ℕ
+marksAt = rooms tables
+
+-- how many rows a book has: the rooms of all its tables, and the row of marks
 abbrev pub bookRows : ℕ
-bookRows = rooms tables
+bookRows = suc marksAt

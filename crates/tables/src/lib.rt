@@ -7,6 +7,7 @@ ghost use Rattle.words.specs.Words.{if_then_else_};
 ghost use Rattle.tables.specs.Columns.{columnAt, references, ref, columnsOf, number, keyWidth, keptWidth, numbered};
 ghost use Rattle.tables.specs.Listing.{columnRoom, listed, figuresOf, chosen};
 ghost use Rattle.tables.specs.Parts.{tables, room, begin};
+use editions::Edition;
 use refusals::Place;
 use rows::NUMBERS;
 use rows::ROWS;
@@ -18,12 +19,6 @@ pub type Column = [u64; 6];
 pub const COLUMN_ROOM: usize = 12;
 
 pub type Columns = [Column; COLUMN_ROOM];
-
-// Whose tables they are: DINO 2.1 or 2.3, one for a whole delivery.
-pub enum Edition {
-    Dino21,
-    Dino23,
-}
 
 pub enum Table {
     VehicleType,
@@ -242,8 +237,11 @@ const ARRIVAL_POINT: Reference = Reference {
     to: Table::StopPoint,
 };
 
-// How many rows a lent book has: the rooms of all tables.
-pub const BOOK_ROWS: usize = Table::COUNT * ROWS;
+// Where the row of marks stands in a lent book: behind the rooms of all tables.
+pub const MARKS: usize = Table::COUNT * ROWS;
+
+// How many rows a lent book has: the rooms of all tables, and the row of marks.
+pub const BOOK_ROWS: usize = MARKS + 1;
 
 // What the cells of the column at place i, counted from 0, must keep to, of the columns that a table handed out.
 pub fn rules_at(columns: &Columns, i: usize) -> Rules
@@ -393,11 +391,11 @@ impl Table {
         ensures { λ r. ⌜ r ≡ listed edition self ⌝ }
     {
         match self {
-            Table::VehicleType => edition.choose(VEHICLE_TYPE_COLUMNS, VEHICLE_TYPE_COLUMNS_23),
+            Table::VehicleType => choose(edition, VEHICLE_TYPE_COLUMNS, VEHICLE_TYPE_COLUMNS_23),
             Table::Depot => DEPOT_COLUMNS,
-            Table::Stop => edition.choose(STOP_COLUMNS, STOP_COLUMNS_23),
+            Table::Stop => choose(edition, STOP_COLUMNS, STOP_COLUMNS_23),
             Table::StopPoint => STOP_POINT_COLUMNS,
-            Table::Block => edition.choose(BLOCK_COLUMNS, BLOCK_COLUMNS_23),
+            Table::Block => choose(edition, BLOCK_COLUMNS, BLOCK_COLUMNS_23),
         }
     }
 
@@ -412,15 +410,13 @@ impl Table {
     }
 }
 
-impl Edition {
-    // The columns of a table that differ by edition.
-    fn choose(self, by21: Columns, by23: Columns) -> Columns
-        ensures { λ r. ⌜ r ≡ chosen self by21 by23 ⌝ }
-    {
-        match self {
-            Edition::Dino21 => by21,
-            Edition::Dino23 => by23,
-        }
+// The columns of a table that differ by edition.
+fn choose(edition: Edition, by21: Columns, by23: Columns) -> Columns
+    ensures { λ r. ⌜ r ≡ chosen edition by21 by23 ⌝ }
+{
+    match edition {
+        Edition::Dino21 => by21,
+        Edition::Dino23 => by23,
     }
 }
 

@@ -18,7 +18,7 @@ use Rattle.tables.specs.declared.Sort.{Sort}
 use Rattle.tables.specs.declared.Sort.the-variants.{Decimal, Text}
 use Rattle.tables.specs.declared.Rules.{Rules}
 use Rattle.tables.specs.Columns.{inRange, columnAt, keptWidth}
-use Rattle.tables.specs.declared.Edition.{Edition}
+use Rattle.editions.specs.declared.Edition.{Edition}
 use Rattle.tables.specs.declared.Table.{Table}
 use Rattle.tables.proofs.Figures.{kept-decimal, kept-required, decimal-width}
 use Rattle.values.specs.Values.{cellCheck, saidCheck}

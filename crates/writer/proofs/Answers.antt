@@ -14,6 +14,8 @@ use Rattle.refusals.specs.declared.Verdict.the-variants.{Accepted}
 use Rattle.cells.specs.Cells.{parted}
 use Rattle.numbers.specs.Putting.{put}
 use Rattle.rows.proofs.Room.{used-take}
+use Rattle.editions.specs.declared.Edition.{Edition}
+use Rattle.editions.specs.declared.Edition.the-variants.{Dino21, Dino23}
 use Rattle.tables.specs.Columns.{columnsOf}
 use Rattle.tables.specs.declared.Table.the-variants.{Block}
 use Rattle.book.specs.Room.{part, bookOf}
@@ -47,6 +49,12 @@ line-first l ls = sym (append-assoc l (10 ∷ []) (linesWritten ls))
 
 pub line-first-length : (l : Bytes) (ls : List Bytes) → length (linesWritten (l ∷ ls)) ≡ length l + 1 + length (linesWritten ls)
 line-first-length l ls = rw (line-first l ls) (simp length-append)
+
+-- "The written table has the 11 names above in order": by every edition a block's columns have these names
+pub names-alike : (e : Edition) → map (λ x. x .name) (columnsOf e Block) ≡ map (λ x. x .name) (columnsOf Dino21 Block)
+unfolding columnsOf
+names-alike Dino21 = refl
+names-alike Dino23 = refl
 
 pub header-length : length namesLine + 1 ≡ 145
 unfolding columnsOf parted bytes

@@ -3,7 +3,7 @@ use mathlib.Core.List.{List, [], _∷_, _++_, map}
 use Rattle.words.specs.Words.{Bytes, Row}
 use Rattle.cells.specs.Cells.{parted}
 use Rattle.numbers.specs.Numbers.{decimal}
-use Rattle.tables.specs.declared.Edition.the-variants.{Dino21}
+use Rattle.editions.specs.declared.Edition.the-variants.{Dino21}
 use Rattle.tables.specs.Columns.{columnsOf}
 use Rattle.tables.specs.declared.Table.the-variants.{Block}
 use Rattle.book.specs.Book.{Book}

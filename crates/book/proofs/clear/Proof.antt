@@ -1,4 +1,4 @@
--- `book::clear` meets its contract: every row is zero, in four parts as in one. Assumes nothing.
+-- `book::clear` meets its contract: every row is zero, the row of marks too. Assumes nothing.
 use mathlib.Core.Path.{_∙_}
 use borrow.Author.Needs.{needs}
 use Rattle.book.proofs.Laying as laying

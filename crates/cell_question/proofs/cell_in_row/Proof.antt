@@ -48,7 +48,7 @@ begin-of-requires c κs = c .before .before .before .before .before .cut-row .en
 add-from : tie.Need-add-from
 add-from c =
     let st = c .before .before .before .before .before .before .before .before .before .before in
-    omega (arith, c .begin-of .ensures, begin-within (st .args .row .now) _ (getD (st .args .at .now) 0 0) (getD (st .args .at .now) (st .args .column) 0) (c .before .before .before .before .before .before .cut-row .ensures .marks (c .before .before .before .enum-told2 .given .1)), st .pre .0)
+    omega (arith, c .begin-of .ensures, begin-within (st .args .edition) (st .args .row .now) _ (getD (st .args .at .now) 0 0) (getD (st .args .at .now) (st .args .column) 0) (c .before .before .before .before .before .before .cut-row .ensures .marks (c .before .before .before .enum-told2 .given .1)), st .pre .0)
 
 slice-aggregate-cell-of : tie.Need-slice-aggregate-cell-of
 slice-aggregate-cell-of c = search needs
@@ -60,7 +60,7 @@ judged-cell-requires : tie.Need-judged-cell-requires
 judged-cell-requires c κs =
     let st = c .before .before .before .before .before .before .before .before .before .before .before .before in
     let m = c .before .before .before .before .before .before .before .before .cut-row .ensures .marks (c .before .before .before .before .before .enum-told2 .given .1) in
-    (omega (arith, c .before .before .begin-of .ensures, begin-within (st .args .row .now) _ (getD (st .args .at .now) 0 0) (getD (st .args .at .now) (st .args .column) 0) m, st .pre .0), st .pre .1, omega (arith, st .pre .2), st .pre .4)
+    (omega (arith, c .before .before .begin-of .ensures, begin-within (st .args .edition) (st .args .row .now) _ (getD (st .args .at .now) 0 0) (getD (st .args .at .now) (st .args .column) 0) m, st .pre .0), st .pre .1, omega (arith, st .pre .2), st .pre .4)
 
 returns : tie.Need-returns
 returns c =
@@ -68,7 +68,7 @@ returns c =
     let g = c .before .before .enum-told .given in
     λ h k.
     fault-answer (a .line) (c .refused .result) (c .before .before .before .before .before .cut-row .result) (c .before .number .result) (number (a .t)) (g .0 .0) (g .0 .1 .0) (g .0 .1 .0) (c .refused .ensures) (g .1) refl (c .before .number .ensures)
-    ∙ row-refused (a .t) h (a .line) (a .column) (a .begin) (a .row .now) (g .0 .0) (g .0 .1 .0) (sym (c .before .before .before .before .before .cut-row .ensures .is h (ap cellsKept k)) ∙ g .1)
+    ∙ row-refused (a .edition) (a .t) h (a .line) (a .column) (a .begin) (a .row .now) (g .0 .0) (g .0 .1 .0) (sym (c .before .before .before .before .before .cut-row .ensures .is h (ap cellsKept k)) ∙ g .1)
 
 returns-2 : tie.Need-returns-2
 returns-2 c =
@@ -78,8 +78,8 @@ returns-2 c =
     let from = a .begin + c .before .before .before .begin-of .result in
     λ h k.
     c .judged-cell .ensures
-    ∙ ap (λ (cell : Bytes). cellJudged (a .t) (a .line) (a .column) from cell) (c .before .cell-of .ensures)
-    ∙ row-cell (a .t) h (a .line) (a .column) (a .begin) (a .row .now) (a .at .now) _ (getD (a .at .now) 0 0) (getD (a .at .now) (a .column) 0) from (sym (c .before .before .before .before .before .before .before .before .before .cut-row .ensures .is h (ap cellsKept k)) ∙ passes) (c .before .before .before .before .before .before .before .before .before .cut-row .ensures .marks passes) (ap cellsKept k) k (st .pre .1) (st .pre .2) refl (ap (λ (x : ℕ). a .begin + x) (c .before .before .before .begin-of .ensures))
+    ∙ ap (λ (cell : Bytes). cellJudged (a .edition) (a .t) (a .line) (a .column) from cell) (c .before .cell-of .ensures)
+    ∙ row-cell (a .edition) (a .t) h (a .line) (a .column) (a .begin) (a .row .now) (a .at .now) _ (getD (a .at .now) 0 0) (getD (a .at .now) (a .column) 0) from (sym (c .before .before .before .before .before .before .before .before .before .cut-row .ensures .is h (ap cellsKept k)) ∙ passes) (c .before .before .before .before .before .before .before .before .before .cut-row .ensures .marks passes) (ap cellsKept k) k (st .pre .1) (st .pre .2) refl (ap (λ (x : ℕ). a .begin + x) (c .before .before .before .begin-of .ensures))
 
 pub cell-in-row-spec : {M : Type 1} → statement M
 cell-in-row-spec =

@@ -5,7 +5,6 @@ use native.Mathlib.Omega.{arith}
 use lib.ListN.{length}
 use borrow.Author.Needs.{needs}
 use Rattle.refusals.specs.declared.Cell.the-variants.{Empty}
-use Rattle.tables.specs.declared.Edition.the-variants.{Dino21}
 use Rattle.tables.specs.Columns.{columnsOf}
 use Rattle.cell_question.proofs.Asking.{column-zero, column-past, top-refused}
 use Rattle.cell_question.proofs.cell_in_table.Statement.{statement}
@@ -17,7 +16,7 @@ not-there-requires c κs = search needs
 returns : tie.Need-returns
 returns c =
     let a = c .before .before .before .args in
-    c .not-there .ensures Empty ∙ column-zero (a .t) (a .bytes .now) (a .line) (a .column) (c .before .if1 .taken)
+    c .not-there .ensures Empty ∙ column-zero (a .edition) (a .t) (a .bytes .now) (a .line) (a .column) (c .before .if1 .taken)
 
 columns-requires : tie.Need-columns-requires
 columns-requires c κs = search needs
@@ -31,7 +30,7 @@ not-there-requires-2 c κs = search needs
 returns-2 : tie.Need-returns-2
 returns-2 c =
     let a = c .before .before .before .before .before .before .args in
-    c .not-there2 .ensures Empty ∙ column-past (a .t) (a .bytes .now) (a .line) (a .column) (c .before .before .before .before .if1 .left) (omega (arith, c .before .if2 .taken, c .before .before .wide .ensures, c .before .before .before .columns .ensures))
+    c .not-there2 .ensures Empty ∙ column-past (a .edition) (a .t) (a .bytes .now) (a .line) (a .column) (c .before .before .before .before .if1 .left) (omega (arith, c .before .if2 .taken, c .before .before .wide .ensures, c .before .before .before .columns .ensures))
 
 column-rules-requires : tie.Need-column-rules-requires
 column-rules-requires c κs = search needs
@@ -47,18 +46,17 @@ enum-told c = search needs
 
 cell-on-line-requires : tie.Need-cell-on-line-requires
 cell-on-line-requires c κs =
-    let a = c .before .before .before .before .before .before .before .before .before .before .before .before .before .args in
-    let known : a .column ≤ length (columnsOf Dino21 (a .t)) = omega (arith, c .before .before .before .before .before .before .before .before .if2 .left, c .before .before .before .before .before .before .before .before .before .wide .ensures, c .before .before .before .before .before .before .before .before .before .before .columns .ensures) in
-    let top = c .before .before .before .before .before .read-top in
-    let accepted = c .before .before .enum-told .given .1 in
-    let kept = top .ensures .kept accepted in
-    (kept .short, omega (arith, c .before .before .before .before .before .before .before .before .before .before .before .if1 .left), known, kept .few, sym (top .ensures .is) ∙ accepted, kept .headed, c .before .before .before .before .before .before .before .column-rules .ensures)
+    let a = c .before .before .before .before .before .before .before .before .before .before .before .args in
+    let known : a .column ≤ length (columnsOf (a .edition) (a .t)) = omega (arith, c .before .before .before .before .before .before .if2 .left, c .before .before .before .before .before .before .before .wide .ensures, c .before .before .before .before .before .before .before .before .columns .ensures) in
+    let top = c .before .before .before .read-top in
+    let accepted = c .before .enum-told .given .1 in
+    (omega (arith, c .before .before .before .before .before .before .before .before .before .if1 .left), known, top .ensures .kept accepted, sym (top .ensures .is) ∙ accepted, c .before .before .before .before .before .column-rules .ensures)
 
 returns-3 : tie.Need-returns-3
 returns-3 c =
-    let a = c .before .before .before .before .before .before .before .before .before .before .before .before .args in
-    let known : a .column ≤ length (columnsOf Dino21 (a .t)) = omega (arith, c .before .before .before .before .before .before .before .if2 .left, c .before .before .before .before .before .before .before .before .wide .ensures, c .before .before .before .before .before .before .before .before .before .columns .ensures) in
-    top-refused (a .t) (a .bytes .now) (a .line) (a .column) (c .before .before .before .before .before .before .before .before .before .before .if1 .left) known _ (sym (c .before .before .before .before .read-top .ensures .is) ∙ c .before .verdict .given .1)
+    let a = c .before .before .before .before .before .before .before .before .before .before .before .args in
+    let known : a .column ≤ length (columnsOf (a .edition) (a .t)) = omega (arith, c .before .before .before .before .before .before .if2 .left, c .before .before .before .before .before .before .before .wide .ensures, c .before .before .before .before .before .before .before .before .columns .ensures) in
+    top-refused (a .edition) (a .t) (a .bytes .now) (a .line) (a .column) (c .before .before .before .before .before .before .before .before .before .if1 .left) known _ (sym (c .before .before .before .read-top .ensures .is) ∙ c .before .verdict .given .1)
 
 returns-4 : tie.Need-returns-4
 returns-4 c = search needs

@@ -1,12 +1,13 @@
 -- `cell_question::judged_cell` meets its contract: by the value that the cell has to its column. Assumes nothing.
 use mathlib.Core.Path.{ap, _∙_}
+use mathlib.Core.Bool.{Bool}
 use Prim.Native.Nat.{_-_}
 use borrow.Author.Needs.{needs}
+use Rattle.refusals.specs.declared.Cell.the-variants.{Number}
 use Rattle.refusals.specs.declared.Verdict.the-variants.{Accepted}
-use Rattle.tables.specs.declared.Edition.the-variants.{Dino21}
 use Rattle.tables.specs.Columns.{number}
 use Rattle.values.specs.declared.Value.the-variants as value-is
-use Rattle.cell_question.specs.CellQuestion.{answered}
+use Rattle.cell_question.specs.CellQuestion.{answered, meant}
 use Rattle.cell_question.proofs.Asking.{judged-by, narrow-rules, fault-answer}
 use Rattle.cell_question.proofs.judged_cell.Statement.{statement}
 use Rattle.cell_question.proofs.judged_cell.Tie as tie
@@ -21,10 +22,16 @@ of-cell-requires : tie.Need-of-cell-requires
 of-cell-requires c κs =
     let st = c .before .before in
     let a = st .args in
-    λ e. narrow-rules (a .t) (a .column - 1) (c .rules-at .result) (c .rules-at .ensures Dino21 (a .t) (st .pre .3)) e
+    λ e. narrow-rules (a .edition) (a .t) (a .column - 1) (c .rules-at .result) (c .rules-at .ensures (a .edition) (a .t) (st .pre .3)) e
 
 enum-known-value : tie.Need-enum-known-value
 enum-known-value c = search needs
+
+is-equip-requires : tie.Need-is-equip-requires
+is-equip-requires c κs = search needs
+
+number-said-requires : tie.Need-number-said-requires
+number-said-requires c κs = search needs
 
 accepted-requires : tie.Need-accepted-requires
 accepted-requires c κs = search needs
@@ -61,21 +68,25 @@ refused-requires c κs = search needs
 
 returns : tie.Need-returns
 returns c =
-    let st = c .before .before .before .before .before .before .before in
+    let v = c .before .before .before .before in
+    let of = v .before .before in
+    let st = of .before .before .before in
     let a = st .args in
-    c .accepted .ensures ∙ judged-by (a .t) (a .line) (a .column) (a .at) (a .cell .now) (c .before .before .before .before .before .rules-at .result) (c .before .before .before .before .of-cell .result) (value-is.Number (c .before .before .value .given .0 .0)) (c .before .before .before .before .before .rules-at .ensures Dino21 (a .t) (st .pre .3)) (c .before .before .before .before .of-cell .ensures) (c .before .before .value .given .1)
+    let n = v .value .given .0 .0 in
+    c .accepted .ensures ∙ ap (answered Accepted) (c .before .number-said .ensures ∙ ap (λ (b : Bool). meant (a .edition) b (Number n)) (c .before .before .is-equip .ensures))
+    ∙ judged-by (a .edition) (a .t) (a .line) (a .column) (a .at) (a .cell .now) (of .before .rules-at .result) (of .of-cell .result) (value-is.Number n) (of .before .rules-at .ensures (a .edition) (a .t) (st .pre .3)) (of .of-cell .ensures) (v .value .given .1)
 
 returns-2 : tie.Need-returns-2
 returns-2 c =
     let st = c .before .before .before .before .before .before .before in
     let a = st .args in
-    c .accepted2 .ensures ∙ ap (answered Accepted) (c .before .text-said .ensures) ∙ judged-by (a .t) (a .line) (a .column) (a .at) (a .cell .now) (c .before .before .before .before .before .rules-at .result) (c .before .before .before .before .of-cell .result) (value-is.Text) (c .before .before .before .before .before .rules-at .ensures Dino21 (a .t) (st .pre .3)) (c .before .before .before .before .of-cell .ensures) (c .before .before .enum-told .given .1)
+    c .accepted2 .ensures ∙ ap (answered Accepted) (c .before .text-said .ensures) ∙ judged-by (a .edition) (a .t) (a .line) (a .column) (a .at) (a .cell .now) (c .before .before .before .before .before .rules-at .result) (c .before .before .before .before .of-cell .result) (value-is.Text) (c .before .before .before .before .before .rules-at .ensures (a .edition) (a .t) (st .pre .3)) (c .before .before .before .before .of-cell .ensures) (c .before .before .enum-told .given .1)
 
 returns-3 : tie.Need-returns-3
 returns-3 c =
     let st = c .before .before .before .before .before .before in
     let a = st .args in
-    c .accepted3 .ensures ∙ judged-by (a .t) (a .line) (a .column) (a .at) (a .cell .now) (c .before .before .before .before .rules-at .result) (c .before .before .before .of-cell .result) (value-is.Empty) (c .before .before .before .before .rules-at .ensures Dino21 (a .t) (st .pre .3)) (c .before .before .before .of-cell .ensures) (c .before .enum-told2 .given .1)
+    c .accepted3 .ensures ∙ judged-by (a .edition) (a .t) (a .line) (a .column) (a .at) (a .cell .now) (c .before .before .before .before .rules-at .result) (c .before .before .before .of-cell .result) (value-is.Empty) (c .before .before .before .before .rules-at .ensures (a .edition) (a .t) (st .pre .3)) (c .before .before .before .of-cell .ensures) (c .before .enum-told2 .given .1)
 
 returns-4 : tie.Need-returns-4
 returns-4 c =
@@ -83,7 +94,7 @@ returns-4 c =
     let of = v .before .before in
     let st = of .before .before .before in
     let a = st .args in
-    fault-answer (a .line) (c .refused .result) (c .before .before .fails .result) (c .before .number .result) (number (a .t)) (v .value2 .given .0 .0) (c .before .before .before .wide .result) (a .column) (c .refused .ensures) (c .before .before .fails .ensures) (c .before .before .before .wide .ensures) (c .before .number .ensures) ∙ judged-by (a .t) (a .line) (a .column) (a .at) (a .cell .now) (of .before .rules-at .result) (of .of-cell .result) (value-is.Bad (v .value2 .given .0 .0)) (of .before .rules-at .ensures Dino21 (a .t) (st .pre .3)) (of .of-cell .ensures) (v .value2 .given .1)
+    fault-answer (a .line) (c .refused .result) (c .before .before .fails .result) (c .before .number .result) (number (a .t)) (v .value2 .given .0 .0) (c .before .before .before .wide .result) (a .column) (c .refused .ensures) (c .before .before .fails .ensures) (c .before .before .before .wide .ensures) (c .before .number .ensures) ∙ judged-by (a .edition) (a .t) (a .line) (a .column) (a .at) (a .cell .now) (of .before .rules-at .result) (of .of-cell .result) (value-is.Bad (v .value2 .given .0 .0)) (of .before .rules-at .ensures (a .edition) (a .t) (st .pre .3)) (of .of-cell .ensures) (v .value2 .given .1)
 
 pub judged-cell-spec : {M : Type 1} → statement M
 judged-cell-spec =
@@ -93,6 +104,8 @@ judged-cell-spec =
     rules-at-requires
     of-cell-requires
     enum-known-value
+    is-equip-requires
+    number-said-requires
     accepted-requires
     enum-told
     text-said-requires

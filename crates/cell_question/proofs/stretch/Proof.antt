@@ -2,7 +2,7 @@
 use mathlib.Core.Path.{_≡_, refl, sym, ap, _∙_}
 use native.Mathlib.Omega.{arith}
 use borrow.Author.Needs.{needs}
-use Rattle.refusals.specs.declared.Cell.the-variants.{Text, Number, Empty}
+use Rattle.refusals.specs.declared.Cell.the-variants.{Text, Number, Empty, Equip21, Flags23}
 use Rattle.cell_question.specs.CellQuestion.{cellAsked}
 use Rattle.cell_question.specs.declared.CellAnswer.{CellAnswer}
 use Rattle.cell_question.proofs.Asking.{stretch-inside, stretch-empty, stretch-part}
@@ -31,29 +31,29 @@ add-to : tie.Need-add-to
 add-to c =
     let a = c .before .before .before .before .before .args in
     let g = c .before .held .given in
-    let e : cellAsked (a .text .now) (a .table) (a .line) (a .column) .cell ≡ Text (g .0 .0) (g .0 .1 .0) = ap (λ (x : CellAnswer). x .cell) (sym (c .before .before .before .cell .ensures)) ∙ g .1 in
-    omega (arith, stretch-inside (a .text .now) (a .table) (a .line) (a .column) (g .0 .0) (g .0 .1 .0) e)
+    let e : cellAsked (a .edition) (a .text .now) (a .table) (a .line) (a .column) .cell ≡ Text (g .0 .0) (g .0 .1 .0) = ap (λ (x : CellAnswer). x .cell) (sym (c .before .before .before .cell .ensures)) ∙ g .1 in
+    omega (arith, stretch-inside (a .edition) (a .text .now) (a .table) (a .line) (a .column) (g .0 .0) (g .0 .1 .0) e)
 
 sub-result-2 : tie.Need-sub-result-2
 sub-result-2 c =
     let a = c .before .before .before .before .before .args in
     let g = c .before .held .given in
-    let e : cellAsked (a .text .now) (a .table) (a .line) (a .column) .cell ≡ Text (g .0 .0) (g .0 .1 .0) = ap (λ (x : CellAnswer). x .cell) (sym (c .before .before .before .cell .ensures)) ∙ g .1 in
-    omega (arith, stretch-inside (a .text .now) (a .table) (a .line) (a .column) (g .0 .0) (g .0 .1 .0) e)
+    let e : cellAsked (a .edition) (a .text .now) (a .table) (a .line) (a .column) .cell ≡ Text (g .0 .0) (g .0 .1 .0) = ap (λ (x : CellAnswer). x .cell) (sym (c .before .before .before .cell .ensures)) ∙ g .1 in
+    omega (arith, stretch-inside (a .edition) (a .text .now) (a .table) (a .line) (a .column) (g .0 .0) (g .0 .1 .0) e)
 
 part-result-start-2 : tie.Need-part-result-start-2
 part-result-start-2 c =
     let a = c .before .before .before .before .before .args in
     let g = c .before .held .given in
-    let e : cellAsked (a .text .now) (a .table) (a .line) (a .column) .cell ≡ Text (g .0 .0) (g .0 .1 .0) = ap (λ (x : CellAnswer). x .cell) (sym (c .before .before .before .cell .ensures)) ∙ g .1 in
-    omega (arith, stretch-inside (a .text .now) (a .table) (a .line) (a .column) (g .0 .0) (g .0 .1 .0) e)
+    let e : cellAsked (a .edition) (a .text .now) (a .table) (a .line) (a .column) .cell ≡ Text (g .0 .0) (g .0 .1 .0) = ap (λ (x : CellAnswer). x .cell) (sym (c .before .before .before .cell .ensures)) ∙ g .1 in
+    omega (arith, stretch-inside (a .edition) (a .text .now) (a .table) (a .line) (a .column) (g .0 .0) (g .0 .1 .0) e)
 
 part-result-end-2 : tie.Need-part-result-end-2
 part-result-end-2 c =
     let a = c .before .before .before .before .before .args in
     let g = c .before .held .given in
-    let e : cellAsked (a .text .now) (a .table) (a .line) (a .column) .cell ≡ Text (g .0 .0) (g .0 .1 .0) = ap (λ (x : CellAnswer). x .cell) (sym (c .before .before .before .cell .ensures)) ∙ g .1 in
-    omega (arith, stretch-inside (a .text .now) (a .table) (a .line) (a .column) (g .0 .0) (g .0 .1 .0) e)
+    let e : cellAsked (a .edition) (a .text .now) (a .table) (a .line) (a .column) .cell ≡ Text (g .0 .0) (g .0 .1 .0) = ap (λ (x : CellAnswer). x .cell) (sym (c .before .before .before .cell .ensures)) ∙ g .1 in
+    omega (arith, stretch-inside (a .edition) (a .text .now) (a .table) (a .line) (a .column) (g .0 .0) (g .0 .1 .0) e)
 
 enum-told-2 : tie.Need-enum-told-2
 enum-told-2 c = search needs
@@ -67,23 +67,59 @@ part-result-start-3 c = search needs
 part-result-end-3 : tie.Need-part-result-end-3
 part-result-end-3 c = search needs
 
+enum-told-3 : tie.Need-enum-told-3
+enum-told-3 c = search needs
+
+sub-result-4 : tie.Need-sub-result-4
+sub-result-4 c = search needs
+
+part-result-start-4 : tie.Need-part-result-start-4
+part-result-start-4 c = search needs
+
+part-result-end-4 : tie.Need-part-result-end-4
+part-result-end-4 c = search needs
+
+enum-told-4 : tie.Need-enum-told-4
+enum-told-4 c = search needs
+
+sub-result-5 : tie.Need-sub-result-5
+sub-result-5 c = search needs
+
+part-result-start-5 : tie.Need-part-result-start-5
+part-result-start-5 c = search needs
+
+part-result-end-5 : tie.Need-part-result-end-5
+part-result-end-5 c = search needs
+
 returns : tie.Need-returns
 returns c =
     let a = c .before .before .before .before .before .args in
     let g = c .before .enum-told .given in
-    stretch-empty (a .text .now) (Number (g .0 .0)) (cellAsked (a .text .now) (a .table) (a .line) (a .column) .cell) (ap (λ (x : CellAnswer). x .cell) (sym (c .before .before .before .cell .ensures)) ∙ g .1) refl
+    stretch-empty (a .text .now) (Number (g .0 .0)) (cellAsked (a .edition) (a .text .now) (a .table) (a .line) (a .column) .cell) (ap (λ (x : CellAnswer). x .cell) (sym (c .before .before .before .cell .ensures)) ∙ g .1) refl
 
 returns-2 : tie.Need-returns-2
 returns-2 c =
     let a = c .before .before .before .before .before .before .args in
     let g = c .before .before .held .given in
-    let e : cellAsked (a .text .now) (a .table) (a .line) (a .column) .cell ≡ Text (g .0 .0) (g .0 .1 .0) = ap (λ (x : CellAnswer). x .cell) (sym (c .before .before .before .before .cell .ensures)) ∙ g .1 in
-    stretch-part (a .text .now) (g .0 .0) (g .0 .1 .0) (cellAsked (a .text .now) (a .table) (a .line) (a .column) .cell) e
+    let e : cellAsked (a .edition) (a .text .now) (a .table) (a .line) (a .column) .cell ≡ Text (g .0 .0) (g .0 .1 .0) = ap (λ (x : CellAnswer). x .cell) (sym (c .before .before .before .before .cell .ensures)) ∙ g .1 in
+    stretch-part (a .text .now) (g .0 .0) (g .0 .1 .0) (cellAsked (a .edition) (a .text .now) (a .table) (a .line) (a .column) .cell) e
 
 returns-3 : tie.Need-returns-3
 returns-3 c =
     let a = c .before .before .before .before .before .args in
-    stretch-empty (a .text .now) Empty (cellAsked (a .text .now) (a .table) (a .line) (a .column) .cell) (ap (λ (x : CellAnswer). x .cell) (sym (c .before .before .before .cell .ensures)) ∙ c .before .enum-told2 .given .1) refl
+    stretch-empty (a .text .now) Empty (cellAsked (a .edition) (a .text .now) (a .table) (a .line) (a .column) .cell) (ap (λ (x : CellAnswer). x .cell) (sym (c .before .before .before .cell .ensures)) ∙ c .before .enum-told2 .given .1) refl
+
+returns-4 : tie.Need-returns-4
+returns-4 c =
+    let a = c .before .before .before .before .before .args in
+    let g = c .before .enum-told3 .given in
+    stretch-empty (a .text .now) (Equip21 (g .0 .0)) (cellAsked (a .edition) (a .text .now) (a .table) (a .line) (a .column) .cell) (ap (λ (x : CellAnswer). x .cell) (sym (c .before .before .before .cell .ensures)) ∙ g .1) refl
+
+returns-5 : tie.Need-returns-5
+returns-5 c =
+    let a = c .before .before .before .before .before .args in
+    let g = c .before .enum-told4 .given in
+    stretch-empty (a .text .now) (Flags23 (g .0 .0)) (cellAsked (a .edition) (a .text .now) (a .table) (a .line) (a .column) .cell) (ap (λ (x : CellAnswer). x .cell) (sym (c .before .before .before .cell .ensures)) ∙ g .1) refl
 
 pub stretch-spec : {M : Type 1} → statement M
 stretch-spec =
@@ -103,6 +139,16 @@ stretch-spec =
     sub-result-3
     part-result-start-3
     part-result-end-3
+    enum-told-3
+    sub-result-4
+    part-result-start-4
+    part-result-end-4
+    enum-told-4
+    sub-result-5
+    part-result-start-5
+    part-result-end-5
     returns
     returns-2
-    returns-3)
+    returns-3
+    returns-4
+    returns-5)

@@ -17,13 +17,13 @@ quoted-end-requires : tie.Need-quoted-end-requires
 quoted-end-requires c κs = search needs
 
 returns : tie.Need-returns
-returns c = c .quoted-end .ensures ∙ sym (fresh-inside (c .before .before .before .before .args .line .now) (c .before .before .before .before .args .from) (sym (c .before .before .quote-at .ensures) ∙ c .before .if1 .taken))
+returns c = c .quoted-end .ensures ∙ sym (fresh-inside (c .before .before .before .before .args .edition) (c .before .before .before .before .args .line .now) (c .before .before .before .before .args .from) (sym (c .before .before .quote-at .ensures) ∙ c .before .if1 .taken))
 
 plain-end-requires : tie.Need-plain-end-requires
 plain-end-requires c κs = search needs
 
 returns-2 : tie.Need-returns-2
-returns-2 c = c .plain-end .ensures ∙ sym (fresh-plain (c .before .before .before .before .args .from) (drop (c .before .before .before .before .args .from) (c .before .before .before .before .args .line .now)) (sym (c .before .before .quote-at .ensures) ∙ c .before .if1 .left))
+returns-2 c = c .plain-end .ensures (c .before .before .before .before .args .edition) ∙ sym (fresh-plain (c .before .before .before .before .args .edition) (c .before .before .before .before .args .from) (drop (c .before .before .before .before .args .from) (c .before .before .before .before .args .line .now)) (sym (c .before .before .quote-at .ensures) ∙ c .before .if1 .left))
 
 pub cell-end-spec : {M : Type 1} → statement M
 cell-end-spec =

@@ -12,10 +12,10 @@ use Rattle.cells.proofs.Numbered.{cell-bounded, behind-last}
 use Rattle.cells.proofs.cell_of.Statement.{statement}
 use Rattle.cells.proofs.cell_of.Tie as tie
 
-between : (c : tie.After-shared-slice-known2) → let a = c .before .before .before .before .args in Stands (a .line .now) (getD (a .bounds .now) (a .cell - 1) 0) (getD (a .bounds .now) (a .cell) 0) (cellNumbered (a .cell) (cellsOf (cut (a .line .now))))
+between : (c : tie.After-shared-slice-known2) → let a = c .before .before .before .before .args in Stands (a .line .now) (getD (a .bounds .now) (a .cell - 1) 0) (getD (a .bounds .now) (a .cell) 0) (cellNumbered (a .cell) (cellsOf (cut (a .edition) (a .line .now))))
 between c =
     let st = c .before .before .before .before in
-    cell-bounded (st .args .line .now) (st .args .bounds .now) (st .args .cells) (st .args .cell) (st .pre) (omega (arith, c .before .before .before .if1 .left)) (omega (arith, c .before .before .if2 .left))
+    cell-bounded (st .args .edition) (st .args .line .now) (st .args .bounds .now) (st .args .cells) (st .args .cell) (st .pre) (omega (arith, c .before .before .before .if1 .left)) (omega (arith, c .before .before .if2 .left))
 
 sub-result : tie.Need-sub-result
 sub-result c = search needs
@@ -41,7 +41,7 @@ part-result-end-2 c = search needs
 returns-2 : tie.Need-returns-2
 returns-2 c =
     let st = c .before .before .before in
-    sym (behind-last (st .args .cell) (cellsOf (cut (st .args .line .now))) (omega (arith, c .before .before .if1 .left)) (omega (arith, c .before .if2 .taken, st .pre .counted)))
+    sym (behind-last (st .args .cell) (cellsOf (cut (st .args .edition) (st .args .line .now))) (omega (arith, c .before .before .if1 .left)) (omega (arith, c .before .if2 .taken, st .pre .counted)))
 
 sub-from : tie.Need-sub-from
 sub-from c = search needs

@@ -16,21 +16,21 @@ use Rattle.cells.proofs.cells_of.Statement.{statement}
 use Rattle.cells.proofs.cells_of.Tie as tie
 
 abbrev Inv-cells : tie.InvT-cells
-Inv-cells line bounds₀ n₀ from₀ bounds n from =
-    Sofar (length bounds₀) (cut line) bounds n from (cut (drop from line)) × (n ≤ from) × (from ≤ length line)
+Inv-cells edition line bounds₀ n₀ from₀ bounds n from =
+    Sofar (length bounds₀) (cut edition line) bounds n from (cut edition (drop from line)) × (n ≤ from) × (from ≤ length line)
 
 abbrev μ-cells : tie.MeasureT-cells
-μ-cells line bounds₀ n₀ from₀ bounds n from = length line - from
+μ-cells edition line bounds₀ n₀ from₀ bounds n from = length line - from
 
 -- where the cell ends
-told : (c : tie.After-i Inv-cells μ-cells) → endFrom Fresh (c .before .before .before .cells .from) (drop (c .before .before .before .cells .from) (c .before .before .before .before .before .before .before .before .before .before .args .line .now)) ≡ At (c .i .given .0 .0)
+told : (c : tie.After-i Inv-cells μ-cells) → endFrom (c .before .before .before .before .before .before .before .before .before .before .args .edition) Fresh (c .before .before .before .cells .from) (drop (c .before .before .before .cells .from) (c .before .before .before .before .before .before .before .before .before .before .args .line .now)) ≡ At (c .i .given .0 .0)
 told c = sym (c .before .before .cell-end .ensures) ∙ c .i .given .1
 
 behind : (c : tie.After-i Inv-cells μ-cells) → c .before .before .before .cells .from ≤ c .i .given .0 .0
-behind c = ends-behind (c .before .before .before .before .before .before .before .before .before .before .args .line .now) (c .before .before .before .cells .from) (c .i .given .0 .0) (c .before .before .before .cells .inv .2) (told c)
+behind c = ends-behind (c .before .before .before .before .before .before .before .before .before .before .args .edition) (c .before .before .before .before .before .before .before .before .before .before .args .line .now) (c .before .before .before .cells .from) (c .i .given .0 .0) (c .before .before .before .cells .inv .2) (told c)
 
 within : (c : tie.After-i Inv-cells μ-cells) → c .i .given .0 .0 ≤ length (c .before .before .before .before .before .before .before .before .before .before .args .line .now)
-within c = ends-within (c .before .before .before .before .before .before .before .before .before .before .args .line .now) (c .before .before .before .cells .from) (c .i .given .0 .0) (c .before .before .before .cells .inv .2) (told c)
+within c = ends-within (c .before .before .before .before .before .before .before .before .before .before .args .edition) (c .before .before .before .before .before .before .before .before .before .before .args .line .now) (c .before .before .before .cells .from) (c .i .given .0 .0) (c .before .before .before .cells .inv .2) (told c)
 
 note-requires : tie.Need-note-requires Inv-cells μ-cells
 note-requires c κs = search needs
@@ -47,8 +47,8 @@ cell-end-requires c κs = search needs
 enum-told : tie.Need-enum-told Inv-cells μ-cells
 enum-told c = search needs
 
-add-t10 : tie.Need-add-t10 Inv-cells μ-cells
-add-t10 c = search needs
+add-t11 : tie.Need-add-t11 Inv-cells μ-cells
+add-t11 c = search needs
 
 same-length : tie.Need-same-length Inv-cells μ-cells
 same-length c = search needs
@@ -57,7 +57,7 @@ returns : tie.Need-returns Inv-cells μ-cells
 returns c =
     let line = c .before .before .before .before .before .before .before .before .before .before .args .line .now in
     let at = c .before .before .before .cells in
-    let e : cut (drop (at .from) line) ≡ faulty 1 = faulty-cell line (at .from) (sym (c .before .before .cell-end .ensures) ∙ c .enum-told .given .1) in
+    let e : cut (c .before .before .before .before .before .before .before .before .before .before .args .edition) (drop (at .from) line) ≡ faulty 1 = faulty-cell (c .before .before .before .before .before .before .before .before .before .before .args .edition) line (at .from) (sym (c .before .before .cell-end .ensures) ∙ c .enum-told .given .1) in
     let s = subst (Sofar _ _ _ _ _) e (at .inv .0) in
     (bad-answer _ _ _ _ _ s, λ cs w. absurd (no-cells _ _ _ _ _ cs w s))
 
@@ -81,7 +81,7 @@ returns-2 c =
     let k = c .before .before .before .before .before .before in
     let line = c .before .before .before .before .before .before .before .before .before .before .before .before .before .before .before .before .args .line .now in
     let at = c .before .before .before .before .before .before .before .before .before .cells in
-    let s = cell-ended line (at .from) (k .i .given .0 .0) (at .inv .2) (told k) _ (at .bounds) _ (at .n) (at .inv .0) (c .before .before .before .note2 .ensures) (cells []) (following-last line (k .i .given .0 .0) (omega (arith, c .if1 .taken))) in
+    let s = cell-ended (c .before .before .before .before .before .before .before .before .before .before .before .before .before .before .before .before .args .edition) line (at .from) (k .i .given .0 .0) (at .inv .2) (told k) _ (at .bounds) _ (at .n) (at .inv .0) (c .before .before .before .note2 .ensures) (cells []) (following-last (c .before .before .before .before .before .before .before .before .before .before .before .before .before .before .before .before .args .edition) line (k .i .given .0 .0) (omega (arith, c .if1 .taken))) in
     (good-answer _ _ _ _ _ s, λ cs w. rw (s .long) (cells-bounded _ _ _ _ _ cs w s))
 
 cells-less : tie.Need-cells-less Inv-cells μ-cells
@@ -93,7 +93,7 @@ cells-again c =
     let line = c .before .before .before .before .before .before .before .before .before .before .before .before .before .before .before .before .args .line .now in
     let at = c .before .before .before .before .before .before .before .before .before .cells in
     let h : k .i .given .0 .0 < length line = omega (arith, c .if1 .left, within k) in (
-      cell-ended line (at .from) (k .i .given .0 .0) (at .inv .2) (told k) _ (at .bounds) _ (at .n) (at .inv .0) (c .before .before .before .note2 .ensures) _ (following-next line (k .i .given .0 .0) h),
+      cell-ended (c .before .before .before .before .before .before .before .before .before .before .before .before .before .before .before .before .args .edition) line (at .from) (k .i .given .0 .0) (at .inv .2) (told k) _ (at .bounds) _ (at .n) (at .inv .0) (c .before .before .before .note2 .ensures) _ (following-next (c .before .before .before .before .before .before .before .before .before .before .before .before .before .before .before .before .args .edition) line (k .i .given .0 .0) h),
       omega (arith, behind k, at .inv .1),
       omega arith,
     )
@@ -108,7 +108,7 @@ cells-of-spec =
     cells-holds
     cell-end-requires
     enum-told
-    add-t10
+    add-t11
     same-length
     returns
     enum-known-i

@@ -3,7 +3,7 @@ use mathlib.Core.Path.{_∙_}
 use borrow.Author.Needs.{needs}
 use Rattle.words.specs.Words.{bytes}
 use Rattle.cells.specs.Cells.{parted}
-use Rattle.tables.specs.declared.Edition.the-variants.{Dino21, Dino23}
+use Rattle.editions.specs.declared.Edition.the-variants.{Dino21, Dino23}
 use Rattle.tables.specs.declared.Table.the-variants.{VehicleType}
 use Rattle.tables.specs.Columns.{columnsOf}
 use Rattle.column_names.proofs.Naming.{named}

@@ -26,7 +26,7 @@ returns c =
     let xs = st .args .book .now in
     let work = st .args .work .now in
     let emptying = c .before .before .before .empty-book in
-    day-unsized _ s xs work (c .on .result) (emptying .last .0) (c .before .before .before .before .before .if1 .taken) (c .on .ensures ∙ ap (placed 0 0) (c .before .bad-loan .ensures)) (emptying .ensures)
+    day-unsized (st .args .edition) _ s xs work (c .on .result) (emptying .last .0) (c .before .before .before .before .before .if1 .taken) (c .on .ensures ∙ ap (placed 0 0) (c .before .bad-loan .ensures)) (emptying .ensures)
 
 read-requires : tie.Need-read-requires
 read-requires c κs = search needs
@@ -56,7 +56,7 @@ returns-2 c =
     let xs = st .args .book .now in
     let work = st .args .work .now in
     let read = c .before .before .before .before .before .before .before .before .read in
-    day-slip _ s xs work (c .before .before .before .before .before .before .before .before .before .before .if1 .left) (read .result) (read .last .1 .1 .1 .1 .1 .0) (read .ensures) _ (c .before .before .before .before .before .enum-told .given .1) (c .before .before .slip .ensures)
+    day-slip (st .args .edition) _ s xs work (c .before .before .before .before .before .before .before .before .before .before .if1 .left) (read .result) (read .last .1 .1 .1 .1 .1 .1 .0) (read .ensures) _ (c .before .before .before .before .before .enum-told .given .1) (c .before .before .slip .ensures)
 
 same-length-4 : tie.Need-same-length-4
 same-length-4 c = search needs
@@ -73,7 +73,7 @@ returns-3 c =
     let read = c .before .before .before .before .before .before .before .read in
     let sized = c .before .before .before .before .before .before .before .before .before .if1 .left in
     let place = c .before .before .before .before .place .given in
-    day-refused _ s xs work sized (read .result) (read .last .1 .1 .1 .1 .1 .0) (read .ensures) (place .0 .0) _ (place .1) (work-cleared work _ _ sized sized (c .before .clear .ensures))
+    day-refused (st .args .edition) _ s xs work sized (read .result) (read .last .1 .1 .1 .1 .1 .1 .0) (read .ensures) (place .0 .0) _ (place .1) (work-cleared work _ _ sized sized (c .before .clear .ensures))
 
 pub day-spec : {M : Type 1} → statement M
 day-spec =

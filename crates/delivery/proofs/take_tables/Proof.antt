@@ -1,11 +1,12 @@
 use mathlib.Core.Path.{_≡_, refl, ap, _∙_}
 use borrow.Author.Needs.{needs}
 use Rattle.words.specs.Words.{Bytes}
+use Rattle.editions.specs.declared.Edition.{Edition}
 use Rattle.tables.specs.declared.Table.the-variants.{VehicleType, Depot, Stop, StopPoint, Block}
 use Rattle.book.specs.Result.{Result, _▹_}
 use Rattle.book.specs.Room.{bookOf}
-use Rattle.book.specs.Book.{Book, empty}
-use Rattle.rules.proofs.Points.{empty-named}
+use Rattle.book.specs.Book.{Book, emptyBy}
+use Rattle.rules.proofs.Points.{begun-named}
 use Rattle.table_reading.specs.Reading.{tableRead}
 use Rattle.delivery.specs.Delivery.{reading}
 use Rattle.delivery.specs.Calls.{delivery}
@@ -15,7 +16,7 @@ use Rattle.delivery.proofs.take_tables.Tie as tie
 take-table-requires : tie.Need-take-table-requires
 take-table-requires c κs =
     let st = c .before .before .before .before .before .before in
-    (st .pre .0, empty-named (bookOf (st .args .book .now)) (st .pre .1))
+    (st .pre .0, begun-named _ (bookOf (st .args .book .now)) (st .pre .1))
 
 then-table-requires : tie.Need-then-table-requires
 then-table-requires c κs = (c .before .before .take-table .ensures .0, c .before .before .take-table .ensures .2)
@@ -32,9 +33,9 @@ then-table-requires-4 c κs = (c .before .before .then-table3 .ensures .0, c .be
 same-length : tie.Need-same-length
 same-length c = search needs
 
-whole : (a b d e f : Bytes) → (tableRead VehicleType a empty ▹ tableRead Depot b ▹ tableRead Stop d ▹ tableRead StopPoint e ▹ tableRead Block f) ≡ reading (delivery a b d e f)
+whole : (x : Edition) (a b d e f : Bytes) → (tableRead VehicleType a (emptyBy x) ▹ tableRead Depot b ▹ tableRead Stop d ▹ tableRead StopPoint e ▹ tableRead Block f) ≡ reading x (delivery a b d e f)
 unfolding reading
-whole a b d e f = refl
+whole x a b d e f = refl
 
 returns : tie.Need-returns
 returns c =
@@ -54,7 +55,7 @@ returns c =
           ∙ ap (λ (r : Result). r ▹ stops-read ▹ points-read ▹ blocks-read) (depots .before .then-table .ensures .1)
           ∙ ap (λ (r : Result). r ▹ depots-read ▹ stops-read ▹ points-read ▹ blocks-read) (types .before .take-table .ensures .1)
           ∙ ap (λ (b : Book). tableRead VehicleType (st .args .types .now) b ▹ depots-read ▹ stops-read ▹ points-read ▹ blocks-read) (st .pre .1)
-          ∙ whole (st .args .types .now) (st .args .depots .now) (st .args .stops .now) (st .args .points .now) (st .args .blocks .now),
+          ∙ whole _ (st .args .types .now) (st .args .depots .now) (st .args .stops .now) (st .args .points .now) (st .args .blocks .now),
     )
 
 pub take-tables-spec : {M : Type 1} → statement M

@@ -21,10 +21,10 @@ returns : tie.Need-returns
 returns c =
     let a = c .before .before .before .before .before .before .args in
     let g = c .before .before .named .given in
-    c .marked-line .ensures ∙ marked-known (a .text .now) (a .place) (c .before .before .before .before .numbered .result) (c .before .before .before .before .numbered .ensures) (g .0 .0) (g .1)
+    c .marked-line .ensures ∙ marked-known (a .edition) (a .text .now) (a .place) (c .before .before .before .before .numbered .result) (c .before .before .before .before .numbered .ensures) (g .0 .0) (g .1)
 
 returns-2 : tie.Need-returns-2
-returns-2 c = let a = c .before .before .before .before .args in marked-unknown (a .text .now) (a .place) (c .before .before .numbered .result) (c .before .before .numbered .ensures) (c .enum-told .given .1)
+returns-2 c = let a = c .before .before .before .before .args in marked-unknown (a .edition) (a .text .now) (a .place) (c .before .before .numbered .result) (c .before .before .numbered .ensures) (c .enum-told .given .1)
 
 pub marked-spec : {M : Type 1} → statement M
 marked-spec =

@@ -10,13 +10,12 @@ use Rattle.header.proofs.Names.{header-length, name-read}
 use Rattle.fault_mark.proofs.Marking.{place-here, place-on, place-end}
 use Rattle.fault_mark.proofs.named_behind.Statement.{statement}
 use Rattle.fault_mark.proofs.named_behind.Tie as tie
-use Rattle.tables.specs.declared.Edition.the-variants.{Dino21}
 
 abbrev Inv-names : tie.InvT-names
-Inv-names head bounds cells t column behind i₀ i = placeFrom i column (drop i (header Dino21 t (cellsOf (cut head)))) ≡ placeFrom behind column (drop behind (header Dino21 t (cellsOf (cut head))))
+Inv-names edition head bounds cells t column behind i₀ i = placeFrom i column (drop i (header edition t (cellsOf (cut edition head)))) ≡ placeFrom behind column (drop behind (header edition t (cellsOf (cut edition head))))
 
 abbrev μ-names : tie.MeasureT-names
-μ-names head bounds cells t column behind i₀ i = cells - i
+μ-names edition head bounds cells t column behind i₀ i = cells - i
 
 names-holds : tie.Need-names-holds Inv-names μ-names
 names-holds c = search needs
@@ -43,11 +42,11 @@ returns : tie.Need-returns Inv-names μ-names
 returns c =
     let a = c .before .before .before .before .before .before .before .before .before .args in
     let w = c .before .before .before .before .before .before .names in
-    let cs = cellsOf (cut (a .head .now)) in
+    let cs = cellsOf (cut (a .edition) (a .head .now)) in
     let l : w .i < length cs = omega (arith, c .before .before .before .before .before .before .before .before .before .pre .counted, c .before .before .before .before .before .names-test .taken) in
-    let n : w .i < length (header Dino21 (a .t) cs) = omega (arith, header-length Dino21 (a .t) cs) in
-    let e : getD (header Dino21 (a .t) cs) (w .i) 0 ≡ c .before .before .column-of .result = name-read Dino21 (a .t) cs (w .i) (c .before .before .before .before .cell-of .result .now) (c .before .before .before .stretch-of .result .now) (c .before .before .column-of .result) l (c .before .before .before .before .cell-of .ensures) (c .before .before .before .stretch-of .ensures) (c .before .before .column-of .ensures) in
-    sym (place-here (a .column) (w .i) (header Dino21 (a .t) cs) n (e ∙ sym (c .before .wide .ensures) ∙ c .if1 .taken)) ∙ w .inv
+    let n : w .i < length (header (a .edition) (a .t) cs) = omega (arith, header-length (a .edition) (a .t) cs) in
+    let e : getD (header (a .edition) (a .t) cs) (w .i) 0 ≡ c .before .before .column-of .result = name-read (a .edition) (a .t) cs (w .i) (c .before .before .before .before .cell-of .result .now) (c .before .before .before .stretch-of .result .now) (c .before .before .column-of .result) l (c .before .before .before .before .cell-of .ensures) (c .before .before .before .stretch-of .ensures) (c .before .before .column-of .ensures) in
+    sym (place-here (a .column) (w .i) (header (a .edition) (a .t) cs) n (e ∙ sym (c .before .wide .ensures) ∙ c .if1 .taken)) ∙ w .inv
 
 add-i : tie.Need-add-i Inv-names μ-names
 add-i c = search needs
@@ -59,19 +58,19 @@ names-again : tie.Need-names-again Inv-names μ-names
 names-again c =
     let a = c .before .before .before .before .before .before .before .before .before .args in
     let w = c .before .before .before .before .before .before .names in
-    let cs = cellsOf (cut (a .head .now)) in
+    let cs = cellsOf (cut (a .edition) (a .head .now)) in
     let l : w .i < length cs = omega (arith, c .before .before .before .before .before .before .before .before .before .pre .counted, c .before .before .before .before .before .names-test .taken) in
-    let n : w .i < length (header Dino21 (a .t) cs) = omega (arith, header-length Dino21 (a .t) cs) in
-    let e : getD (header Dino21 (a .t) cs) (w .i) 0 ≡ c .before .before .column-of .result = name-read Dino21 (a .t) cs (w .i) (c .before .before .before .before .cell-of .result .now) (c .before .before .before .stretch-of .result .now) (c .before .before .column-of .result) l (c .before .before .before .before .cell-of .ensures) (c .before .before .before .stretch-of .ensures) (c .before .before .column-of .ensures) in
-    sym (place-on (a .column) (w .i) (header Dino21 (a .t) cs) n (λ z. c .if1 .left (c .before .wide .ensures ∙ sym e ∙ z))) ∙ w .inv
+    let n : w .i < length (header (a .edition) (a .t) cs) = omega (arith, header-length (a .edition) (a .t) cs) in
+    let e : getD (header (a .edition) (a .t) cs) (w .i) 0 ≡ c .before .before .column-of .result = name-read (a .edition) (a .t) cs (w .i) (c .before .before .before .before .cell-of .result .now) (c .before .before .before .stretch-of .result .now) (c .before .before .column-of .result) l (c .before .before .before .before .cell-of .ensures) (c .before .before .before .stretch-of .ensures) (c .before .before .column-of .ensures) in
+    sym (place-on (a .column) (w .i) (header (a .edition) (a .t) cs) n (λ z. c .if1 .left (c .before .wide .ensures ∙ sym e ∙ z))) ∙ w .inv
 
 returns-2 : tie.Need-returns-2 Inv-names μ-names
 returns-2 c =
     let a = c .before .before .before .before .args in
     let w = c .before .names in
-    let cs = cellsOf (cut (a .head .now)) in
-    let l : length (header Dino21 (a .t) cs) ≤ w .i = omega (arith, header-length Dino21 (a .t) cs, c .before .before .before .before .pre .counted, c .names-test .left) in
-    sym (place-end (a .column) (w .i) (header Dino21 (a .t) cs) l) ∙ w .inv
+    let cs = cellsOf (cut (a .edition) (a .head .now)) in
+    let l : length (header (a .edition) (a .t) cs) ≤ w .i = omega (arith, header-length (a .edition) (a .t) cs, c .before .before .before .before .pre .counted, c .names-test .left) in
+    sym (place-end (a .column) (w .i) (header (a .edition) (a .t) cs) l) ∙ w .inv
 
 pub named-behind-spec : {M : Type 1} → statement M
 named-behind-spec =

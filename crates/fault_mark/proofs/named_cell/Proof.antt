@@ -11,7 +11,6 @@ use Rattle.fault_mark.specs.Marks.{columnsNamed}
 use Rattle.fault_mark.proofs.Marking.{named-faulty, named-wide, named-few, none-found, second-found, first-found}
 use Rattle.fault_mark.proofs.named_cell.Statement.{statement}
 use Rattle.fault_mark.proofs.named_cell.Tie as tie
-use Rattle.tables.specs.declared.Edition.the-variants.{Dino21}
 
 slice-aggregate-cells-of : tie.Need-slice-aggregate-cells-of
 slice-aggregate-cells-of c = search needs
@@ -31,8 +30,8 @@ returns c =
     let head = a .head .now in
     let r = c .before .before .before .before .before .cells-of in
     let g = c .before .before .answer .given in
-    let l : 32 < length (cellsOf (cut head)) = omega (arith, good-count (cut head) (r .result) (g .0 .0) (r .ensures .0) (g .1), c .if1 .taken) in
-    none-found (a .second) (a .column) (columnsNamed (a .t) head) (named-wide (a .t) head l)
+    let l : 32 < length (cellsOf (cut (a .edition) head)) = omega (arith, good-count (cut (a .edition) head) (r .result) (g .0 .0) (r .ensures .0) (g .1), c .if1 .taken) in
+    none-found (a .second) (a .column) (columnsNamed (a .edition) (a .t) head) (named-wide (a .edition) (a .t) head l)
 
 slice-aggregate-named-behind : tie.Need-slice-aggregate-named-behind
 slice-aggregate-named-behind c = search needs
@@ -41,7 +40,7 @@ named-behind-requires : tie.Need-named-behind-requires
 named-behind-requires c κs =
     let r = c .before .before .before .before .before .before .cells-of in
     let g = c .before .before .before .answer .given in
-    marks-of (c .before .before .before .before .before .before .before .before .before .args .head .now) _ _ (r .result) (r .ensures .0) (r .ensures .1) (g .1) (omega (arith, c .before .if1 .left, c .before .before .before .before .before .bounds2 .given))
+    marks-of (c .before .before .before .before .before .before .before .before .before .args .edition) (c .before .before .before .before .before .before .before .before .before .args .head .now) _ _ (r .result) (r .ensures .0) (r .ensures .1) (g .1) (omega (arith, c .before .if1 .left, c .before .before .before .before .before .bounds2 .given))
 
 slice-aggregate-named-behind-2 : tie.Need-slice-aggregate-named-behind-2
 slice-aggregate-named-behind-2 c = search needs
@@ -50,7 +49,7 @@ named-behind-requires-2 : tie.Need-named-behind-requires-2
 named-behind-requires-2 c κs =
     let r = c .before .before .before .before .before .before .before .before .before .cells-of in
     let g = c .before .before .before .before .before .before .answer .given in
-    marks-of (c .before .before .before .before .before .before .before .before .before .before .before .before .args .head .now) _ _ (r .result) (r .ensures .0) (r .ensures .1) (g .1) (omega (arith, c .before .before .before .before .if1 .left, c .before .before .before .before .before .before .before .before .bounds2 .given))
+    marks-of (c .before .before .before .before .before .before .before .before .before .before .before .before .args .edition) (c .before .before .before .before .before .before .before .before .before .before .before .before .args .head .now) _ _ (r .result) (r .ensures .0) (r .ensures .1) (g .1) (omega (arith, c .before .before .before .before .if1 .left, c .before .before .before .before .before .before .before .before .bounds2 .given))
 
 returns-2 : tie.Need-returns-2
 returns-2 c =
@@ -58,8 +57,8 @@ returns-2 c =
     let head = a .head .now in
     let r = c .before .before .before .before .before .before .before .before .before .before .cells-of in
     let g = c .before .before .before .before .before .before .before .answer .given in
-    let l : length (cellsOf (cut head)) ≤ 32 = omega (arith, good-count (cut head) (r .result) (g .0 .0) (r .ensures .0) (g .1), c .before .before .before .before .before .if1 .left) in
-    second-found (a .second) (a .column) (columnsNamed (a .t) head) (header Dino21 (a .t) (cellsOf (cut head))) (named-few (a .t) head l) (c .before .before .if2 .taken) (c .before .before .before .named-behind .result) (c .named-behind2 .result) (c .before .before .before .named-behind .ensures) (c .named-behind2 .ensures)
+    let l : length (cellsOf (cut (a .edition) head)) ≤ 32 = omega (arith, good-count (cut (a .edition) head) (r .result) (g .0 .0) (r .ensures .0) (g .1), c .before .before .before .before .before .if1 .left) in
+    second-found (a .second) (a .column) (columnsNamed (a .edition) (a .t) head) (header (a .edition) (a .t) (cellsOf (cut (a .edition) head))) (named-few (a .edition) (a .t) head l) (c .before .before .if2 .taken) (c .before .before .before .named-behind .result) (c .named-behind2 .result) (c .before .before .before .named-behind .ensures) (c .named-behind2 .ensures)
 
 returns-3 : tie.Need-returns-3
 returns-3 c =
@@ -67,7 +66,7 @@ returns-3 c =
     let head = a .head .now in
     let r = c .before .before .before .cells-of in
     let g = c .enum-told .given in
-    none-found (a .second) (a .column) (columnsNamed (a .t) head) (named-faulty (a .t) head (g .0 .0) (bad-cell (cut head) (r .result) (g .0 .0) (r .ensures .0) (g .1)))
+    none-found (a .second) (a .column) (columnsNamed (a .edition) (a .t) head) (named-faulty (a .edition) (a .t) head (g .0 .0) (bad-cell (cut (a .edition) head) (r .result) (g .0 .0) (r .ensures .0) (g .1)))
 
 returns-4 : tie.Need-returns-4
 returns-4 c =
@@ -75,8 +74,8 @@ returns-4 c =
     let head = a .head .now in
     let r = c .before .before .before .before .before .before .before .before .cells-of in
     let g = c .before .before .before .before .before .answer .given in
-    let l : length (cellsOf (cut head)) ≤ 32 = omega (arith, good-count (cut head) (r .result) (g .0 .0) (r .ensures .0) (g .1), c .before .before .before .if1 .left) in
-    first-found (a .second) (a .column) (columnsNamed (a .t) head) (header Dino21 (a .t) (cellsOf (cut head))) (named-few (a .t) head l) (c .if2 .left) (c .before .named-behind .result) (c .before .named-behind .ensures)
+    let l : length (cellsOf (cut (a .edition) head)) ≤ 32 = omega (arith, good-count (cut (a .edition) head) (r .result) (g .0 .0) (r .ensures .0) (g .1), c .before .before .before .if1 .left) in
+    first-found (a .second) (a .column) (columnsNamed (a .edition) (a .t) head) (header (a .edition) (a .t) (cellsOf (cut (a .edition) head))) (named-few (a .edition) (a .t) head l) (c .if2 .left) (c .before .named-behind .result) (c .before .named-behind .ensures)
 
 pub named-cell-spec : {M : Type 1} → statement M
 named-cell-spec =

@@ -11,7 +11,7 @@ line-too-long-requires : tie.Need-line-too-long-requires
 line-too-long-requires c κs = search needs
 
 returns : tie.Need-returns
-returns c = cut-long (c .before .before .before .before .args .line .now) _ (c .before .if1 .taken) (c .line-too-long .result) 0 (c .line-too-long .ensures)
+returns c = cut-long (c .before .before .before .before .args .edition) (c .before .before .before .before .args .line .now) _ (c .before .if1 .taken) (c .line-too-long .result) 0 (c .line-too-long .ensures)
 
 cells-of-requires : tie.Need-cells-of-requires
 cells-of-requires c κs = search needs
@@ -35,7 +35,7 @@ returns-2 : tie.Need-returns-2
 returns-2 c =
     let r = c .before .before .before .before .before .before .before .cells-of in
     let g = c .before .before .before .answer .given in
-    cut-faulty (c .before .before .before .before .before .before .before .before .before .before .before .before .args .line .now) _ (c .before .before .before .before .before .before .before .before .before .if1 .left) (r .result) (r .ensures .0) (g .0 .0) (g .1) (c .quote-fault .result) 0 (c .quote-fault .ensures ∙ ap (λ (m : ℕ). Fails 6 m) (c .before .wide .ensures))
+    cut-faulty (c .before .before .before .before .before .before .before .before .before .before .before .before .args .edition) (c .before .before .before .before .before .before .before .before .before .before .before .before .args .line .now) _ (c .before .before .before .before .before .before .before .before .before .if1 .left) (r .result) (r .ensures .0) (g .0 .0) (g .1) (c .quote-fault .result) 0 (c .quote-fault .ensures ∙ ap (λ (m : ℕ). Fails 6 m) (c .before .wide .ensures))
 
 same-length-2 : tie.Need-same-length-2
 same-length-2 c = search needs
@@ -44,7 +44,7 @@ returns-3 : tie.Need-returns-3
 returns-3 c =
     let r = c .before .before .before .before .before .cells-of in
     let g = c .before .answer2 .given in
-    cut-cells (c .before .before .before .before .before .before .before .before .before .before .args .line .now) _ (c .before .before .before .before .before .before .before .if1 .left) (r .result) (r .ensures .0) (g .0 .0) (r .ensures .1) (g .1)
+    cut-cells (c .before .before .before .before .before .before .before .before .before .before .args .edition) (c .before .before .before .before .before .before .before .before .before .before .args .line .now) _ (c .before .before .before .before .before .before .before .if1 .left) (r .result) (r .ensures .0) (g .0 .0) (r .ensures .1) (g .1)
 
 pub cut-line-spec : {M : Type 1} → statement M
 cut-line-spec =

@@ -28,7 +28,7 @@ no-heading-requires c κs = search needs
 returns : tie.Need-returns
 returns c =
     let a = c .before .before .before .before .before .before .before .before .args in
-    let h = header (a .edition) (a .t) (cellsOf (cut (a .line .now))) in
+    let h = header (a .edition) (a .t) (cellsOf (cut (a .edition) (a .line .now))) in
     let n = c .before .before .before .before .before .note-names in
     c .no-heading .ensures 3 (c .before .before .wide .result) h (c .before .column-twice .ensures) ∙ ap (λ (q : Check). headed q h) (ap (λ (m : ℕ). Fails 3 m) (c .before .before .wide .ensures) ∙ sym (names-twice (a .edition) (a .t) h (n .result .twice) (sym (n .ensures .twice)) (omega (arith, c .before .before .before .if1 .taken))))
 
@@ -47,7 +47,7 @@ no-heading-requires-2 c κs = search needs
 returns-2 : tie.Need-returns-2
 returns-2 c =
     let a = c .before .before .before .before .before .before .before .before .before .before .before .args in
-    let h = header (a .edition) (a .t) (cellsOf (cut (a .line .now))) in
+    let h = header (a .edition) (a .t) (cellsOf (cut (a .edition) (a .line .now))) in
     let n = c .before .before .before .before .before .before .before .before .note-names in
     let low = c .before .before .before .before .lowest-missing in
     let o : repeated [] h ≡ 0 = sym (n .ensures .twice) ∙ c .before .before .before .before .before .before .if1 .left in
@@ -57,7 +57,7 @@ returns-2 c =
 returns-3 : tie.Need-returns-3
 returns-3 c =
     let a = c .before .before .before .before .before .before .before .before .args in
-    let h = header (a .edition) (a .t) (cellsOf (cut (a .line .now))) in
+    let h = header (a .edition) (a .t) (cellsOf (cut (a .edition) (a .line .now))) in
     let n = c .before .before .before .before .before .note-names in
     let o : repeated [] h ≡ 0 = sym (n .ensures .twice) ∙ c .before .before .before .if1 .left in
     let p : n .result .at ≡ places h = n .ensures .noted (c .before .before .before .if1 .left) in

@@ -6,7 +6,7 @@ use native.Mathlib.Omega.{arith}
 use lib.ListN.{take, getD}
 use borrow.Author.Tests.{not-true, not-false}
 use borrow.Author.Needs.{needs}
-use Rattle.tables.specs.declared.Edition.the-variants.{Dino21}
+use Rattle.editions.specs.declared.Edition.{Edition}
 use Rattle.tables.specs.declared.Rules.{Rules}
 use Rattle.tables.specs.declared.Table.{Table}
 use Rattle.tables.specs.Listing.{listed}
@@ -20,7 +20,7 @@ use Rattle.keeping.proofs.in_ranges.Tie as tie
 abbrev Inv-columns : tie.InvT-columns
 Inv-columns columns row n within₀ i₀ within i =
     (i ≤ n) × (n ≤ 11) × (within ≡ true)
-    × ((t : Table) → columns ≡ listed Dino21 t → n ≡ keptWidth t → ranged (columnsOf Dino21 t) (take (keptWidth t) row) ≡ keeping.rangedFrom i t row)
+    × ((e : Edition) (t : Table) → columns ≡ listed e t → n ≡ keptWidth t → ranged (columnsOf e t) (take (keptWidth t) row) ≡ keeping.rangedFrom e i t row)
 
 abbrev μ-columns : tie.MeasureT-columns
 μ-columns columns row n within₀ i₀ within i = n - i
@@ -29,7 +29,7 @@ kept-requires : tie.Need-kept-requires Inv-columns μ-columns
 kept-requires c κs = search needs
 
 columns-holds : tie.Need-columns-holds Inv-columns μ-columns
-columns-holds c = (search needs, omega (arith, c .kept .ensures, kept-few (c .before .args .t)), refl, λ t e k. refl)
+columns-holds c = (search needs, omega (arith, c .kept .ensures, kept-few (c .before .args .t)), refl, λ e t q k. refl)
 
 rules-at-requires : tie.Need-rules-at-requires Inv-columns μ-columns
 rules-at-requires c κs = search needs
@@ -58,29 +58,29 @@ columns-again c =
       omega arith,
       at .columns .inv .1,
       at .columns .inv .2,
-      λ t e k.
+      λ e t q k.
           let more : i < keptWidth t = omega (arith, k, c .before .before .before .columns-test .taken) in
-          let here : inRange (columnAt Dino21 t i .rules) (getD row i 0) ≡ true = ap (λ (x : Rules). inRange x (getD row i 0)) (sym (c .before .before .rules-at .ensures Dino21 t e)) ∙ sym (c .before .in-range .ensures) ∙ not-false _ (c .if1 .left) in
-          at .columns .inv .3 t e k ∙ keeping.ranged-next t row (search needs) i more here,
+          let here : inRange (columnAt e t i .rules) (getD row i 0) ≡ true = ap (λ (x : Rules). inRange x (getD row i 0)) (sym (c .before .before .rules-at .ensures e t q)) ∙ sym (c .before .in-range .ensures) ∙ not-false _ (c .if1 .left) in
+          at .columns .inv .3 e t q k ∙ keeping.ranged-next e t row (search needs) i more here,
     )
 
 returns : tie.Need-returns Inv-columns μ-columns
-returns c =
+returns c = λ e q.
     let at = c .before in
     let st = at .before .before in
     let all : at .before .kept .result ≡ keptWidth (st .args .t) = at .before .kept .ensures in
-    at .columns .inv .2 ∙ sym (at .columns .inv .3 (st .args .t) (st .pre) all ∙ keeping.ranged-end (st .args .t) (st .args .t3) (search needs) (at .columns .i) (omega (arith, all, c .columns-test .left)))
+    at .columns .inv .2 ∙ sym (at .columns .inv .3 e (st .args .t) q all ∙ keeping.ranged-end e (st .args .t) (st .args .t3) (search needs) (at .columns .i) (omega (arith, all, c .columns-test .left)))
 
 returns-2 : tie.Need-returns-2 Inv-columns μ-columns
-returns-2 c =
+returns-2 c = λ e q.
     let at = c .before .before .before .before in
     let st = at .before .before in
     let i = at .columns .i in
     let row = st .args .t3 in
     let all : at .before .kept .result ≡ keptWidth (st .args .t) = at .before .kept .ensures in
     let more : i < keptWidth (st .args .t) = omega (arith, all, c .before .before .before .columns-test .taken) in
-    let here : inRange (columnAt Dino21 (st .args .t) i .rules) (getD row i 0) ≡ false = ap (λ (x : Rules). inRange x (getD row i 0)) (sym (c .before .before .rules-at .ensures Dino21 (st .args .t) (st .pre))) ∙ sym (c .before .in-range .ensures) ∙ not-true _ (c .if1 .taken) in
-    sym (at .columns .inv .3 (st .args .t) (st .pre) all ∙ keeping.ranged-not (st .args .t) row (search needs) i more here)
+    let here : inRange (columnAt e (st .args .t) i .rules) (getD row i 0) ≡ false = ap (λ (x : Rules). inRange x (getD row i 0)) (sym (c .before .before .rules-at .ensures e (st .args .t) q)) ∙ sym (c .before .in-range .ensures) ∙ not-true _ (c .if1 .taken) in
+    sym (at .columns .inv .3 e (st .args .t) q all ∙ keeping.ranged-not e (st .args .t) row (search needs) i more here)
 
 pub in-ranges-spec : {M : Type 1} → statement M
 in-ranges-spec =

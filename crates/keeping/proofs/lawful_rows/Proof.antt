@@ -8,6 +8,8 @@ use lib.ListN.{length, drop, getD}
 use borrow.Author.Tests.{not-true, not-false}
 use borrow.Author.Needs.{needs}
 use Rattle.words.specs.Words.{all}
+use Rattle.editions.specs.declared.Edition.{Edition}
+use Rattle.tables.specs.Listing.{listed}
 use Rattle.book.specs.Book.{rows}
 use Rattle.book.specs.Room.{bookOf}
 use Rattle.keeping.specs.Keeping.{lawful}
@@ -22,6 +24,9 @@ Inv-rows book t columns n good₀ i₀ good i =
 abbrev μ-rows : tie.MeasureT-rows
 μ-rows book t columns n good₀ i₀ good i = n - i
 
+edition-of-requires : tie.Need-edition-of-requires Inv-rows μ-rows
+edition-of-requires c κs = c .pre .0 .long
+
 column-rules-requires : tie.Need-column-rules-requires Inv-rows μ-rows
 column-rules-requires c κs = search needs
 
@@ -32,10 +37,14 @@ rows-holds : tie.Need-rows-holds Inv-rows μ-rows
 rows-holds c = (search needs, c .count-rows .ensures .0, refl, refl)
 
 row-at-requires : tie.Need-row-at-requires Inv-rows μ-rows
-row-at-requires c κs = (c .before .before .before .before .pre .0, omega (arith, c .before .rows .inv .1))
+row-at-requires c κs = (c .before .before .before .before .before .pre .0, omega (arith, c .before .rows .inv .1))
 
 is-lawful-requires : tie.Need-is-lawful-requires Inv-rows μ-rows
-is-lawful-requires c κs = search needs
+is-lawful-requires c κs =
+    let rules = c .before .before .before .before .before .column-rules in
+    let edition = c .before .before .before .before .before .before .edition-of in
+    let st = c .before .before .before .before .before .before .before in
+    (st .pre .0, st .pre .1, rules .ensures ∙ ap (λ (e : Edition). listed e (st .args .t)) (edition .ensures))
 
 add-i : tie.Need-add-i Inv-rows μ-rows
 add-i c = search needs
@@ -47,7 +56,7 @@ rows-again : tie.Need-rows-again Inv-rows μ-rows
 rows-again c =
     let la = c .before in
     let at = la .before .before .before .before in
-    let st = at .before .before .before in
+    let st = at .before .before .before .before in
     let b = bookOf (st .args .book .now) in
     let rs = rows (st .args .t) b in
     let i = at .rows .i in
@@ -58,7 +67,7 @@ rows-again c =
 returns : tie.Need-returns Inv-rows μ-rows
 returns c =
     let at = c .before in
-    let st = at .before .before .before in
+    let st = at .before .before .before .before in
     let b = bookOf (st .args .book .now) in
     at .rows .inv .3 ∙ sym (at .rows .inv .2 ∙ keeping.all-end (lawful (st .args .t) b) [] (rows (st .args .t) b) (at .rows .i) (omega (arith, at .rows .inv .1)))
 
@@ -66,7 +75,7 @@ returns-2 : tie.Need-returns-2 Inv-rows μ-rows
 returns-2 c =
     let la = c .before in
     let at = la .before .before .before .before in
-    let st = at .before .before .before in
+    let st = at .before .before .before .before in
     let b = bookOf (st .args .book .now) in
     let rs = rows (st .args .t) b in
     let i = at .rows .i in
@@ -80,6 +89,7 @@ lawful-rows-spec =
     (tie.spec
     Inv-rows
     μ-rows
+    edition-of-requires
     column-rules-requires
     count-rows-requires
     rows-holds

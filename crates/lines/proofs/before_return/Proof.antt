@@ -5,7 +5,7 @@ use Rattle.lines.proofs.before_return.Statement.{statement}
 use Rattle.lines.proofs.before_return.Tie as tie
 
 returns : tie.Need-returns
-returns c = end-empty (c .before .args .text .now) (c .before .args .at) (c .before .args .feed) (c .before .pre .0) (c .if1 .taken)
+returns c = λ e h. end-empty e (c .before .args .text .now) (c .before .args .at) (c .before .args .feed) h (c .if1 .taken)
 
 sub-if2 : tie.Need-sub-if2
 sub-if2 c = search needs
@@ -19,12 +19,12 @@ sub-result c = search needs
 returns-2 : tie.Need-returns-2
 returns-2 c =
     let start = c .before .before .before in
-    end-return (start .args .text .now) (start .args .at) (start .args .feed) (start .pre .0) (c .before .before .if1 .left) (start .pre .1) (c .if2 .taken)
+    λ e h. end-return e (start .args .text .now) (start .args .at) (start .args .feed) h (c .before .before .if1 .left) (start .pre) (c .if2 .taken)
 
 returns-3 : tie.Need-returns-3
 returns-3 c =
     let start = c .before .before .before in
-    end-kept (start .args .text .now) (start .args .at) (start .args .feed) (start .pre .0) (c .before .before .if1 .left) (c .if2 .left)
+    λ e h. end-kept e (start .args .text .now) (start .args .at) (start .args .feed) h (c .before .before .if1 .left) (c .if2 .left)
 
 pub before-return-spec : {M : Type 1} → statement M
 before-return-spec =

@@ -5,7 +5,7 @@ use native.Mathlib.Omega.{arith}
 use lib.ListN.{length, drop}
 use borrow.Author.Needs.{needs}
 use Rattle.lines.specs.Ends.{slipLength}
-use Rattle.lines.proofs.Lining.{feed-here, feed-on, feed-none}
+use Rattle.lines.proofs.Lining.{slip-feed-here, slip-feed-on, slip-feed-none}
 use Rattle.lines.proofs.line_feed.Statement.{statement}
 use Rattle.lines.proofs.line_feed.Tie as tie
 
@@ -22,7 +22,7 @@ shared-slice-read-if1 : tie.Need-shared-slice-read-if1 Inv-bytes μ-bytes
 shared-slice-read-if1 c = search needs
 
 returns : tie.Need-returns Inv-bytes μ-bytes
-returns c = omega (arith, feed-here (c .before .before .before .before .args .text .now) (c .before .before .before .bytes .i) (c .before .before .bytes-test .taken) (c .if1 .taken))
+returns c = omega (arith, slip-feed-here (c .before .before .before .before .args .text .now) (c .before .before .before .bytes .i) (c .before .before .bytes-test .taken) (c .if1 .taken))
 
 add-i : tie.Need-add-i Inv-bytes μ-bytes
 add-i c = search needs
@@ -31,10 +31,10 @@ bytes-less : tie.Need-bytes-less Inv-bytes μ-bytes
 bytes-less c = search needs
 
 bytes-again : tie.Need-bytes-again Inv-bytes μ-bytes
-bytes-again c = omega (arith, feed-on (c .before .before .before .before .args .text .now) (c .before .before .before .bytes .i) (c .before .before .bytes-test .taken) (c .if1 .left))
+bytes-again c = omega (arith, slip-feed-on (c .before .before .before .before .args .text .now) (c .before .before .before .bytes .i) (c .before .before .bytes-test .taken) (c .if1 .left))
 
 returns-2 : tie.Need-returns-2 Inv-bytes μ-bytes
-returns-2 c = omega (arith, feed-none (c .before .before .args .text .now) (c .before .bytes .i) (c .bytes-test .left))
+returns-2 c = omega (arith, slip-feed-none (c .before .before .args .text .now) (c .before .bytes .i) (c .bytes-test .left))
 
 pub line-feed-spec : {M : Type 1} → statement M
 line-feed-spec =

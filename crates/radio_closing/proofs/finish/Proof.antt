@@ -36,7 +36,7 @@ last-line-requires : tie.Need-last-line-requires
 last-line-requires c κs =
     let at = c .before .before .before .before .before .before .before .before .before in
     let a = at .args in
-    subst (λ (x : Heard). Holding (a .t) x (a .book .now) (a .lines .now) × (x .line + 1 < 2 ^ 64)) (sym (c .before .before .take-up .ensures))
+    subst (λ (x : Heard). Holding (a .t) x (a .book .now) (a .lines .now) × (x .line + x .rest + 1 < 2 ^ 64)) (sym (c .before .before .take-up .ensures))
     (last-asks (a .t) (a .book .now) (a .kept .now) (a .lines .now) (at .pre .0) (c .before .before .before .before .before .if1 .left) (at .pre .1))
 
 same-length : tie.Need-same-length

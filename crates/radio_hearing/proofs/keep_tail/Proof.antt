@@ -1,5 +1,9 @@
 -- `radio_hearing::keep_tail` meets its contract: the tail is kept behind the rest. Assumes nothing.
 use native.Mathlib.Omega.{arith}
+use lib.ListN.{take, drop}
+use Rattle.cells.specs.declared.State.the-variants.{Fresh}
+use Rattle.lines.specs.Lines.{mostLine, quotingBehind}
+use Rattle.book.specs.Room.{bookOf}
 use Rattle.radio_hearing.proofs.Lines.{long-came, tail-came, tail-front}
 use borrow.Author.Needs.{needs}
 use Rattle.radio_hearing.proofs.keep_tail.Statement.{statement}
@@ -14,7 +18,7 @@ too-long-requires c κs = search needs
 returns : tie.Need-returns
 returns c =
     let st = c .before .before .before .before in
-    long-came (st .args .t) (st .args .from) (st .args .book .now) (st .args .lines .now) (st .pre .0) (st .args .tail .now) (c .too-long .result) (tail-front (st .args .tail .now) (st .pre .1) _ (c .before .if1 .taken)) (c .too-long .ensures) (st .args .lines .now)
+    long-came (st .args .t) (st .args .from) (st .args .book .now) (st .args .lines .now) (st .pre .0) (st .args .tail .now) (c .too-long .result) (tail-front (bookOf (st .args .book .now) .edition) (quotingBehind Fresh (take (st .args .from .rest) (drop mostLine (st .args .lines .now)))) (st .args .tail .now) (st .pre .1) _ (c .before .if1 .taken)) (c .too-long .ensures) (st .args .lines .now)
 
 add-write-bytes : tie.Need-add-write-bytes
 add-write-bytes c = search needs

@@ -2,7 +2,6 @@
 use mathlib.Core.Path.{sym, _∙_}
 use native.Mathlib.Omega.{arith}
 use Rattle.refusals.proofs.Placing.{placed-passes}
-use Rattle.tables.specs.declared.Edition.the-variants.{Dino21}
 use Rattle.tables.specs.Columns.{number}
 use Rattle.header.specs.Header.{headerCheck}
 use Rattle.table_reading.proofs.Taking.{not-accepted}
@@ -29,8 +28,8 @@ enum-told c = search needs
 write-bytes-requires : tie.Need-write-bytes-requires
 write-bytes-requires c κs =
     let st = c .before .before .before .before .before .before .before .before .before .before in
-    let so = head-verdict (st .args .t) (st .args .line .now) (c .before .before .before .before .before .read-header .result) (c .before .before .before .before .number .result) (c .before .before .before .on .result) (c .before .before .before .before .before .read-header .ensures) (c .before .before .before .before .number .ensures) (c .before .before .before .on .ensures) in
-    omega (arith, head-short (st .args .t) (st .args .line .now) (placed-passes (number (st .args .t)) 1 (headerCheck Dino21 (st .args .t) (st .args .line .now)) (sym so ∙ c .before .enum-told .given .1)), st .pre)
+    let so = head-verdict (st .args .edition) (st .args .t) (st .args .line .now) (c .before .before .before .before .before .read-header .result) (c .before .before .before .before .number .result) (c .before .before .before .on .result) (c .before .before .before .before .before .read-header .ensures) (c .before .before .before .before .number .ensures) (c .before .before .before .on .ensures) in
+    omega (arith, head-short (st .args .edition) (st .args .t) (st .args .line .now) (placed-passes (number (st .args .t)) 1 (headerCheck (st .args .edition) (st .args .t) (st .args .line .now)) (sym so ∙ c .before .enum-told .given .1)), st .pre)
 
 enum-known-verdict : tie.Need-enum-known-verdict
 enum-known-verdict c = search needs
@@ -41,13 +40,13 @@ same-length c = search needs
 returns : tie.Need-returns
 returns c =
     let st = c .before .before .before .before .before .before .before .before .before .before .before .before .before in
-    let so = head-verdict (st .args .t) (st .args .line .now) (c .before .before .before .before .before .before .before .before .read-header .result) (c .before .before .before .before .before .before .before .number .result) (c .before .before .before .before .before .before .on .result) (c .before .before .before .before .before .before .before .before .read-header .ensures) (c .before .before .before .before .before .before .before .number .ensures) (c .before .before .before .before .before .before .on .ensures) in
+    let so = head-verdict (st .args .edition) (st .args .t) (st .args .line .now) (c .before .before .before .before .before .before .before .before .read-header .result) (c .before .before .before .before .before .before .before .number .result) (c .before .before .before .before .before .before .on .result) (c .before .before .before .before .before .before .before .before .read-header .ensures) (c .before .before .before .before .before .before .before .number .ensures) (c .before .before .before .before .before .before .on .ensures) in
     (sym (c .before .before .before .before .enum-told .given .1) ∙ so, λ e. c .before .before .write-bytes .ensures .1)
 
 returns-2 : tie.Need-returns-2
 returns-2 c =
     let st = c .before .before .before .before .before .before .before .before .before .before in
-    let so = head-verdict (st .args .t) (st .args .line .now) (c .before .before .before .before .before .read-header .result) (c .before .before .before .before .number .result) (c .before .before .before .on .result) (c .before .before .before .before .before .read-header .ensures) (c .before .before .before .before .number .ensures) (c .before .before .before .on .ensures) in
+    let so = head-verdict (st .args .edition) (st .args .t) (st .args .line .now) (c .before .before .before .before .before .read-header .result) (c .before .before .before .before .number .result) (c .before .before .before .on .result) (c .before .before .before .before .before .read-header .ensures) (c .before .before .before .before .number .ensures) (c .before .before .before .on .ensures) in
     (sym (c .before .verdict .given .1) ∙ so, λ e. not-accepted _ e)
 
 pub hear-head-spec : {M : Type 1} → statement M

@@ -12,7 +12,7 @@ shared-slice-read-if1 : tie.Need-shared-slice-read-if1
 shared-slice-read-if1 c = search needs
 
 returns : tie.Need-returns
-returns c = let a = c .before .before .before .before .args in sym (header-none (a .kept .now) (a .lines .now) (c .if1 .taken))
+returns c = let a = c .before .before .before .before .args in sym (header-none (a .edition) (a .kept .now) (a .lines .now) (c .if1 .taken))
 
 shared-slice-read-in-order : tie.Need-shared-slice-read-in-order
 shared-slice-read-in-order c = search needs
@@ -52,7 +52,7 @@ returns-2 c =
     let rd = c .before .before in
     let t = rd .before .before .before .before .before in
     let a = t .before .before .before .before .before .before .args in
-    sym (header-some (a .kept .now) (a .lines .now) (t .before .before .if1 .left) (t .in-order .result) (t .in-order .ensures) (rd .read-header .result) (rd .read-header .ensures)
+    sym (header-some (a .edition) (a .kept .now) (a .lines .now) (t .before .before .if1 .left) (t .in-order .result) (t .in-order .ensures) (rd .read-header .result) (rd .read-header .ensures)
     ∙ ap passes (c .enum-told .given .1))
 
 returns-3 : tie.Need-returns-3
@@ -60,7 +60,7 @@ returns-3 c =
     let rd = c .before .before in
     let t = rd .before .before .before .before .before in
     let a = t .before .before .before .before .before .before .args in
-    sym (header-some (a .kept .now) (a .lines .now) (t .before .before .if1 .left) (t .in-order .result) (t .in-order .ensures) (rd .read-header .result) (rd .read-header .ensures)
+    sym (header-some (a .edition) (a .kept .now) (a .lines .now) (t .before .before .if1 .left) (t .in-order .result) (t .in-order .ensures) (rd .read-header .result) (rd .read-header .ensures)
     ∙ ap passes (c .enum-told2 .given .1))
 
 pub header-keeps-spec : {M : Type 1} → statement M

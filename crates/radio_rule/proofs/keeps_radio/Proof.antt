@@ -1,7 +1,9 @@
 -- `radio_rule::keeps_radio` meets its contract: the lengths, and then the numbers, the lines and the book. What is 16 is their law. Assumes nothing.
-use mathlib.Core.Path.{sym, _∙_}
+use mathlib.Core.Path.{sym, ap, _∙_}
 use borrow.Author.Tests.{not-true, not-false}
 use borrow.Author.Needs.{needs}
+use Rattle.editions.specs.declared.Edition.{Edition}
+use Rattle.radio_rule.specs.Testing.{linesKeep}
 use Rattle.radio_rule.proofs.Rule.{unfit, book-fits, numbers-fit, lines-fit, by-numbers, by-lines, by-book}
 use Rattle.radio_rule.proofs.keeps_radio.Statement.{statement}
 use Rattle.radio_rule.proofs.keeps_radio.Tie as tie
@@ -21,34 +23,45 @@ returns-2 c =
     let a = fit .before .before .before .before .args in
     sym (by-numbers (a .book .now) (a .kept .now) (a .lines .now) (sym (fit .before .fit .ensures) ∙ not-false _ (fit .if1 .left)) (sym (c .before .numbers-keep .ensures) ∙ not-true _ (c .if2 .taken)))
 
-lines-keep-requires : tie.Need-lines-keep-requires
-lines-keep-requires c κs =
+edition-of-requires : tie.Need-edition-of-requires
+edition-of-requires c κs =
     let fit = c .before .before in
     let a = fit .before .before .before .before .args in
+    book-fits (a .book .now) (a .kept .now) (a .lines .now) (sym (fit .before .fit .ensures) ∙ not-false _ (fit .if1 .left))
+
+lines-keep-requires : tie.Need-lines-keep-requires
+lines-keep-requires c κs =
+    let nums = c .before in
+    let fit = nums .before .before in
+    let a = fit .before .before .before .before .args in
     let fits = sym (fit .before .fit .ensures) ∙ not-false _ (fit .if1 .left) in
-    (numbers-fit (a .book .now) (a .kept .now) (a .lines .now) fits, lines-fit (a .book .now) (a .kept .now) (a .lines .now) fits, sym (c .before .numbers-keep .ensures) ∙ not-false _ (c .if2 .left))
+    (numbers-fit (a .book .now) (a .kept .now) (a .lines .now) fits, lines-fit (a .book .now) (a .kept .now) (a .lines .now) fits, sym (nums .before .numbers-keep .ensures) ∙ not-false _ (nums .if2 .left))
 
 returns-3 : tie.Need-returns-3
 returns-3 c =
-    let nums = c .before .before in
+    let ed = c .before .before in
+    let nums = ed .before in
     let fit = nums .before .before in
     let a = fit .before .before .before .before .args in
-    sym (by-lines (a .book .now) (a .kept .now) (a .lines .now) (sym (fit .before .fit .ensures) ∙ not-false _ (fit .if1 .left)) (sym (nums .before .numbers-keep .ensures) ∙ not-false _ (nums .if2 .left)) (sym (c .before .lines-keep .ensures) ∙ not-true _ (c .if3 .taken)))
+    sym (by-lines (a .book .now) (a .kept .now) (a .lines .now) (sym (fit .before .fit .ensures) ∙ not-false _ (fit .if1 .left)) (sym (nums .before .numbers-keep .ensures) ∙ not-false _ (nums .if2 .left))
+    (ap (λ (x : Edition). linesKeep x (a .kept .now) (a .lines .now)) (sym (ed .edition-of .ensures)) ∙ sym (c .before .lines-keep .ensures) ∙ not-true _ (c .if3 .taken)))
 
 book-keeps-requires : tie.Need-book-keeps-requires
 book-keeps-requires c κs =
-    let fit = c .before .before .before .before in
+    let fit = c .before .before .before .before .before in
     let a = fit .before .before .before .before .args in
     let fits = sym (fit .before .fit .ensures) ∙ not-false _ (fit .if1 .left) in
     (numbers-fit (a .book .now) (a .kept .now) (a .lines .now) fits, book-fits (a .book .now) (a .kept .now) (a .lines .now) fits)
 
 returns-4 : tie.Need-returns-4
 returns-4 c =
-    let nums = c .before .before .before in
+    let ed = c .before .before .before in
+    let nums = ed .before in
     let fit = nums .before .before in
     let a = fit .before .before .before .before .args in
     c .book-keeps .ensures
-    ∙ sym (by-book (a .book .now) (a .kept .now) (a .lines .now) (sym (fit .before .fit .ensures) ∙ not-false _ (fit .if1 .left)) (sym (nums .before .numbers-keep .ensures) ∙ not-false _ (nums .if2 .left)) (sym (c .before .before .lines-keep .ensures) ∙ not-false _ (c .before .if3 .left)))
+    ∙ sym (by-book (a .book .now) (a .kept .now) (a .lines .now) (sym (fit .before .fit .ensures) ∙ not-false _ (fit .if1 .left)) (sym (nums .before .numbers-keep .ensures) ∙ not-false _ (nums .if2 .left))
+    (ap (λ (x : Edition). linesKeep x (a .kept .now) (a .lines .now)) (sym (ed .edition-of .ensures)) ∙ sym (c .before .before .lines-keep .ensures) ∙ not-false _ (c .before .if3 .left)))
 
 pub keeps-radio-spec : {M : Type 1} → statement M
 keeps-radio-spec =
@@ -58,6 +71,7 @@ keeps-radio-spec =
     returns
     numbers-keep-requires
     returns-2
+    edition-of-requires
     lines-keep-requires
     returns-3
     book-keeps-requires

@@ -27,7 +27,7 @@ zero-bytes-requires : tie.Need-zero-bytes-requires
 zero-bytes-requires c κs = search needs
 
 returns : tie.Need-returns
-returns c = let a = c .before .before .before .before .before .before .before .args in sym (lines-head (a .kept .now) (a .lines .now) (sym (c .before .zero-bytes .ensures) ∙ not-true _ (c .if1 .taken)))
+returns c = let a = c .before .before .before .before .before .before .before .args in sym (lines-head (a .edition) (a .kept .now) (a .lines .now) (sym (c .before .zero-bytes .ensures) ∙ not-true _ (c .if1 .taken)))
 
 add-zero-bytes : tie.Need-add-zero-bytes
 add-zero-bytes c = let st = c .before .before .before .before .before .before .before in omega (arith, lengths (st .args .kept .now) (st .pre .0) (st .pre .2) .rest)
@@ -48,7 +48,7 @@ returns-2 : tie.Need-returns-2
 returns-2 c =
     let head = c .before .before .before in
     let a = head .before .before .before .before .before .before .before .args in
-    sym (lines-rest (a .kept .now) (a .lines .now) (sym (head .before .zero-bytes .ensures) ∙ not-false _ (head .if1 .left)) (sym (c .before .zero-bytes2 .ensures) ∙ not-true _ (c .if2 .taken)))
+    sym (lines-rest (a .edition) (a .kept .now) (a .lines .now) (sym (head .before .zero-bytes .ensures) ∙ not-false _ (head .if1 .left)) (sym (c .before .zero-bytes2 .ensures) ∙ not-true _ (c .if2 .taken)))
 
 header-keeps-requires : tie.Need-header-keeps-requires
 header-keeps-requires c κs = search needs
@@ -58,7 +58,7 @@ returns-3 c =
     let head = c .before .before .before .before in
     let a = head .before .before .before .before .before .before .before .args in
     c .header-keeps .ensures
-    ∙ sym (lines-header (a .kept .now) (a .lines .now) (sym (head .before .zero-bytes .ensures) ∙ not-false _ (head .if1 .left)) (sym (c .before .before .zero-bytes2 .ensures) ∙ not-false _ (c .before .if2 .left)))
+    ∙ sym (lines-header (a .edition) (a .kept .now) (a .lines .now) (sym (head .before .zero-bytes .ensures) ∙ not-false _ (head .if1 .left)) (sym (c .before .before .zero-bytes2 .ensures) ∙ not-false _ (c .before .if2 .left)))
 
 pub lines-keep-spec : {M : Type 1} → statement M
 lines-keep-spec =

@@ -5,8 +5,8 @@ use borrow.Author.Needs.{needs}
 use Rattle.radio_slices.proofs.empty.Statement.{statement}
 use Rattle.radio_slices.proofs.empty.Tie as tie
 
-clear-requires : tie.Need-clear-requires
-clear-requires c κs = search needs
+begin-requires : tie.Need-begin-requires
+begin-requires c κs = search needs
 
 copy-numbers-requires : tie.Need-copy-numbers-requires
 copy-numbers-requires c κs = search needs
@@ -25,13 +25,13 @@ same-length-3 c = search needs
 
 returns : tie.Need-returns
 returns c =
-    slices-are _ _ _ _ _ _ (c .before .before .before .before .before .before .before .before .before .clear .ensures) (c .before .before .before .before .before .before .copy-numbers .ensures) (c .before .before .clear-bytes .ensures ∙ no-lines _ (c .before .before .before .before .before .before .before .before .before .before .before .before .before .before .pre .3))
+    slices-are _ _ _ _ _ _ (c .before .before .before .before .before .before .before .before .before .begin .ensures) (c .before .before .before .before .before .before .copy-numbers .ensures) (c .before .before .clear-bytes .ensures ∙ no-lines _ (c .before .before .before .before .before .before .before .before .before .before .before .before .before .before .pre .3))
 
 pub empty-spec : {M : Type 1} → statement M
 empty-spec =
     tie.close
     (tie.spec
-    clear-requires
+    begin-requires
     copy-numbers-requires
     clear-bytes-requires
     same-length

@@ -24,7 +24,7 @@ returns : tie.Need-returns
 returns c =
     let a = c .before .before .before .before .before .before .before .before .before .before .args in
     let r = c .before .before .before .before .before .before .cut-line in
-    cut-count (a .line .now) (a .cells) _ (r .result) (r .ensures) (c .before .before .enum-told .given .1) (c .before .if1 .taken) (c .cell-count .result) (c .cell-count .ensures)
+    cut-count (a .edition) (a .line .now) (a .cells) _ (r .result) (r .ensures) (c .before .before .enum-told .given .1) (c .before .if1 .taken) (c .cell-count .result) (c .cell-count .ensures)
 
 same-length-2 : tie.Need-same-length-2
 same-length-2 c = search needs
@@ -33,7 +33,7 @@ returns-2 : tie.Need-returns-2
 returns-2 c =
     let a = c .before .before .before .before .before .before .before .before .before .args in
     let r = c .before .before .before .before .before .cut-line in
-    cut-refused (a .line .now) (a .cells) _ (r .result) (r .ensures) _ _ (c .before .check .given .1)
+    cut-refused (a .edition) (a .line .now) (a .cells) _ (r .result) (r .ensures) _ _ (c .before .check .given .1)
 
 same-length-3 : tie.Need-same-length-3
 same-length-3 c = search needs
@@ -43,7 +43,7 @@ returns-3 c =
     let st = c .before .before .before .before .before .before .before .before .before in
     let a = st .args in
     let r = c .before .before .before .before .before .cut-line in
-    cut-cells (a .line .now) (a .cells) _ (r .result) (r .ensures) (c .before .enum-told .given .1) (c .if1 .left) (omega (arith, st .pre, c .before .before .before .before .bounds .given))
+    cut-cells (a .edition) (a .line .now) (a .cells) _ (r .result) (r .ensures) (c .before .enum-told .given .1) (c .if1 .left) (omega (arith, st .pre, c .before .before .before .before .bounds .given))
 
 pub cut-row-spec : {M : Type 1} → statement M
 cut-row-spec =

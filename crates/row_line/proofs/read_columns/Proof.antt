@@ -8,7 +8,7 @@ use lib.ListN.{length}
 use borrow.Author.Needs.{needs}
 use Rattle.refusals.specs.declared.Check.the-variants.{Passes}
 use Rattle.cells.specs.Cells.{content}
-use Rattle.tables.specs.declared.Edition.{Edition}
+use Rattle.editions.specs.declared.Edition.{Edition}
 use Rattle.tables.specs.declared.Table.{Table}
 use Rattle.tables.specs.declared.Rules.{Rules}
 use Rattle.tables.specs.Columns.{columnsOf, columnAt, keptWidth}
@@ -22,12 +22,12 @@ use Rattle.row_line.proofs.read_columns.Statement.{statement}
 use Rattle.row_line.proofs.read_columns.Tie as tie
 
 abbrev Inv-columns : tie.InvT-columns
-Inv-columns line bounds columns at cells count kept check₀ row₀ k₀ check row k =
+Inv-columns line bounds edition columns at cells count kept check₀ row₀ k₀ check row k =
     (k ≤ count) × (count ≤ mostColumns) × (check ≡ Passes)
-    × ((ed : Edition) (t : Table) (h : List ℕ) → columns ≡ listed ed t → count ≡ length (columnsOf ed t) → kept ≡ keptWidth t → at ≡ places h → Columned ed t h line row k)
+    × ((t : Table) (h : List ℕ) → columns ≡ listed edition t → count ≡ length (columnsOf edition t) → kept ≡ keptWidth t → at ≡ places h → Columned edition t h line row k)
 
 abbrev μ-columns : tie.MeasureT-columns
-μ-columns line bounds columns at cells count kept check₀ row₀ k₀ check row k = count - k
+μ-columns line bounds edition columns at cells count kept check₀ row₀ k₀ check row k = count - k
 
 element-copy-out-cells : tie.Need-element-copy-out-cells Inv-columns μ-columns
 element-copy-out-cells c = search needs
@@ -39,7 +39,7 @@ kept-requires : tie.Need-kept-requires Inv-columns μ-columns
 kept-requires c κs = search needs
 
 columns-holds : tie.Need-columns-holds Inv-columns μ-columns
-columns-holds c = (omega arith, omega (arith, c .before .columns2 .ensures, columns-few (c .before .before .before .before .before .args .edition) (c .before .before .before .before .before .args .t)), refl, λ ed t h e n m p. columned-none ed t h (c .before .before .before .before .before .args .line .now))
+columns-holds c = (omega arith, omega (arith, c .before .columns2 .ensures, columns-few (c .before .before .before .before .before .args .edition) (c .before .before .before .before .before .args .t)), refl, λ t h e n m p. columned-none (c .before .before .before .before .before .args .edition) t h (c .before .before .before .before .before .args .line .now))
 
 rules-at-requires : tie.Need-rules-at-requires Inv-columns μ-columns
 rules-at-requires c κs = search needs
@@ -98,17 +98,18 @@ columns-again c =
       omega arith,
       w .inv .1,
       w .inv .2,
-      λ ed t h e n m p.
+      λ t h e n m p.
+          let ed = a .edition in
           let l : w .k < length (columnsOf ed t) = omega (arith, n, c .before .before .before .before .before .before .before .before .before .columns-test .taken) in
           let q : value .result ≡ valueOf (columnAt ed t (w .k) .rules) (content (found .result .now)) = value .ensures ∙ ap (λ (x : Rules). valueOf x (content (found .result .now))) (c .before .before .before .before .before .before .before .before .rules-at .ensures ed t e) in
           let d : c .before .before .before .check .result ≡ checkOf (w .k + 1) (value .result) = c .before .before .before .check .ensures ∙ ap (λ (j : ℕ). checkOf j (value .result)) (c .before .before .before .before .wide .ensures) in
           ⊎-elim
           (λ r.
           let m2 : w .k < keptWidth t = omega (arith, m, r .0 .taken) in
-          rw (r .2) (columned-kept ed t h (a .line .now) (w .row) (a .at .now) (w .k) (w .inv .3 ed t h e n m p) p l (found .result .now) (found .ensures) (value .result) q (c .before .before .before .check .result) d (c .before .enum-told .given .1) m2 (r .1 .result) (λ j z. r .1 .ensures ∙ rw z)))
+          rw (r .2) (columned-kept ed t h (a .line .now) (w .row) (a .at .now) (w .k) (w .inv .3 t h e n m p) p l (found .result .now) (found .ensures) (value .result) q (c .before .before .before .check .result) d (c .before .enum-told .given .1) m2 (r .1 .result) (λ j z. r .1 .ensures ∙ rw z)))
           (λ r.
           let m2 : keptWidth t ≤ w .k = omega (arith, m, r .0 .left) in
-          rw (r .1) (columned-past ed t h (a .line .now) (w .row) (a .at .now) (w .k) (w .inv .3 ed t h e n m p) p l (found .result .now) (found .ensures) (value .result) q (c .before .before .before .check .result) d (c .before .enum-told .given .1) m2))
+          rw (r .1) (columned-past ed t h (a .line .now) (w .row) (a .at .now) (w .k) (w .inv .3 t h e n m p) p l (found .result .now) (found .ensures) (value .result) q (c .before .before .before .check .result) d (c .before .enum-told .given .1) m2))
           (c .if1 .came),
     )
 
@@ -116,7 +117,7 @@ returns : tie.Need-returns Inv-columns μ-columns
 returns c =
     let a = c .before .before .before .before .before .before .before .args in
     let w = c .before .columns in
-    λ h p. rw (w .inv .2) (columned-all (a .edition) (a .t) h (a .line .now) (w .row) (w .k) (w .inv .3 (a .edition) (a .t) h (c .before .before .before .before .before .before .before .pre .1) (c .before .before .before .columns2 .ensures) (c .before .before .kept .ensures) p) (omega (arith, c .before .before .before .columns2 .ensures, c .columns-test .left)))
+    λ h p. rw (w .inv .2) (columned-all (a .edition) (a .t) h (a .line .now) (w .row) (w .k) (w .inv .3 (a .t) h (c .before .before .before .before .before .before .before .pre .1) (c .before .before .before .columns2 .ensures) (c .before .before .kept .ensures) p) (omega (arith, c .before .before .before .columns2 .ensures, c .columns-test .left)))
 
 returns-2 : tie.Need-returns-2 Inv-columns μ-columns
 returns-2 c =
@@ -128,7 +129,7 @@ returns-2 c =
     let l : w .k < length (columnsOf (a .edition) (a .t)) = omega (arith, c .before .before .before .before .before .before .before .before .before .before .before .before .columns2 .ensures, c .before .before .before .before .before .before .before .before .before .columns-test .taken) in
     let q : value .result ≡ valueOf (columnAt (a .edition) (a .t) (w .k) .rules) (content (found .result .now)) = value .ensures ∙ ap (λ (x : Rules). valueOf x (content (found .result .now))) (c .before .before .before .before .before .before .before .before .rules-at .ensures (a .edition) (a .t) (c .before .before .before .before .before .before .before .before .before .before .before .before .before .before .before .before .pre .1)) in
     let d : c .before .before .before .check .result ≡ checkOf (w .k + 1) (value .result) = c .before .before .before .check .ensures ∙ ap (λ (j : ℕ). checkOf j (value .result)) (c .before .before .before .before .wide .ensures) in
-    columned-bad (a .edition) (a .t) h (a .line .now) _ _ (columned-fault (a .edition) (a .t) h (a .line .now) (w .row) (a .at .now) (w .k) (w .inv .3 (a .edition) (a .t) h (c .before .before .before .before .before .before .before .before .before .before .before .before .before .before .before .before .pre .1) (c .before .before .before .before .before .before .before .before .before .before .before .before .columns2 .ensures) (c .before .before .before .before .before .before .before .before .before .before .before .kept .ensures) p) p l (found .result .now) (found .ensures) (value .result) q (c .before .before .before .check .result) d _ _ (c .before .number .given .1))
+    columned-bad (a .edition) (a .t) h (a .line .now) _ _ (columned-fault (a .edition) (a .t) h (a .line .now) (w .row) (a .at .now) (w .k) (w .inv .3 (a .t) h (c .before .before .before .before .before .before .before .before .before .before .before .before .before .before .before .before .pre .1) (c .before .before .before .before .before .before .before .before .before .before .before .before .columns2 .ensures) (c .before .before .before .before .before .before .before .before .before .before .before .kept .ensures) p) p l (found .result .now) (found .ensures) (value .result) q (c .before .before .before .check .result) d _ _ (c .before .number .given .1))
 
 pub read-columns-spec : {M : Type 1} → statement M
 read-columns-spec =

@@ -38,8 +38,8 @@ returns c =
     let a = c .before .before .before .before .before .before .before .before .before .before .before .args in
     let line = a .line .now in
     λ h k.
-    let e : cutCheck h line ≡ Passes = sym (c .before .before .before .before .before .before .cut-row .ensures .is h (ap cellsKept k)) ∙ c .before .before .enum-told .given .1 in
-    let z : (cutCheck h line ⊳ cellsCheck (a .edition) (a .t) h line) ≡ cellsCheck (a .edition) (a .t) h line = rw e in
+    let e : cutCheck (a .edition) h line ≡ Passes = sym (c .before .before .before .before .before .before .cut-row .ensures .is h (ap cellsKept k)) ∙ c .before .before .enum-told .given .1 in
+    let z : (cutCheck (a .edition) h line ⊳ cellsCheck (a .edition) (a .t) h line) ≡ cellsCheck (a .edition) (a .t) h line = rw e in
     c .read-columns .ensures h k ∙ ap (λ (q : Check). rowed q (rowRead (a .edition) (a .t) h line)) (sym z)
 
 same-length-2 : tie.Need-same-length-2
@@ -51,8 +51,8 @@ returns-2 c =
     let line = a .line .now in
     let g = c .before .enum-told2 .given in
     λ h k.
-    let e : cutCheck h line ≡ Fails (g .0 .0) (g .0 .1 .0) = sym (c .before .before .before .before .before .cut-row .ensures .is h (ap cellsKept k)) ∙ g .1 in
-    let z : (cutCheck h line ⊳ cellsCheck (a .edition) (a .t) h line) ≡ Fails (g .0 .0) (g .0 .1 .0) = rw e in
+    let e : cutCheck (a .edition) h line ≡ Fails (g .0 .0) (g .0 .1 .0) = sym (c .before .before .before .before .before .cut-row .ensures .is h (ap cellsKept k)) ∙ g .1 in
+    let z : (cutCheck (a .edition) h line ⊳ cellsCheck (a .edition) (a .t) h line) ≡ Fails (g .0 .0) (g .0 .1 .0) = rw e in
     c .no-row .ensures ∙ ap unkept (g .1) ∙ ap (λ (q : Check). rowed q (rowRead (a .edition) (a .t) h line)) (sym z)
 
 pub read-row-spec : {M : Type 1} → statement M

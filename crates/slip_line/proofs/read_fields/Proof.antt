@@ -9,8 +9,9 @@ use Rattle.words.specs.Words.{Row}
 use Rattle.refusals.specs.declared.Check.the-variants.{Passes}
 use Rattle.cells.proofs.Marking.{Stands}
 use Rattle.fields.specs.Fields.{fields}
-use Rattle.tables.specs.declared.Edition.the-variants.{Dino21}
+use Rattle.editions.specs.declared.Edition.{Edition}
 use Rattle.tables.specs.Columns.{columnAt}
+use Rattle.tables.specs.Listing.{listed}
 use Rattle.tables.specs.declared.Table.the-variants.{Block}
 use Rattle.values.specs.Judged.{valueOf}
 use Rattle.values.proofs.Values.{column-narrow}
@@ -20,7 +21,7 @@ use Rattle.slip_line.proofs.read_fields.Statement.{statement}
 use Rattle.slip_line.proofs.read_fields.Tie as tie
 
 abbrev Inv-columns : tie.InvT-columns
-Inv-columns line columns n bounds check₀ row₀ i₀ check row i = (i ≤ n) × (check ≡ Passes) × (row ≡ rowSofar i (numbers (fields line))) × (badField (numbers (fields line)) ≡ badFrom i (numbers (fields line)))
+Inv-columns line columns n bounds check₀ row₀ i₀ check row i = (i ≤ n) × (check ≡ Passes) × (row ≡ rowSofar i (numbers (fields line))) × ((e : Edition) → columns ≡ listed e Block → badField e (numbers (fields line)) ≡ badFrom e i (numbers (fields line)))
 
 abbrev μ-columns : tie.MeasureT-columns
 μ-columns line columns n bounds check₀ row₀ i₀ check row i = n - i
@@ -38,11 +39,11 @@ few c = omega (arith, c .before .before .before .before .before .before .before 
 inside : (c : tie.After-check Inv-columns μ-columns) → c .before .before .before .before .before .columns .i < length (numbers (fields (c .before .before .before .before .before .before .before .before .args .line .now)))
 inside c = omega (arith, c .before .before .before .before .before .before .before .before .pre .1, c .before .before .before .before .columns-test .taken)
 
-value-is : (c : tie.After-check Inv-columns μ-columns) → c .before .of-field .result ≡ valueOf (columnAt Dino21 Block (c .before .before .before .before .before .columns .i) .rules) (getD (numbers (fields (c .before .before .before .before .before .before .before .before .args .line .now))) (c .before .before .before .before .before .columns .i) [])
-value-is c = c .before .of-field .ensures ∙ rw (c .before .before .before .rules-at .ensures Dino21 Block (c .before .before .before .before .before .before .before .before .pre .3), stands (c .before .before .before .before) .there)
+value-is : (c : tie.After-check Inv-columns μ-columns) (e : Edition) → c .before .before .before .before .before .before .before .before .args .columns .now ≡ listed e Block → c .before .of-field .result ≡ valueOf (columnAt e Block (c .before .before .before .before .before .columns .i) .rules) (getD (numbers (fields (c .before .before .before .before .before .before .before .before .args .line .now))) (c .before .before .before .before .before .columns .i) [])
+value-is c e q = c .before .of-field .ensures ∙ rw (c .before .before .before .rules-at .ensures e Block q, stands (c .before .before .before .before) .there)
 
 columns-holds : tie.Need-columns-holds Inv-columns μ-columns
-columns-holds c = (search needs, refl, refl, refl)
+columns-holds c = (search needs, refl, refl, λ e q. refl)
 
 add-from : tie.Need-add-from Inv-columns μ-columns
 add-from c = search needs
@@ -78,7 +79,9 @@ part-of-field-end : tie.Need-part-of-field-end Inv-columns μ-columns
 part-of-field-end c = omega (arith, stands (c .before) .inside)
 
 of-field-requires : tie.Need-of-field-requires Inv-columns μ-columns
-of-field-requires c κs = rw (c .before .rules-at .ensures Dino21 Block (c .before .before .before .before .before .before .pre .3)) (column-narrow Dino21 Block (c .before .before .before .columns .i))
+of-field-requires c κs =
+    let by = c .before .before .before .before .before .before .pre .3 in
+    rw (c .before .rules-at .ensures (by .0) Block (by .1)) (column-narrow (by .0) Block (c .before .before .before .columns .i))
 
 add-check : tie.Need-add-check Inv-columns μ-columns
 add-check c = search needs
@@ -119,25 +122,25 @@ columns-again c =
       omega (arith, inside k, st .pre .1),
       at .columns .inv .1,
       ap (λ (l : Row). set l i (c .kept-number .result)) (at .columns .inv .2)
-          ∙ row-more fs i (c .kept-number .result) (inside k) (omega (arith, inside k, few k)) (c .kept-number .ensures ∙ rw (field-number fs (few k) i v (k .check .result) (inside k) (value-is k) (k .check .ensures) p)),
-      at .columns .inv .3 ∙ field-passes fs (few k) i v (k .check .result) (inside k) (value-is k) (k .check .ensures) p,
+          ∙ row-more fs i (c .kept-number .result) (inside k) (omega (arith, inside k, few k)) (c .kept-number .ensures ∙ rw (field-number (st .pre .3 .0) fs (few k) i v (k .check .result) (inside k) (value-is k (st .pre .3 .0) (st .pre .3 .1)) (k .check .ensures) p)),
+      λ e q. at .columns .inv .3 e q ∙ field-passes e fs (few k) i v (k .check .result) (inside k) (value-is k e q) (k .check .ensures) p,
     )
 
 returns : tie.Need-returns Inv-columns μ-columns
-returns c =
+returns c = λ ed q.
     let at = c .before in
     let st = at .before .before .before in
     let fs = numbers (fields (st .args .line .now)) in
     let e : at .columns .i ≡ length fs = omega (arith, st .pre .1, at .columns .inv .0, c .columns-test .left) in
-    rw (at .columns .inv .1) (passed (badField fs) _ _ (at .columns .inv .3 ∙ bad-end fs (omega (arith, st .pre .1, st .pre .2)) (at .columns .i) (omega arith)) (at .columns .inv .2 ∙ row-whole fs (at .columns .i) e))
+    rw (at .columns .inv .1) (passed (badField ed fs) _ _ (at .columns .inv .3 ed q ∙ bad-end ed fs (omega (arith, st .pre .1, st .pre .2)) (at .columns .i) (omega arith)) (at .columns .inv .2 ∙ row-whole fs (at .columns .i) e))
 
 returns-2 : tie.Need-returns-2 Inv-columns μ-columns
-returns-2 c =
+returns-2 c = λ ed q.
     let k = c .before .before .before in
     let at = k .before .before .before .before .before in
     let st = at .before .before .before in
     let fs = numbers (fields (st .args .line .now)) in
-    refused (badField fs) _ _ _ (at .columns .inv .3 ∙ field-fault fs (few k) (at .columns .i) (k .before .of-field .result) (k .check .result) (inside k) (value-is k) (k .check .ensures) _ _ (c .before .number .given .1))
+    refused (badField ed fs) _ _ _ (at .columns .inv .3 ed q ∙ field-fault ed fs (few k) (at .columns .i) (k .before .of-field .result) (k .check .result) (inside k) (value-is k ed q) (k .check .ensures) _ _ (c .before .number .given .1))
 
 pub read-fields-spec : {M : Type 1} → statement M
 read-fields-spec =

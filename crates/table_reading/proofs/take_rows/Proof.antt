@@ -58,7 +58,7 @@ returns c =
     let accepted = c .before .before .before .before .before .enum-told .given .1 in
     let left = laid-accepted (st .args .t) (st .args .book .now) _ _ (taken .result .count) (taken .ensures .on accepted) _ (c .before .lay-table .ensures) in
     rows-accepted (st .args .t) (st .args .at .now) (st .args .bytes .now) (st .args .first) (st .args .book .now) (taken .result .verdict) _ (st .pre .0 .headed) (st .pre .2)
-    (λ h kept. taken .ensures .taken h kept ∙ ap (rowsRead (st .args .t) h (st .args .first) (lines (st .args .bytes .now))) (shelved .ensures .1)) accepted _ left (taken .result .line) (taken .ensures .next accepted)
+    (λ h kept. taken .ensures .taken h kept ∙ ap (rowsRead (st .args .t) h (st .args .first) (lines (bookOf (st .args .book .now) .edition) (st .args .bytes .now))) (shelved .ensures .1)) accepted _ left (taken .result .line) (taken .ensures .next accepted)
 
 same-length-2 : tie.Need-same-length-2
 same-length-2 c = search needs
@@ -69,7 +69,7 @@ returns-2 c =
     let shelved = c .before .before .before .before .before .before .before .before .before .before .before .shelve in
     let taken = c .before .before .before .before .before .take-lines in
     rows-refused (st .args .t) (st .args .at .now) (st .args .bytes .now) (st .args .first) (st .args .book .now) (taken .result .verdict) _ (st .pre .0 .headed) (st .pre .2)
-    (λ h kept. taken .ensures .taken h kept ∙ ap (rowsRead (st .args .t) h (st .args .first) (lines (st .args .bytes .now))) (shelved .ensures .1)) _ (c .before .verdict .given .1) (st .pre .1) (taken .result .line)
+    (λ h kept. taken .ensures .taken h kept ∙ ap (rowsRead (st .args .t) h (st .args .first) (lines (bookOf (st .args .book .now) .edition) (st .args .bytes .now))) (shelved .ensures .1)) _ (c .before .verdict .given .1) (st .pre .1) (taken .result .line)
 
 pub take-rows-spec : {M : Type 1} → statement M
 take-rows-spec =
