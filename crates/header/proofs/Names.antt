@@ -11,10 +11,9 @@ use lib.Seq.{take-suc, length-take-le, take-all}
 use borrow.Author.Tests.{ne-eqb, eq-eqb, eqb-false, not-true, lt-ltb, le-ltb, ltb-true, ltb-false}
 use Rattle.words.specs.Words.{if_then_else_, Bytes}
 use Rattle.words.proofs.Lists.{drop-step, and-left}
-use Rattle.refusals.specs.Verdicts.{_⊳_, _when_, columnMissing, columnTwice, tooManyCells, lineTooLong}
+use Rattle.refusals.specs.Verdicts.{columnMissing, columnTwice, tooManyCells}
 use Rattle.refusals.specs.declared.Check.{Check}
 use Rattle.refusals.specs.declared.Check.the-variants.{Passes, Fails}
-use Rattle.lines.specs.Lines.{longLine}
 use Rattle.cells.specs.Cells.{content, stretch, cut, cellsOf}
 use Rattle.cells.specs.Numbered.{cellNumbered}
 use Rattle.editions.specs.declared.Edition.{Edition}
@@ -22,10 +21,9 @@ use Rattle.tables.specs.Columns.{Column, noColumn, columnNumber}
 use Rattle.tables.specs.declared.Table.{Table}
 use Rattle.tables.proofs.Figures.{columns-few}
 use Rattle.tables.proofs.Names.{column-number-most}
-use Rattle.header.specs.Header.{member, Header, repeated, placeFrom, missingFrom, missing, header, badCut, lineCheck, mostCells, headerCheck}
+use Rattle.header.specs.Header.{member, Header, repeated, placeFrom, missingFrom, missing, header, lineCheck, mostCells, headerCheck}
 use Rattle.header.specs.Heading.{placesFrom, mostColumns, headerPlaces, places, namesCheck, headed, heading}
 use Rattle.header.specs.declared.Heading.{Heading}
-use Rattle.header.proofs.Cutting.{check-order}
 use Rattle.header.proofs.Quoting.{number-of-content}
 
 -- a column among those to the left --------------------------------------------------------------------------------------------
@@ -231,20 +229,18 @@ pub names-kept : (ed : Edition) (t : Table) (h : Header) (at : List ℕ) → rep
 names-kept ed t h at e g p = rw (names-pass ed t h e g, p)
 
 module _ (ed : Edition) (t : Table) (line : Bytes) where
-  -- 4, 3, 2 come behind 17 and 6
-  header-behind : headerCheck ed t line ≡ lineCheck ed line ⊳ (tooManyCells when ltb mostCells (length (header ed t (cellsOf (cut ed line)))) ⊳ namesCheck ed t (header ed t (cellsOf (cut ed line))))
-  unfolding headerCheck
-  header-behind = sym (check-order (lineTooLong when longLine line) (badCut (cut ed line)) (tooManyCells when ltb mostCells (length (header ed t (cellsOf (cut ed line)))) ⊳ namesCheck ed t (header ed t (cellsOf (cut ed line)))))
-
   pub header-refused : (n k : ℕ) → lineCheck ed line ≡ Fails n k → headerCheck ed t line ≡ Fails n k
-  header-refused n k e = header-behind ∙ rw e
+  unfolding headerCheck
+  header-refused n k e = rw e
 
   module _ (e : lineCheck ed line ≡ Passes) where
     pub header-wide : mostCells < length (cellsOf (cut ed line)) → headerCheck ed t line ≡ tooManyCells
-    header-wide l = header-behind ∙ rw (e, header-length ed t (cellsOf (cut ed line)), lt-ltb mostCells (length (cellsOf (cut ed line))) l)
+    unfolding headerCheck
+    header-wide l = rw (e, header-length ed t (cellsOf (cut ed line)), lt-ltb mostCells (length (cellsOf (cut ed line))) l)
 
     pub header-names : length (cellsOf (cut ed line)) ≤ mostCells → headerCheck ed t line ≡ namesCheck ed t (header ed t (cellsOf (cut ed line)))
-    header-names l = header-behind ∙ rw (e, header-length ed t (cellsOf (cut ed line)), le-ltb mostCells (length (cellsOf (cut ed line))) l)
+    unfolding headerCheck
+    header-names l = rw (e, header-length ed t (cellsOf (cut ed line)), le-ltb mostCells (length (cellsOf (cut ed line))) l)
 
   -- a header that passes has at most `mostCells`
   pub header-few : headerCheck ed t line ≡ Passes → length (cellsOf (cut ed line)) ≤ mostCells

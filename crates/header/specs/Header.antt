@@ -48,10 +48,7 @@ lineCheck e line = lineTooLong when longLine line ⊳ badCut (cut e line)
 
 -- 17, 6, and 7, "cell count differs from header", of a line behind the header
 abbrev pub cutCheck : Edition → Header → Bytes → Check
-cutCheck e h line =
-    lineTooLong when longLine line
-    ⊳ badCut (cut e line)
-    ⊳ cellCount when not (eqb (length (cellsOf (cut e line))) (length h))
+cutCheck e h line = lineCheck e line ⊳ cellCount when not (eqb (length (cellsOf (cut e line))) (length h))
 
 -- 4: "more than 32 header cells"
 abbrev pub mostCells : ℕ
@@ -60,10 +57,8 @@ mostCells = 32
 -- "header 6, 4, 3, 2", and 17 "first among header and line checks"
 unfoldable pub headerCheck : Edition → Table → Bytes → Check
 headerCheck e t line =
-    let u = cut e line in
-    let h = header e t (cellsOf u) in
-    lineTooLong when longLine line
-    ⊳ badCut u
+    let h = header e t (cellsOf (cut e line)) in
+    lineCheck e line
     ⊳ tooManyCells when ltb mostCells (length h)
     ⊳ columnTwice (repeated [] h) when ltb 0 (repeated [] h)
     ⊳ columnMissing (missing e t h) when ltb 0 (missing e t h)

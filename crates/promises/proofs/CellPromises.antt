@@ -11,11 +11,11 @@ use borrow.Author.Tests.{ne-eqb, le-ltb}
 use Rattle.words.specs.Words.{Bytes, Row, if_then_else_}
 use Rattle.refusals.proofs.Chaining.{both}
 use Rattle.refusals.specs.declared.Check.the-variants.{Passes}
-use Rattle.refusals.specs.Verdicts.{_⊳_, _when_, _before_, placed, tooManyRows, lineTooLong, cellCount}
+use Rattle.refusals.specs.Verdicts.{_⊳_, _when_, _before_, placed, tooManyRows, cellCount}
 use Rattle.refusals.specs.declared.Verdict.the-variants.{Accepted}
 use Rattle.refusals.specs.declared.Cell.{Cell}
 use Rattle.refusals.specs.declared.Cell.the-variants.{Number}
-use Rattle.lines.specs.Lines.{lineAfter, startsOn, longLine}
+use Rattle.lines.specs.Lines.{lineAfter, startsOn}
 use Rattle.cells.specs.Cells.{content, cut, cellsOf}
 use Rattle.numbers.specs.Numbers.{value, valueFrom}
 use Rattle.rows.specs.Rows.{column}
@@ -40,7 +40,7 @@ use Rattle.values.proofs.Values.{check-kept, kept-check}
 use Rattle.book.specs.Book.{Book, full, rows}
 use Rattle.book.specs.Result.{leaves}
 use Rattle.rules.specs.Rules.{ruled}
-use Rattle.header.specs.Header.{Header, under, contentsFrom, badCut, lineCheck, cutCheck, contents, headerOf, topFaults}
+use Rattle.header.specs.Header.{Header, under, contentsFrom, lineCheck, cutCheck, contents, headerOf, topFaults}
 use Rattle.row_line.specs.RowLine.{rowRead}
 use Rattle.table_lines.specs.Reading.{judged}
 use Rattle.table_reading.specs.Reading.{tableRead}
@@ -140,11 +140,7 @@ none-above e table line i (l ∷ ls) h = rw (h 0 (omega arith)) (go (ltb i line)
 
 -- 17 and 6 are first in what a row must pass
 line-first : (e : Edition) (h : Header) (line : Bytes) → cutCheck e h line ≡ Passes → lineCheck e line ≡ Passes
-line-first e h line pass =
-    let count = cellCount when not (eqb (length (cellsOf (cut e line))) (length h)) in
-    let p17 = both (lineTooLong when longLine line) (badCut (cut e line) ⊳ count) pass in
-    let p6 = both (badCut (cut e line)) count (p17 .1) in
-    rw (p17 .0, p6 .0)
+line-first e h line pass = both (lineCheck e line) (cellCount when not (eqb (length (cellsOf (cut e line))) (length h))) pass .0
 
 clear-above : (e : Edition) (t : Table) (s : Bytes) (line : ℕ) → Checked e t s → above e t s line ≡ Accepted
 clear-above Dino21 t s line c = refl

@@ -36,7 +36,7 @@ use Rattle.values.specs.Values.{badCell, cellCheck, saidCheck}
 use Rattle.book.specs.Book.{Book, knows, full, emptyBy}
 use Rattle.book.specs.Result.{refused}
 use Rattle.rules.specs.Rules.{timeFault, named, unknown, unknownOf, ruled}
-use Rattle.header.specs.Header.{Header, header, member, repeated, missing, missingFrom, badCut, cutCheck, headerCheck, contents, headerOf, mostCells}
+use Rattle.header.specs.Header.{Header, header, member, repeated, missing, missingFrom, badCut, lineCheck, cutCheck, headerCheck, contents, headerOf, mostCells}
 use Rattle.row_line.specs.RowLine.{rowRead}
 use Rattle.table_lines.specs.Reading.{judged}
 use Rattle.table_reading.specs.Reading.{tableRead}
@@ -218,6 +218,10 @@ given-cut e xs l n h =
     let k : ℕ = faultyCell (cut e l) in
     given-when xs 6 k (ltb 0 k) (λ f. h k (and-both (ltb 0 k) (leb k (suc mostBytes)) f (le-leb k (suc mostBytes) (omega (arith, cut-few e Fresh l)))))
 
+-- 17 and 6 of a line
+given-cutting : (e : Edition) (xs : List Numbered) (l : Bytes) → length l ≤ mostBytes → among xs 17 0 ≡ true → ((k : ℕ) → anyCell k ≡ true → among xs 6 k ≡ true) → given xs (lineCheck e l) ≡ true
+given-cutting e xs l n long h = given-chain xs (lineTooLong when longLine l) (badCut (cut e l)) (given-when xs 17 0 (longLine l) (λ f. long)) (given-cut e xs l n h)
+
 pub given-row : (t : Table) (h : Header) (l : Bytes) (b : Book) → length l ≤ mostBytes → given (rowNumbers (b .edition) t) (judged t h l b) ≡ true
 unfolding judged among
 given-row t h l b n =
@@ -228,9 +232,8 @@ given-row t h l b n =
     let count = cellCount when not (eqb (length (cellsOf (cut e l))) (length h)) in
     given-chain xs (tooManyRows when full t b) (cutCheck e h l ⊳ badCell 1 (columnsOf e t) cs ⊳ ruled t row b) (given-when xs 5 0 (full t b) (λ f. refl))
     (given-chain xs (cutCheck e h l) (badCell 1 (columnsOf e t) cs ⊳ ruled t row b)
-    (given-chain xs (lineTooLong when longLine l) (badCut (cut e l) ⊳ count) (given-when xs 17 0 (longLine l) (λ f. refl))
-    (given-chain xs (badCut (cut e l)) count (given-cut e xs l n (λ k f. f))
-    (given-when xs 7 0 (not (eqb (length (cellsOf (cut e l))) (length h))) (λ f. refl))))
+    (given-chain xs (lineCheck e l) count (given-cutting e xs l n refl (λ k f. f))
+    (given-when xs 7 0 (not (eqb (length (cellsOf (cut e l))) (length h))) (λ f. refl)))
     (given-chain xs (badCell 1 (columnsOf e t) cs) (ruled t row b) (given-columns e xs t (λ k f. f) (λ k f. f) (λ k f. f) (λ k f. f) cs)
     (given-ruled t xs row b (λ f. f) refl (λ k f. f))))
 
@@ -256,12 +259,11 @@ given-header e t l n =
     let c2 = columnMissing (missing e t h) when ltb 0 (missing e t h) in
     let c3 = columnTwice (repeated [] h) when ltb 0 (repeated [] h) in
     let c4 = tooManyCells when ltb mostCells (length h) in
-    given-chain xs (lineTooLong when longLine l) (badCut u ⊳ c4 ⊳ c3 ⊳ c2) (given-when xs 17 0 (longLine l) (λ f. refl))
-    (given-chain xs (badCut u) (c4 ⊳ c3 ⊳ c2) (given-cut e xs l n (λ k f. f))
+    given-chain xs (lineCheck e l) (c4 ⊳ c3 ⊳ c2) (given-cutting e xs l n refl (λ k f. f))
     (given-chain xs c4 (c3 ⊳ c2) (given-when xs 4 0 (ltb mostCells (length h)) (λ f. refl))
     (given-chain xs c3 c2
     (given-when xs 3 (repeated [] h) (ltb 0 (repeated [] h)) (λ f. column-any e t (repeated [] h) (ltb-true 0 (repeated [] h) f) (omega (arith, repeated-most e t [] (cellsOf u)))))
-    (given-when xs 2 (missing e t h) (ltb 0 (missing e t h)) (λ f. rw f (missing-required 0 (columnsOf e t) h (ltb-true 0 (missing e t h) f) .1))))))
+    (given-when xs 2 (missing e t h) (ltb 0 (missing e t h)) (λ f. rw f (missing-required 0 (columnsOf e t) h (ltb-true 0 (missing e t h) f) .1)))))
 
 given-line : (w : Wish) (fs : List Bytes) (row : Row) (b : Book) → given (slipNumbers (b .edition)) (lineJudged w fs row b) ≡ true
 unfolding given among

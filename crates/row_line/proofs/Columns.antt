@@ -1,7 +1,7 @@
 -- The content of the columns of a line, and its checks. Assumes nothing.
 use mathlib.Core.Path.{_≡_, refl, _∙_, ap, sym, subst}
 use mathlib.Core.List.{[], _∷_, List}
-use mathlib.Core.Bool.{Bool, true, false, not}
+use mathlib.Core.Bool.{Bool, true, false}
 use Prim.Native.Nat.{ℕ, suc, _≤_, _-_, zero, _+_, _<_}
 use native.Mathlib.Omega.{arith}
 use lib.Dec.{eqb}
@@ -10,10 +10,9 @@ use borrow.Author.Tests.{ne-eqb, eqb-false, eq-eqb}
 use Rattle.words.specs.Words.{if_then_else_, Bytes}
 use Rattle.words.proofs.Lists.{drop-step}
 use Rattle.refusals.proofs.Chaining.{both}
-use Rattle.refusals.specs.Verdicts.{_⊳_, _when_, cellCount, lineTooLong}
+use Rattle.refusals.specs.Verdicts.{_⊳_, cellCount}
 use Rattle.refusals.specs.declared.Check.{Check}
 use Rattle.refusals.specs.declared.Check.the-variants.{Passes, Fails}
-use Rattle.lines.specs.Lines.{longLine}
 use Rattle.cells.specs.Numbered.{cellNumbered, MarksOf}
 use Rattle.cells.specs.Cells.{content, cut, cellsOf}
 use Rattle.editions.specs.declared.Edition.{Edition}
@@ -23,10 +22,9 @@ use Rattle.tables.proofs.Figures.{columns-few}
 use Rattle.values.specs.Values.{cellCheck, badCell}
 use Rattle.values.specs.Judged.{breaks}
 use Rattle.values.proofs.Values.{check-kept}
-use Rattle.header.specs.Header.{Header, placeFrom, under, badCut, lineCheck, cutCheck, contentsFrom, contents}
+use Rattle.header.specs.Header.{Header, placeFrom, under, lineCheck, contentsFrom, contents}
 use Rattle.header.specs.Heading.{places, LineCut}
 use Rattle.header.specs.declared.CutLine.{CutLine}
-use Rattle.header.proofs.Cutting.{check-order}
 use Rattle.header.proofs.Names.{place-at}
 use Rattle.row_line.specs.Judging.{CutOf}
 
@@ -120,17 +118,13 @@ all-kept j (x ∷ xs) (s ∷ ss) e (suc k) lx ls =
 
 -- the checks of a line -------------------------------------------------------------------------------------------------------------
 
--- 7 comes behind 17 and 6
-cut-behind : (ed : Edition) (h : Header) (line : Bytes) → cutCheck ed h line ≡ lineCheck ed line ⊳ cellCount when not (eqb (length (cellsOf (cut ed line))) (length h))
-cut-behind ed h line = sym (check-order (lineTooLong when longLine line) (badCut (cut ed line)) (cellCount when not (eqb (length (cellsOf (cut ed line))) (length h))))
-
 -- 17, 6 and 7 of a row under a header of so many cells
 module _ (ed : Edition) (line : Bytes) (count : ℕ) (bounds : List ℕ) (r : CutLine) (e : LineCut ed line bounds r) where
   pub cut-refused : (n k : ℕ) → r .check ≡ Fails n k → CutOf ed line count bounds (Fails n k)
   cut-refused n k g =
       let p : lineCheck ed line ≡ Fails n k = sym (e .is) ∙ g in
       record {
-        is = λ h q. sym (cut-behind ed h line ∙ rw p);
+        is = λ h q. rw p;
         marks = λ q. let z : _≡_ {A = ℕ} 0 1 = cc in absurd (omega arith);
       }
 
@@ -144,13 +138,13 @@ module _ (ed : Edition) (line : Bytes) (count : ℕ) (bounds : List ℕ) (r : Cu
     pub cut-count : (r .cells ≡ count → ⊥) → (c : Check) → c ≡ cellCount → CutOf ed line count bounds c
     cut-count d c f =
         record {
-          is = λ h k. f ∙ sym (cut-behind ed h line ∙ rw (clean, ne-eqb (length (cellsOf (cut ed line))) (length h) (λ q. d (sym counted ∙ q ∙ sym k))));
+          is = λ h k. f ∙ sym (rw (clean, ne-eqb (length (cellsOf (cut ed line))) (length h) (λ q. d (sym counted ∙ q ∙ sym k))));
           marks = λ q. let z : _≡_ {A = ℕ} 0 1 = cc in absurd (omega arith);
         }
 
     pub cut-cells : r .cells ≡ count → count < length bounds → CutOf ed line count bounds Passes
     cut-cells d l =
         record {
-          is = λ h k. sym (cut-behind ed h line ∙ rw (clean, eq-eqb (length (cellsOf (cut ed line))) (length h) (counted ∙ d ∙ k)));
+          is = λ h k. sym (rw (clean, eq-eqb (length (cellsOf (cut ed line))) (length h) (counted ∙ d ∙ k)));
           marks = λ q. subst (MarksOf ed line bounds) d (e .marks g (rw d l));
         }
