@@ -29,7 +29,7 @@ use Rattle.delivery.specs.Delivery.{Delivery, reading, Left}
 use Rattle.delivery.specs.Calls.{readOutcome, readBy, readCall}
 use Rattle.delivery.specs.Calls as reading-is
 use Rattle.cell_question.specs.CellQuestion.{cellAsked}
-use Rattle.slips.specs.Calls.{slipOutcome, workSized, cleared, slipCall, Outcome, outcome}
+use Rattle.slips.specs.Calls.{workRows, slipOutcome, workSized, cleared, slipCall, Outcome, outcome}
 use Rattle.slips.specs.Slips.{posting, kept, posted}
 use Rattle.day.specs.Calls.{thenSlip, emptied, dayCall}
 use Rattle.writer.specs.Calls.{wrote, writeCall}
@@ -63,7 +63,11 @@ refused-reading-empties n d slice p m = rw (eq-eqb (length slice) bookRows m) (e
 
 pub unknown-edition-refused : promises.UnknownEditionRefused
 unfolding cellAsked
-unknown-edition-refused n u = (λ d slice m. rw (eq-eqb (length slice) bookRows m, u), λ s table line k. rw u)
+unknown-edition-refused n u = (
+  λ d slice m. rw (eq-eqb (length slice) bookRows m, u),
+  λ d s book work m w. rw (eq-eqb (length work) workRows w, eq-eqb (length book) bookRows m, u),
+  λ s table line k. rw u,
+)
 
 pub wrong-book-stays : promises.WrongBookStays
 wrong-book-stays n d slice m = let e : eqb (length slice) bookRows ≡ false = ne-eqb (length slice) bookRows m in (rw e, rw e)

@@ -226,10 +226,11 @@ abbrev pub RefusedReadingEmpties : Type 0
 RefusedReadingEmpties = (n : ℕ) (d : Delivery) (slice : List Row) (p : Place) → length slice ≡ bookRows → readCall n d slice .verdict ≡ Refused p →
     readCall n d slice .book ≡ laid empty
 
--- "an unknown edition is 22, right after 16", with no place: of a reading and of a cell question
+-- "an unknown edition is 22, right after 16", with no place: of a reading, of a day and of a cell question
 abbrev pub UnknownEditionRefused : Type 0
 UnknownEditionRefused = (n : ℕ) → choice n ≡ choice-is.Unknown →
     ((d : Delivery) (slice : List Row) → length slice ≡ bookRows → paper (readCall n d slice .verdict) ≡ unplaced 22)
+    × ((d : Delivery) (s : Bytes) (book work : List Row) → length book ≡ bookRows → length work ≡ workRows → paper (dayCall n d s book work .verdict) ≡ unplaced 22)
     × ((s : Bytes) (table line k : ℕ) → cellPaper (cellAsked n s table line k) ≡ unplaced 22 ++ replicate 4 0)
 
 -- "a refused slip the book untouched"; the working area ends all zero
