@@ -6,7 +6,9 @@ ghost use lib.ListN.{length};
 ghost use Rattle.cells.specs.Cells.{parted};
 ghost use Rattle.numbers.specs.Putting.{put};
 ghost use Rattle.numbers.specs.Numbers.{decimal};
+ghost use Rattle.numbers.specs.Powers.{powersOfTen};
 ghost use Rattle.rows.specs.Rows.{rowNumbers};
+use numbers::Powers;
 
 pub const LINE_FEED: u8 = 10;
 
@@ -24,11 +26,11 @@ pub fn write_bytes(out: &mut [u8], bytes: &[u8]) -> usize
 }
 
 // A number, and the byte that ends its cell.
-fn write_cell(out: &mut [u8], n: u64, end: u8) -> usize
-    requires { ⌜ length (decimal n) + 1 ≤ length (now out) ⌝ }
+fn write_cell(out: &mut [u8], n: u64, end: u8, powers: &Powers) -> usize
+    requires { ⌜ (length (decimal n) + 1 ≤ length (now out)) × (now powers ≡ powersOfTen) ⌝ }
     ensures { λ r. ⌜ (r ≡ length (decimal n) + 1) × (now (out .exit) ≡ put (decimal n ++ (end ∷ [])) (now (out .entry))) ⌝ }
 {
-    let at = numbers::write_number(out, n);
+    let at = numbers::write_number(out, n, powers);
     out[at] = end;
     at + 1
 }
@@ -52,12 +54,13 @@ pub fn write_numbers(out: &mut [u8], numbers: &[u64], separator: u8) -> usize
     requires { ⌜ (1 ≤ length (now numbers)) × (length (parted separator (map decimal (now numbers))) + 1 ≤ length (now out)) ⌝ }
     ensures { λ r. ⌜ (r ≡ length (parted separator (map decimal (now (numbers .entry)))) + 1) × (now (out .exit) ≡ put (parted separator (map decimal (now (numbers .entry))) ++ (10 ∷ [])) (now (out .entry))) ⌝ }
 {
+    let powers = numbers::powers_of_ten();
     let last = numbers.len() - 1;
     let mut at = 0;
     let mut i = 0;
     'numbers: while i < last {
-        at += write_cell(&mut out[at..], numbers[i], separator);
+        at += write_cell(&mut out[at..], numbers[i], separator, &powers);
         i += 1;
     }
-    at + write_cell(&mut out[at..], numbers[last], LINE_FEED)
+    at + write_cell(&mut out[at..], numbers[last], LINE_FEED, &powers)
 }

@@ -1,16 +1,14 @@
 -- A text put at the head of a buffer, a byte behind it, and the rest of the buffer lent on. Assumes nothing.
 use mathlib.Core.Path.{_≡_}
 use mathlib.Core.List.{_++_, append-assoc, [], _∷_, append-nil}
-use Prim.Native.Nat.{ℕ, _<_, _+_, suc, _/_, _%_, _≤_, _-_}
+use Prim.Native.Nat.{ℕ, _<_, _+_, _-_}
 use native.Mathlib.Numerals.{add-one}
 use native.Mathlib.Omega.{arith}
 use lib.ListN.{length, take, drop, length-append, set, getD, length-drop, drop-of-length-le}
-use lib.Seq.{take-append-seam, drop-append-seam, drop-drop, drop-cons, set-append-seam, drop-at, set-split, length-take-le, take-suc, take-all}
+use lib.Seq.{take-append-seam, drop-append-seam, drop-drop, drop-cons, set-append-seam, length-take-le, take-suc, take-all}
 use borrow.Rule.Slice.PartMut.{same-len-mid}
 use Rattle.words.specs.Words.{Bytes}
 use Rattle.numbers.specs.Putting.{put}
-use Rattle.numbers.specs.Numbers.{decimal}
-use Rattle.numbers.proofs.Writing.{decimal-one, decimal-more, decimal-more-length}
 
 -- a text behind a text
 put-more : (t u o : Bytes) → take (length t) (put t o) ++ put u (drop (length t) (put t o)) ≡ put (t ++ u) o
@@ -22,18 +20,6 @@ put-set t o b h = rw (drop-cons o (length t) 0 h, set-append-seam, length-append
 
 pub put-byte : (t o p : Bytes) (a b : ℕ) → a ≡ length t → p ≡ put t o → a < length o → set p a b ≡ put (t ++ (b ∷ [])) o
 put-byte t o p a b ea ep h = rw (ep, ea) (put-set t o b (omega arith))
-
--- a number of one digit; and of more, whose last is stored before the others are put
-pub put-one : (n : ℕ) (o : Bytes) → n < 10 → 0 < length o → set o 0 (48 + n) ≡ put (decimal n) o
-put-one n o h l = rw (decimal-one n h) (put-set [] o (48 + n) l)
-
-drop-set : (o : Bytes) (i b : ℕ) → i < length o → drop i (set o i b) ≡ b ∷ drop (suc i) o
-drop-set o i b h = rw (set-split o i b h) (drop-at (take i o) (b ∷ drop (suc i) o) i (length-take-le i o (omega arith)))
-
-pub put-others : (n i : ℕ) (o : Bytes) → 10 ≤ n → i + 1 ≡ length (decimal n) → i < length o → put (decimal (n / 10)) (set o i (48 + n % 10)) ≡ put (decimal n) o
-put-others n i o h e l =
-    let others : length (decimal (n / 10)) ≡ i = omega (arith, decimal-more-length n h) in
-    rw (others, drop-set o i (48 + n % 10) l, ← e, add-one, decimal-more n h, append-assoc)
 
 -- the first bytes of a text, and the next one
 pub put-next : (s o p : Bytes) (i : ℕ) → i < length s → i < length o → p ≡ put (take i s) o → set p i (getD s i 0) ≡ put (take (i + 1) s) o

@@ -2,3 +2,4 @@
 pub mod Numbers
 pub mod Putting
 pub mod Decimals
+pub mod Powers

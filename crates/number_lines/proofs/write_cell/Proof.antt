@@ -22,7 +22,7 @@ returns : tie.Need-returns
 returns c =
     let a = c .before .before .before .before .before .args in
     let w = c .before .before .write-number in
-    (omega arith, put-byte (decimal (a .n)) (a .out .now) (w .last .0) (w .result) (a .end) (w .ensures .0) (w .ensures .1) (omega (arith, c .before .before .before .before .before .pre)))
+    (omega arith, put-byte (decimal (a .n)) (a .out .now) (w .last .0) (w .result) (a .end) (w .ensures .0) (w .ensures .1) (omega (arith, c .before .before .before .before .before .pre .0)))
 
 pub write-cell-spec : {M : Type 1} → statement M
 write-cell-spec = tie.close (tie.spec write-number-requires slice-write-out add-result same-length returns)

@@ -15,20 +15,20 @@ use Rattle.number_lines.proofs.write_numbers.Statement.{statement}
 use Rattle.number_lines.proofs.write_numbers.Tie as tie
 
 abbrev Inv-numbers : tie.InvT-numbers
-Inv-numbers out₀ numbers separator last at₀ i₀ out at i =
+Inv-numbers out₀ numbers separator powers last at₀ i₀ out at i =
     (i ≤ last) × (at ≡ length (ended separator (map decimal (take i numbers)))) × (length out ≡ length out₀) × (out ≡ put (ended separator (map decimal (take i numbers))) out₀)
 
 abbrev μ-numbers : tie.MeasureT-numbers
-μ-numbers out₀ numbers separator last at₀ i₀ out at i = last - i
+μ-numbers out₀ numbers separator powers last at₀ i₀ out at i = last - i
 
 -- one number is the last
-some : (c : tie.At-numbers Inv-numbers μ-numbers) → length (c .before .before .before .args .numbers .now) ≡ (length (c .before .before .before .args .numbers .now) - 1) + 1
-some c = omega (arith, c .before .before .before .pre .0)
+some : (c : tie.At-numbers Inv-numbers μ-numbers) → length (c .before .before .before .before .args .numbers .now) ≡ (length (c .before .before .before .before .args .numbers .now) - 1) + 1
+some c = omega (arith, c .before .before .before .before .pre .0)
 
 -- the number at the place reached has room
-cell-room : (c : tie.At-numbers Inv-numbers μ-numbers) → c .numbers .at + (length (decimal (getD (c .before .before .before .args .numbers .now) (c .numbers .i) 0)) + 1) ≤ length (c .numbers .out)
+cell-room : (c : tie.At-numbers Inv-numbers μ-numbers) → c .numbers .at + (length (decimal (getD (c .before .before .before .before .args .numbers .now) (c .numbers .i) 0)) + 1) ≤ length (c .numbers .out)
 cell-room c =
-    let s = c .before .before .before in
+    let s = c .before .before .before .before in
     let ns = s .args .numbers .now in
     let e = some c in
     omega (
@@ -39,8 +39,11 @@ cell-room c =
     )
 
 -- behind the loop it is the last
-last-number : (c : tie.After-numbers Inv-numbers μ-numbers) → c .before .numbers .i ≡ length (c .before .before .before .before .args .numbers .now) - 1
+last-number : (c : tie.After-numbers Inv-numbers μ-numbers) → c .before .numbers .i ≡ length (c .before .before .before .before .before .args .numbers .now) - 1
 last-number c = omega arith
+
+powers-of-ten-requires : tie.Need-powers-of-ten-requires Inv-numbers μ-numbers
+powers-of-ten-requires c κs = search needs
 
 sub-last : tie.Need-sub-last Inv-numbers μ-numbers
 sub-last c = search needs
@@ -66,13 +69,13 @@ shared-slice-read-write-cell c = search needs
 
 write-cell-requires : tie.Need-write-cell-requires Inv-numbers μ-numbers
 write-cell-requires c κs =
-    let h = c .before .before .before in
-    rw (length-rest (h .numbers .out) (h .numbers .at)) (omega (arith, cell-room h))
+    let h = c .before .before .before .before in
+    (rw (length-rest (h .numbers .out) (h .numbers .at)) (omega (arith, cell-room h)), h .before .powers-of-ten .ensures)
 
 add-at : tie.Need-add-at Inv-numbers μ-numbers
 add-at c =
-    let h = c .before .before .before .before .before .before in
-    omega (arith, cell-room h, h .before .before .before .good .0)
+    let h = c .before .before .before .before .before .before .before in
+    omega (arith, cell-room h, h .before .before .before .before .good .0)
 
 add-i : tie.Need-add-i Inv-numbers μ-numbers
 add-i c = search needs
@@ -82,8 +85,8 @@ numbers-less c = search needs
 
 numbers-again : tie.Need-numbers-again Inv-numbers μ-numbers
 numbers-again c =
-    let h = c .before .before .before .before .before .before in
-    let s = h .before .before .before in
+    let h = c .before .before .before .before .before .before .before in
+    let s = h .before .before .before .before in
     let ns = s .args .numbers .now in
     let l = h .numbers in
     let w = c .before .before .write-cell in (
@@ -110,26 +113,26 @@ shared-slice-read-write-cell-2 c = search needs
 
 write-cell-requires-2 : tie.Need-write-cell-requires-2 Inv-numbers μ-numbers
 write-cell-requires-2 c κs =
-    let a = c .before .before in
+    let a = c .before .before .before in
     let l = a .before .numbers in
-    rw (length-rest (l .out) (l .at)) (omega (arith, rw (last-number a) at (cell-room (a .before))))
+    (rw (length-rest (l .out) (l .at)) (omega (arith, rw (last-number a) at (cell-room (a .before)))), a .before .before .powers-of-ten .ensures)
 
 add-result : tie.Need-add-result Inv-numbers μ-numbers
 add-result c =
-    let a = c .before .before .before .before .before in
-    omega (arith, rw (last-number a) at (cell-room (a .before)), a .before .before .before .before .good .0)
+    let a = c .before .before .before .before .before .before in
+    omega (arith, rw (last-number a) at (cell-room (a .before)), a .before .before .before .before .before .good .0)
 
 same-length : tie.Need-same-length Inv-numbers μ-numbers
 same-length c =
-    let l = c .before .before .before .before .before .before .numbers in
+    let l = c .before .before .before .before .before .before .before .numbers in
     let w = c .before .before .write-cell2 in
     length-back (l .out) (w .last .0) (l .at) (w .kept .0) ∙ l .inv .2
 
 returns : tie.Need-returns Inv-numbers μ-numbers
 returns c =
-    let a = c .before .before .before .before .before in
+    let a = c .before .before .before .before .before .before in
     let h = a .before in
-    let s = h .before .before .before in
+    let s = h .before .before .before .before in
     let ns = s .args .numbers .now in
     let l = h .numbers in
     let w = c .before .before .write-cell2 in
@@ -149,6 +152,7 @@ write-numbers-spec =
     (tie.spec
     Inv-numbers
     μ-numbers
+    powers-of-ten-requires
     sub-last
     numbers-holds
     sub-write-cell
