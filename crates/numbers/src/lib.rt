@@ -45,9 +45,9 @@ const POWERS: Powers = [
 ];
 
 // A digit, and what is left of a number below the digit's power of ten.
-struct Digit {
-    digit: u8,
-    left: u64,
+pub struct Digit {
+    pub digit: u8,
+    pub left: u64,
 }
 
 fn wide(byte: u8) -> u64
@@ -114,7 +114,7 @@ fn reached(amount: u64, left: u64) -> u64
 }
 
 // The digit of n at a power of ten, without a division: how many fours of the power are reached, and of what is left how many ones.
-fn digit_of(n: u64, power: u64) -> Digit
+pub fn digit_of(n: u64, power: u64) -> Digit
     requires { ⌜ (n < 10 * power) × (power ≤ 10 ^ 18) ⌝ }
     ensures { λ r. ⌜ (r .digit * power + r .left ≡ n) × (r .left < power) × (r .digit < 10) ⌝ }
 {
