@@ -16,7 +16,7 @@ enum { SIZES = 4, SMALLEST = 64, MOST_SAMPLES = 2001, DEFAULT_SAMPLES = 201, TEX
 enum { LIBRARY, PLAIN_C, SIDES };
 
 static const struct side plain_side = {"the plain reader", plain_read, plain_slip, plain_cell, plain_type, plain_block,
-    plain_write, NULL, NULL, NULL, NULL};
+    plain_season, plain_write, NULL, NULL, NULL, NULL};
 
 static const struct side *sides[SIDES] = {&library_side, &plain_side};
 
@@ -56,12 +56,20 @@ enum order { RISING, FALLING, SHUFFLED, BROKEN_UP, ORDERS };
 
 enum { BY_21 = 21, BY_23 = 23 };
 
+/* Where days and day types begin, and how many day types there are. */
+enum { FIRST_DAY = 20251214, FIRST_DAY_TYPE = 100000000, DAY_TYPES = 8 };
+
+/* How many types the two questions are asked for in a turn, from 10 on. */
+enum { ASKED_TYPES = 8 };
+
 static struct {
     size_t rows;
-    row types[TABLE_ROWS], depots[TABLE_ROWS], stops[TABLE_ROWS], points[TABLE_ROWS], blocks[TABLE_ROWS];
+    row types[TABLE_ROWS], depots[TABLE_ROWS], stops[TABLE_ROWS], points[TABLE_ROWS], blocks[TABLE_ROWS], days[TABLE_ROWS];
     struct growing texts[ORDERS][TABLES]; /* in the order of reading */
     struct growing replacing, renewing; /* slips */
     row book[BOOK_ROWS];
+    row season[BOOK_ROWS]; /* the season question's book */
+    uint64_t last;         /* its last day */
 } work_load;
 
 static uint64_t dice;
@@ -96,10 +104,22 @@ static void put_number(struct growing *text, uint64_t number)
     put(text, digits + at);
 }
 
+/* The next day; 29 February is left out. */
+static uint64_t next_day(uint64_t day)
+{
+    static const uint8_t days_of[] = {31, 28, 31, 30, 31, 30, 31, 31, 30, 31, 30, 31};
+    uint64_t month = day / 100 % 100;
+
+    if (day % 100 < days_of[month - 1])
+        return day + 1;
+    return month < 12 ? (day / 100 + 1) * 100 + 1 : (day / 10000 + 1) * 10000 + 101;
+}
+
 /* Row i of 512: 64 rows to a version, since a block can name no more than 100 types of its own. Numbers rise with i, so that
  * the rows are in key order as they are made. */
 static void make_rows(size_t n)
 {
+    uint64_t day = FIRST_DAY;
     size_t i;
 
     work_load.rows = n;
@@ -112,11 +132,15 @@ static void make_rows(size_t n)
         uint64_t *block = work_load.blocks[i];
 
         work_load.types[i][0] = work_load.depots[i][0] = work_load.stops[i][0] = point[0] = block[0] = version;
+        work_load.days[i][0] = version;
+        work_load.days[i][1] = day;
+        work_load.days[i][2] = FIRST_DAY_TYPE + roll() % DAY_TYPES;
+        day = next_day(day);
         work_load.types[i][1] = i % 64 + 10;
         work_load.depots[i][1] = 10000 + i * 150;
         work_load.stops[i][1] = point[1] = 20000 + i * 150;
         point[2] = 1 + roll() % 9;
-        block[1] = 100000000 + i % 64 / 8;
+        block[1] = FIRST_DAY_TYPE + i % 64 / 8;
         block[2] = work_load.depots[first + i % 64 / 8 * 8][1];
         block[3] = 10000000 + i * 1000;
         block[4] = work_load.types[first + roll() % (i % 64 + 1)][1];
@@ -126,6 +150,48 @@ static void make_rows(size_t n)
         block[8] = arr_point[1];
         block[9] = arr_point[2];
         block[10] = block[7] + roll() % 40000;
+    }
+}
+
+/* A book of one version, so that no block and no day can be left out for its version: n blocks of the types that are asked for,
+ * and 25 days to 16 blocks, 800 to 512, both over all day types. */
+static void make_season(size_t n)
+{
+    row *book = work_load.season;
+    size_t days = n * 25 / 16;
+    uint64_t day = FIRST_DAY;
+    size_t i;
+
+    memset(book, 0, sizeof work_load.season);
+    for (i = 0; i < n; i++) {
+        uint64_t *type = book[i];
+        uint64_t *depot = book[TABLE_ROWS + i];
+        uint64_t *stop = book[2 * TABLE_ROWS + i];
+        uint64_t *point = book[3 * TABLE_ROWS + i];
+        uint64_t *block = book[4 * TABLE_ROWS + i];
+
+        if (i < ASKED_TYPES) {
+            type[0] = 1;
+            type[1] = 10 + i;
+        }
+        depot[0] = stop[0] = point[0] = 1;
+        depot[1] = 10000 + i * 150;
+        stop[1] = point[1] = 20000 + i * 150;
+        point[2] = 1;
+        memcpy(block, work_load.blocks[i], sizeof(row));
+        block[0] = 1;
+        block[1] = FIRST_DAY_TYPE + i * DAY_TYPES / n;
+        block[2] = depot[1];
+        block[4] = 10 + roll() % ASKED_TYPES;
+        block[6] = block[9] = 1;
+    }
+    for (i = 0; i < days; i++) {
+        uint64_t *numbers = book[5 * TABLE_ROWS + i];
+
+        numbers[0] = 1;
+        numbers[1] = work_load.last = day;
+        numbers[2] = FIRST_DAY_TYPE + roll() % DAY_TYPES;
+        day = next_day(day);
     }
 }
 
@@ -154,7 +220,7 @@ static void print_key(struct growing *text, const row numbers, const char *rest)
     put(text, rest);
 }
 
-static void print_numbers(struct growing *text, const row numbers, size_t count, const char *between)
+static void print_numbers(struct growing *text, const uint64_t *numbers, size_t count, const char *between)
 {
     size_t c;
 
@@ -171,6 +237,7 @@ static void make_texts(enum order way)
     struct growing *texts = work_load.texts[way];
     const char *type_rest = ";44;61;2;\"articulated; low floor\";ART;1250;2550;3020;2\n";
     const char *stop_rest = ";Market place, town hall\n";
+    const char *day_rest = ";\"school holidays; all lines\";";
     size_t order[TABLE_ROWS];
     size_t n = work_load.rows;
     size_t t, i;
@@ -178,6 +245,7 @@ static void make_texts(enum order way)
     if (way == BROKEN_UP) {
         type_rest = ";44;61;2;\"articulated;\nlow floor\";ART;1250;2550;3020;2\n";
         stop_rest = ";\"Market place,\ntown hall\"\n";
+        day_rest = ";\"school holidays;\nall lines\";";
     }
     for (t = 0; t < TABLES; t++)
         texts[t].length = 0;
@@ -188,6 +256,7 @@ static void make_texts(enum order way)
     put(&texts[3], "VERSION;STOP_NR;STOPPING_POINT_NR\n");
     put(&texts[4], "VERSION;DAY_TYPE_NR;DEPOT_NR;BLOCK_NR;VEH_TYP_NR;DEP_STOP_NR;DEP_STOPPING_POINT_NR;BEGIN_OF_BLOCK;"
                    "ARR_STOP_NR;ARR_STOPPING_POINT_NR;END_OF_BLOCK\n");
+    put(&texts[5], "VERSION;DAY;DAY_TEXT;DAY_TYPE_NR\n");
     make_order(order, n, way);
     for (i = 0; i < n; i++) {
         print_key(&texts[0], work_load.types[order[i]], type_rest);
@@ -195,6 +264,8 @@ static void make_texts(enum order way)
         print_key(&texts[2], work_load.stops[order[i]], stop_rest);
         print_numbers(&texts[3], work_load.points[order[i]], 3, ";");
         print_numbers(&texts[4], work_load.blocks[order[i]], NUMBERS, ";");
+        print_key(&texts[5], work_load.days[order[i]], day_rest);
+        print_numbers(&texts[5], work_load.days[order[i]] + 2, 1, ";");
     }
 }
 
@@ -237,6 +308,7 @@ static void make_load(size_t n)
     for (way = 0; way < ORDERS; way++)
         make_texts((enum order)way);
     make_slips();
+    make_season(n);
     for (t = 0; t < TABLES; t++) {
         texts[t].bytes = work_load.texts[RISING][t].bytes;
         texts[t].length = work_load.texts[RISING][t].length;
@@ -260,6 +332,7 @@ static struct {
 struct operation {
     const char *words;
     void (*turn)(int s, const struct operation *operation);
+    const row *book; /* that a turn begins with */
     enum order order;
     uint64_t edition; /* of a reading; all else goes by the book's, which is 2.1 */
     size_t calls; /* in one turn: the short ones are called some times, so that the clock's steps do not matter */
@@ -271,14 +344,15 @@ static void turn_read(int s, const struct operation *operation)
     const struct growing *t = work_load.texts[operation->order];
 
     held[s].returned = sides[s]->read(operation->edition, t[0].bytes, t[0].length, t[1].bytes, t[1].length, t[2].bytes,
-        t[2].length, t[3].bytes, t[3].length, t[4].bytes, t[4].length, held[s].book, BOOK_ROWS, held[s].place);
+        t[2].length, t[3].bytes, t[3].length, t[4].bytes, t[4].length, t[5].bytes, t[5].length, held[s].book, BOOK_ROWS,
+        held[s].place);
 }
 
 static size_t bytes_read(const struct operation *operation)
 {
     const struct growing *t = work_load.texts[operation->order];
 
-    return t[0].length + t[1].length + t[2].length + t[3].length + t[4].length;
+    return t[0].length + t[1].length + t[2].length + t[3].length + t[4].length + t[5].length;
 }
 
 static void slip(int s, const struct growing *text)
@@ -319,6 +393,15 @@ static void turn_type(int s, const struct operation *operation)
         held[s].returned = sides[s]->type((const row *)held[s].book, BOOK_ROWS, 1, 10 + i, held[s].numbers, held[s].place);
 }
 
+static void turn_season(int s, const struct operation *operation)
+{
+    size_t i;
+
+    for (i = 0; i < operation->calls; i++)
+        held[s].returned = sides[s]->season((const row *)held[s].book, BOOK_ROWS, 1, 10 + i, FIRST_DAY, work_load.last,
+            held[s].numbers, held[s].place);
+}
+
 /* A question looks at the whole book. */
 static size_t bytes_of_book(const struct operation *operation)
 {
@@ -341,23 +424,26 @@ static size_t bytes_written(const struct operation *operation)
     return (size_t)held[PLAIN_C].numbers[0];
 }
 
+#define DELIVERED (const row *)work_load.book
+
 static const struct operation operations[] = {
-    {"read, in key order", turn_read, RISING, BY_21, 1, bytes_read},
-    {"read, reversed", turn_read, FALLING, BY_21, 1, bytes_read},
-    {"read, shuffled", turn_read, SHUFFLED, BY_21, 1, bytes_read},
-    {"read by 2.3, with breaks", turn_read, BROKEN_UP, BY_23, 1, bytes_read},
-    {"slip, replace all", turn_replace, RISING, BY_21, 1, bytes_replaced},
-    {"slip, delete and add all", turn_renew, RISING, BY_21, 1, bytes_renewed},
-    {"type question", turn_type, RISING, BY_21, 8, bytes_of_book},
-    {"write", turn_write, RISING, BY_21, 8, bytes_written},
+    {"read, in key order", turn_read, DELIVERED, RISING, BY_21, 1, bytes_read},
+    {"read, reversed", turn_read, DELIVERED, FALLING, BY_21, 1, bytes_read},
+    {"read, shuffled", turn_read, DELIVERED, SHUFFLED, BY_21, 1, bytes_read},
+    {"read by 2.3, with breaks", turn_read, DELIVERED, BROKEN_UP, BY_23, 1, bytes_read},
+    {"slip, replace all", turn_replace, DELIVERED, RISING, BY_21, 1, bytes_replaced},
+    {"slip, delete and add all", turn_renew, DELIVERED, RISING, BY_21, 1, bytes_renewed},
+    {"type question", turn_type, DELIVERED, RISING, BY_21, ASKED_TYPES, bytes_of_book},
+    {"season question", turn_season, (const row *)work_load.season, RISING, BY_21, ASKED_TYPES, bytes_of_book},
+    {"write", turn_write, DELIVERED, RISING, BY_21, 8, bytes_written},
 };
 
 enum { OPERATIONS = sizeof operations / sizeof operations[0] };
 
 /* Both sides start a turn from the same; this is not timed. */
-static void prepare(int s)
+static void prepare(int s, const row *book)
 {
-    memcpy(held[s].book, work_load.book, sizeof held[s].book);
+    memcpy(held[s].book, book, sizeof held[s].book);
     memset(held[s].place, 0xAB, sizeof held[s].place);
     memset(held[s].numbers, 0, sizeof held[s].numbers);
 }
@@ -392,7 +478,7 @@ static void measure(const struct operation *operation, size_t samples, struct re
             uint64_t began;
 
             s = (turn + (int)(i & 1)) % SIDES; /* neither is always the first */
-            prepare(s);
+            prepare(s, operation->book);
             began = now();
             operation->turn(s, operation);
             times[s][i] = now() - began;
@@ -497,11 +583,11 @@ static void measure_cut(const struct cut *cut, size_t samples)
     for (i = 0; i < turns; i++) {
         uint64_t began;
 
-        prepare(LIBRARY);
+        prepare(LIBRARY, DELIVERED);
         began = now();
         turn_read(LIBRARY, &operations[0]);
         whole[i] = now() - began;
-        prepare(LIBRARY);
+        prepare(LIBRARY, DELIVERED);
         began = now();
         send_delivery(cut->bytes);
         parts[i] = now() - began;
@@ -560,11 +646,13 @@ int main(int words, char **word)
     for (o = 0; o < OPERATIONS; o++)
         for (size = 0; size < SIZES; size++)
             print_result(&operations[o], size);
+    puts("the season question is asked of a book with 25 days to 16 rows, 800 to 512, and 8 day types");
     printf("worst ratio at %d rows:\n", SMALLEST << (SIZES - 1));
     print_worst("reading", 0, 3);
     print_worst("slip", 4, 5);
     print_worst("question", 6, 6);
-    print_worst("writing", 7, 7);
+    print_worst("season", 7, 7);
+    print_worst("writing", 8, 8);
     measure_radio(samples); /* on the load of the full size, which was made last */
     return 0;
 }

@@ -5,13 +5,15 @@
 
 #include <string.h>
 
-enum { ROWS = 512, BOOK_ROWS = 2561, TEXT_BYTES = 65536, LINE_BYTES = 2048, HEADER_CELLS = 32, DAY = 86400 };
+enum { ROWS = 512, CALENDAR_ROWS = 800, BOOK_ROWS = 3361 };
+enum { TEXT_BYTES = 65536, LINE_BYTES = 2048, HEADER_CELLS = 32, DAY = 86400 };
 
 /* The tables' numbers, and the slip's in places. */
-enum { TYPES = 1, DEPOTS = 2, STOPS = 3, BLOCKS = 4, SLIP = 5, POINTS = 6 };
+enum { TYPES = 1, DEPOTS = 2, STOPS = 3, BLOCKS = 4, SLIP = 5, POINTS = 6, CALENDAR = 7 };
 
 /* Where their rows begin in a book, and its row of marks. */
-enum { TYPES_AT = 0, DEPOTS_AT = 512, STOPS_AT = 1024, POINTS_AT = 1536, BLOCKS_AT = 2048, MARKS_AT = 2560 };
+enum { TYPES_AT = 0, DEPOTS_AT = 512, STOPS_AT = 1024, POINTS_AT = 1536, BLOCKS_AT = 2048, CALENDAR_AT = 2560 };
+enum { MARKS_AT = CALENDAR_AT + CALENDAR_ROWS };
 
 /* The editions, as the row of marks has them. */
 enum { DINO_21, DINO_23, EDITIONS };
@@ -20,16 +22,19 @@ typedef uint64_t row[11];
 
 /* ---- Columns */
 
-/* A column: its name, how wide it is, and which numbers it takes; least > most marks a text. */
+/* A column: its name, how wide it is, and which numbers it takes; least > most marks a text. Of a date column the numbers from
+ * least to most that are dates. */
 struct col {
     const char *name;
     uint8_t name_length, width, required;
     uint32_t least, most;
+    uint8_t date;
 };
 
 #define NAME(n) n, sizeof(n) - 1
-#define TEXT_OF(width, required) width, required, 1, 0
-#define NUMBER(width, required, least, most) width, required, least, most
+#define TEXT_OF(width, required) width, required, 1, 0, 0
+#define NUMBER(width, required, least, most) width, required, least, most, 0
+#define DATE_OF(width, required) width, required, 16000101, 99991231, 1
 
 /* By edition; the last one is a column by 2.3 alone. */
 enum { MOST_COLS = 12, ACCESS_EQUIP = 11 };
@@ -80,13 +85,19 @@ static const struct col points_cols[] = {
 
 static const struct col blocks_cols[EDITIONS][11] = {BLOCKS_COLS(STOP_21), BLOCKS_COLS(STOP_23)};
 
+static const struct col calendar_cols[] = {
+    {NAME("VERSION"), NUMBER(2, 1, 1, 99)},
+    {NAME("DAY"), DATE_OF(8, 1)},
+    {NAME("DAY_TYPE_NR"), NUMBER(9, 1, 0, 999999999)},
+};
+
 /* By edition and the table's number; what is no table has no columns. The fifth column of vehicle_type and of vehicle_block has
  * a second spelling. */
 #define TABS(edition, type_count)                                                                                             \
     {                                                                                                                         \
         {NULL, 0, NULL, 0}, {types_cols[edition], type_count, NAME("HANDICAP_PLACES")}, {depots_cols, 2, NULL, 0},            \
         {stops_cols[edition], 3, NULL, 0}, {blocks_cols[edition], 11, NAME("VEH_TYPE_NR")}, {NULL, 0, NULL, 0},               \
-        {points_cols, 3, NULL, 0},                                                                                            \
+        {points_cols, 3, NULL, 0}, {calendar_cols, 3, NULL, 0},                                                               \
     }
 
 static const struct tab {
@@ -94,7 +105,7 @@ static const struct tab {
     unsigned count;
     const char *other;
     size_t other_length;
-} tabs[EDITIONS][7] = {TABS(DINO_21, 11), TABS(DINO_23, 12)};
+} tabs[EDITIONS][8] = {TABS(DINO_21, 11), TABS(DINO_23, 12)};
 
 /* The edition that a caller names, or EDITIONS. */
 static unsigned edition_named(uint64_t name)
@@ -267,17 +278,38 @@ static inline unsigned take_number(const uint8_t *p, size_t length, const struct
     return sum >= col->least && sum <= col->most ? 0 : 21;
 }
 
+/* Whether a number YYYYMMDD of the years 1600 to 9999 is a day of the Gregorian calendar. */
+static inline int is_date(uint32_t day)
+{
+    static const uint8_t days_of[13] = {0, 31, 29, 31, 30, 31, 30, 31, 31, 30, 31, 30, 31};
+    uint32_t year = day / 10000;
+    uint32_t month = day / 100 % 100;
+    uint32_t of_month = day % 100;
+
+    if (month > 12 || of_month < 1 || of_month > days_of[month])
+        return 0;
+    return month != 2 || of_month < 29 || (year % 4 == 0 && (year % 100 != 0 || year % 400 == 0));
+}
+
+/* Whether a date column takes the number. */
+static inline int takes_day(uint64_t day)
+{
+    return day >= calendar_cols[1].least && day <= calendar_cols[1].most && is_date((uint32_t)day);
+}
+
 /* What the column has against the cell: 19, 20, 8, 21 or 0. The value of a text or an empty cell is 0. */
 static inline unsigned judge(const struct cell *cell, const struct col *col, uint64_t *value)
 {
     size_t length = cell->length - cell->pairs;
+    unsigned fault;
 
     *value = 0;
     if (length - 1 >= col->width)
         return length > 0 ? 20 : col->required ? 19 : 0;
     if (col->least > col->most)
         return 0;
-    return take_number(cell->start, cell->length, col, value);
+    fault = take_number(cell->start, cell->length, col, value);
+    return col->date && !fault && !is_date((uint32_t)*value) ? 21 : fault;
 }
 
 /* ---- The header */
@@ -397,11 +429,10 @@ static inline uint64_t pack_point(uint64_t version, uint64_t stop, uint64_t poin
     return pack(version, stop << 7 | point);
 }
 
-/* The first place whose key is not below this one. */
-static inline size_t place_of(const struct keys *keys, uint64_t key)
+/* The first place of n rising keys whose key is not below this one. */
+static inline size_t place_among(const uint64_t *keys, size_t n, uint64_t key)
 {
-    const uint64_t *base = keys->key;
-    size_t n = keys->count;
+    const uint64_t *base = keys;
 
     if (n == 0)
         return 0;
@@ -411,7 +442,12 @@ static inline size_t place_of(const struct keys *keys, uint64_t key)
         base += base[half - 1] < key ? half : 0;
         n -= half;
     }
-    return (size_t)(base - keys->key) + (*base < key);
+    return (size_t)(base - keys) + (*base < key);
+}
+
+static inline size_t place_of(const struct keys *keys, uint64_t key)
+{
+    return place_among(keys->key, keys->count, key);
 }
 
 static inline int has(const struct keys *keys, uint64_t key)
@@ -598,6 +634,68 @@ static uint64_t read_blocks(unsigned edition, const uint8_t *text, size_t length
     return 0;
 }
 
+/* A calendar's days, packed and rising: 7 bits of version, 27 of day and 30 of day type, so that the key stands above. */
+struct days {
+    uint64_t day[CALENDAR_ROWS];
+    size_t count;
+};
+
+enum { DAY_TYPE_BITS = 30, DAY_BITS = 27 };
+
+static inline uint64_t pack_day(const uint64_t *numbers)
+{
+    return (numbers[0] << DAY_BITS | numbers[1]) << DAY_TYPE_BITS | numbers[2];
+}
+
+static uint64_t read_days(unsigned edition, const uint8_t *text, size_t length, struct days *days, uint64_t place[4])
+{
+    struct reader r = {text, text + length, edition, 1};
+    struct header header;
+    uint64_t number;
+    uint64_t numbers[MOST_COLS];
+
+    days->count = 0;
+    if (length > TEXT_BYTES)
+        return refuse(place, 1, CALENDAR, 0, 0);
+    number = take_header(CALENDAR, &r, &header, place);
+    if (number)
+        return number;
+    while (r.at < r.end) {
+        uint64_t line = r.line;
+        size_t count = days->count;
+        uint64_t day, key;
+        size_t at;
+
+        if (count == CALENDAR_ROWS)
+            return refuse(place, 5, CALENDAR, line, 0);
+        number = take_row(CALENDAR, &r, &header, numbers, place);
+        if (number)
+            return number;
+        day = pack_day(numbers);
+        key = day >> DAY_TYPE_BITS;
+        at = count > 0 && days->day[count - 1] >> DAY_TYPE_BITS < key ? count
+                                                                       : place_among(days->day, count, key << DAY_TYPE_BITS);
+        if (at < count && days->day[at] >> DAY_TYPE_BITS == key)
+            return refuse(place, 9, CALENDAR, line, 0);
+        memmove(days->day + at + 1, days->day + at, (count - at) * sizeof days->day[0]);
+        days->day[at] = day;
+        days->count++;
+    }
+    return 0;
+}
+
+static void lay_out_days(const struct days *days, row *rows)
+{
+    size_t i;
+
+    memset(rows, 0, CALENDAR_ROWS * sizeof(row));
+    for (i = 0; i < days->count; i++) {
+        rows[i][0] = days->day[i] >> (DAY_TYPE_BITS + DAY_BITS);
+        rows[i][1] = days->day[i] >> DAY_TYPE_BITS & ((1u << DAY_BITS) - 1);
+        rows[i][2] = days->day[i] & ((1u << DAY_TYPE_BITS) - 1);
+    }
+}
+
 static void lay_out_keys(const struct keys *keys, row *rows)
 {
     size_t i;
@@ -623,11 +721,13 @@ static void lay_out_points(const struct keys *keys, row *rows)
 
 uint64_t plain_read(uint64_t edition_name, const uint8_t *vehicle_type, size_t vehicle_type_length, const uint8_t *depot,
     size_t depot_length, const uint8_t *stop, size_t stop_length, const uint8_t *stop_point, size_t stop_point_length,
-    const uint8_t *vehicle_block, size_t vehicle_block_length, uint64_t (*book)[11], size_t rows, uint64_t place[4])
+    const uint8_t *vehicle_block, size_t vehicle_block_length, const uint8_t *day_type_calendar,
+    size_t day_type_calendar_length, uint64_t (*book)[11], size_t rows, uint64_t place[4])
 {
     unsigned e = edition_named(edition_name);
     struct book_keys keys;
     struct order order;
+    struct days days;
     row blocks[ROWS];
     uint64_t number;
 
@@ -644,6 +744,8 @@ uint64_t plain_read(uint64_t edition_name, const uint8_t *vehicle_type, size_t v
         number = read_keys(e, POINTS, stop_point, stop_point_length, &keys.points, &keys.stops, place);
     if (!number)
         number = read_blocks(e, vehicle_block, vehicle_block_length, &keys, &order, blocks, place);
+    if (!number)
+        number = read_days(e, day_type_calendar, day_type_calendar_length, &days, place);
     if (number) {
         memset(book, 0, BOOK_ROWS * sizeof(row));
         return number;
@@ -653,6 +755,7 @@ uint64_t plain_read(uint64_t edition_name, const uint8_t *vehicle_type, size_t v
     lay_out_keys(&keys.stops, book + STOPS_AT);
     lay_out_points(&keys.points, book + POINTS_AT);
     lay_out(&order, (const row *)blocks, book + BLOCKS_AT);
+    lay_out_days(&days, book + CALENDAR_AT);
     memset(book[MARKS_AT], 0, sizeof(row));
     book[MARKS_AT][0] = e;
     return refuse(place, 0, 0, 0, 0);
@@ -734,6 +837,24 @@ static int check_blocks(const row *rows, const struct book_keys *keys, size_t *c
     return n == ROWS || all_zero(rows + n, ROWS - n);
 }
 
+static int check_days(const row *rows)
+{
+    uint64_t above = 0; /* the key of the row above */
+    size_t n;
+
+    for (n = 0; n < CALENDAR_ROWS && rows[n][0] != 0; n++) {
+        uint64_t key;
+
+        if (rows[n][0] > 99 || !takes_day(rows[n][1]) || rows[n][2] > calendar_cols[2].most || rest_of(rows[n]))
+            return 0;
+        key = pack(rows[n][0], rows[n][1]);
+        if (above >= key)
+            return 0;
+        above = key;
+    }
+    return n == CALENDAR_ROWS || all_zero(rows + n, CALENDAR_ROWS - n);
+}
+
 /* Whether the rows are a book; its keys and how many blocks it has. */
 static int check_book(const row *book, size_t rows, struct book_keys *keys, size_t *blocks)
 {
@@ -741,7 +862,8 @@ static int check_book(const row *book, size_t rows, struct book_keys *keys, size
         && !rest_of(book[MARKS_AT]) && check_keys(book + TYPES_AT, &types_cols[DINO_21][1], &keys->types)
         && check_keys(book + DEPOTS_AT, &depots_cols[1], &keys->depots)
         && check_keys(book + STOPS_AT, &stops_cols[DINO_21][1], &keys->stops)
-        && check_points(book + POINTS_AT, &keys->stops, &keys->points) && check_blocks(book + BLOCKS_AT, keys, blocks);
+        && check_points(book + POINTS_AT, &keys->stops, &keys->points) && check_blocks(book + BLOCKS_AT, keys, blocks)
+        && check_days(book + CALENDAR_AT);
 }
 
 /* ---- Questions */
@@ -792,7 +914,7 @@ uint64_t plain_cell(uint64_t edition, const uint8_t *text, size_t length, uint64
     memset(answer, 0, 4 * sizeof answer[0]);
     if (r.edition == EDITIONS)
         return refuse(place, 22, 0, 0, 0);
-    if (table > POINTS || column < 1 || column > tabs[r.edition][t].count)
+    if (table > CALENDAR || column < 1 || column > tabs[r.edition][t].count)
         return refuse(place, 15, 0, 0, 0);
     col = &tabs[r.edition][t].cols[column - 1];
     if (length > TEXT_BYTES)
@@ -884,6 +1006,77 @@ uint64_t plain_block(const uint64_t (*book)[11], size_t rows, uint64_t version, 
     if (low == BLOCKS_AT + count || !key_equal(book[low], key))
         return refuse(place, 15, 0, 0, 0);
     memcpy(answer, book[low] + 4, 7 * sizeof answer[0]);
+    return refuse(place, 0, 0, 0, 0);
+}
+
+/* The seconds of a type's blocks of one day type. */
+struct share {
+    uint64_t day_type, seconds;
+};
+
+/* The shares of a type by rising day type, which blocks by rising key have together. */
+static size_t share_out(const row *blocks, size_t count, uint64_t version, uint64_t number, struct share shares[ROWS])
+{
+    size_t n = 0;
+    size_t i;
+
+    for (i = 0; i < count; i++) {
+        if (blocks[i][0] != version || blocks[i][4] != number)
+            continue;
+        if (n == 0 || shares[n - 1].day_type != blocks[i][1]) {
+            shares[n].day_type = blocks[i][1];
+            shares[n].seconds = 0;
+            n++;
+        }
+        shares[n - 1].seconds += seconds_of(blocks[i]);
+    }
+    return n;
+}
+
+/* The seconds of the share of a day type, found by halving, or 0. */
+static inline uint64_t share_of(const struct share *shares, size_t n, uint64_t day_type)
+{
+    while (n > 1) {
+        size_t half = n / 2;
+
+        shares += shares[half].day_type <= day_type ? half : 0;
+        n -= half;
+    }
+    return shares->day_type == day_type ? shares->seconds : 0;
+}
+
+/* Each day of the span adds the share of its day type, so that days times blocks is never walked. */
+uint64_t plain_season(const uint64_t (*book)[11], size_t rows, uint64_t version, uint64_t number, uint64_t first,
+    uint64_t last, uint64_t seconds[1], uint64_t place[4])
+{
+    const row *days = book + CALENDAR_AT;
+    struct book_keys keys;
+    struct share shares[ROWS];
+    uint64_t sum = 0;
+    size_t low = 0;
+    size_t high = CALENDAR_ROWS;
+    size_t count, n;
+
+    seconds[0] = 0;
+    if (!check_book(book, rows, &keys, &count))
+        return refuse(place, 16, 0, 0, 0);
+    if (version > 99 || number > 99999999 || !has(&keys.types, pack(version, number)))
+        return refuse(place, 15, 0, 0, 0);
+    if (!takes_day(first) || !takes_day(last))
+        return refuse(place, 23, 0, 0, 0);
+    n = share_out(book + BLOCKS_AT, count, version, number, shares);
+    while (low < high) {
+        size_t middle = (low + high) / 2;
+
+        /* rows behind the last day are zero */
+        if (days[middle][0] != 0 && pack(days[middle][0], days[middle][1]) < pack(version, first))
+            low = middle + 1;
+        else
+            high = middle;
+    }
+    for (; n > 0 && low < CALENDAR_ROWS && days[low][0] == version && days[low][1] <= last; low++)
+        sum += share_of(shares, n, days[low][2]);
+    seconds[0] = sum;
     return refuse(place, 0, 0, 0, 0);
 }
 

@@ -1,8 +1,8 @@
 /* workshop.h: the workshop's functions for C.
  *
- * A table text is the bytes of one DINO table: 1 vehicle_type, 2 depot, 3 stop, 4 vehicle_block, 6 stop_point, read in
- * the order 1, 2, 3, 6, 4. A slip is the bytes of one correction slip. Both are handed in as a pointer and the number of
- * bytes; neither needs a byte 0 behind it.
+ * A table text is the bytes of one DINO table: 1 vehicle_type, 2 depot, 3 stop, 4 vehicle_block, 6 stop_point,
+ * 7 day_type_calendar, read in the order 1, 2, 3, 6, 4, 7. A slip is the bytes of one correction slip. Both are handed in as
+ * a pointer and the number of bytes; neither needs a byte 0 behind it.
  *
  * THE EDITION of DINO is the first parameter of every function that is handed a table text or opens a delivery by radio: 21
  * for 2.1, 23 for 2.3. Any other number is refused with 22. A whole delivery goes by one edition; the book keeps it, and slips
@@ -23,21 +23,26 @@
  *
  *     uint64_t book[WORKSHOP_BOOK_ROWS][WORKSHOP_NUMBERS];
  *
- * Rows 512 * t to 512 * t + 511 belong to one table, in the order of reading: t is 0 for vehicle types, 1 for depots, 2 for
- * stops, 3 for stop points, 4 for blocks. The used rows stand first, by rising key; the others are all zero, and as no
- * VERSION is 0, the first row of a table that begins with 0 ends it. A vehicle type, depot or stop keeps its key (VERSION,
- * number) and nine zeros, a stop point its key (VERSION, STOP_NR, STOPPING_POINT_NR) and eight zeros. A block keeps its 11
- * numbers in the order of the vehicle_block columns: VERSION, DAY_TYPE_NR, DEPOT_NR, BLOCK_NR (the key), VEH_TYP_NR,
- * DEP_STOP_NR, DEP_STOPPING_POINT_NR, BEGIN_OF_BLOCK, ARR_STOP_NR, ARR_STOPPING_POINT_NR, END_OF_BLOCK.
- * The last row, 2560, is the row of marks. Its first number is the book's edition, 0 for 2.1 and 1 for 2.3; the others are 0.
+ * Each table has its rows, in the order of reading: 0 to 511 are the vehicle types, 512 to 1023 the depots, 1024 to 1535 the
+ * stops, 1536 to 2047 the stop points, 2048 to 2559 the blocks, 2560 to 3359 the days of the calendar. The used rows stand
+ * first, by rising key; the others are all zero, and as no VERSION is 0, the first row of a table that begins with 0 ends it.
+ * A vehicle type, depot or stop keeps its key (VERSION, number) and nine zeros, a stop point its key (VERSION, STOP_NR,
+ * STOPPING_POINT_NR) and eight zeros. A block keeps its 11 numbers in the order of the vehicle_block columns: VERSION,
+ * DAY_TYPE_NR, DEPOT_NR, BLOCK_NR (the key), VEH_TYP_NR, DEP_STOP_NR, DEP_STOPPING_POINT_NR, BEGIN_OF_BLOCK, ARR_STOP_NR,
+ * ARR_STOPPING_POINT_NR, END_OF_BLOCK. A day of the calendar keeps VERSION, DAY (the key), DAY_TYPE_NR and eight zeros.
+ * The last row, 3360, is the row of marks. Its first number is the book's edition, 0 for 2.1 and 1 for 2.3; the others are 0.
  * The empty book, which a refused reading leaves, is all zero and so of 2.1.
  * A book that workshop_read filled may be kept, copied and handed in again later. One that no accepted delivery of its edition
- * can leave (a wrong order, a number out of range, a missing reference, times that are 11, something in the unused room,
- * another mark) is refused with 16 by every function that looks at a book.
+ * can leave (a wrong order, a number out of range, a day that is no date, a missing reference, times that are 11, something in
+ * the unused room, another mark) is refused with 16 by every function that looks at a book.
  *
  * A BLOCK'S TIMES: where both are below 86,400 and END_OF_BLOCK is lower, the block runs into the next day and has
  * END_OF_BLOCK + 86,400 - BEGIN_OF_BLOCK seconds; otherwise it has END_OF_BLOCK - BEGIN_OF_BLOCK. The book keeps both numbers
  * as they were delivered, and so does the written table.
+ *
+ * A DAY is a date of the Gregorian calendar in the years 1600 to 9999, written YYYYMMDD: 20240229 is 29 February 2024. A DAY of
+ * fewer than 8 digits is no date, which is 21. No block needs its day type in the calendar, and no day needs a block of its day
+ * type.
  *
  * BY RADIO a delivery may come in parts: see workshop_radio_open below. Verdict, place and book are those of workshop_read on
  * the whole texts, wherever the parts were cut.
@@ -49,7 +54,7 @@
  * EVERY FUNCTION returns the number of refusal, 0 for accepted, and fills place:
  *
  *     place[0] the number of refusal, the same as returned
- *     place[1] the table: 1 to 4 or 6, or 5 for a slip; 0 for the numbers 0, 14, 15, 16 and 22
+ *     place[1] the table: 1 to 4, 6 or 7, or 5 for a slip; 0 for the numbers 0, 14, 15, 16, 22 and 23
  *     place[2] the line, counted from 1 (line 1 of a table is its header's), or 0
  *     place[3] the column by its number, for 6 the cell counted from 1 in its row, or 0
  *
@@ -58,7 +63,7 @@
  *     2 required column missing                           86,400 or more
  *     3 known column twice                             12 slip line of unknown kind or field count
  *     4 more than 32 header cells                      13 slip names a block that is not in the book
- *     5 more than 512 rows                             14 output shorter than the text to write
+ *     5 more than 512 rows (calendar: 800)             14 output shorter than the text to write
  *     6 quote or byte fault                            15 asked table, column, line, type or block does not exist, or a
  *     7 cell count differs from the header                call by radio is out of turn
  *     8 cell not digits                                16 book breaks the book rule, what is kept by radio breaks its own,
@@ -67,8 +72,9 @@
  *                                                      18 table closed with more or fewer bytes than announced (by radio)
  *                                                      19 cell empty where its column is required
  *                                                      20 cell longer than its column's width; it comes before 8 and 21
- *                                                      21 number outside its column's range
+ *                                                      21 number outside its column's range, or a day that is no date
  *                                                      22 unknown edition
+ *                                                      23 first or last day is no date
  *
  * A CELL is judged by its content, a field of a slip by its bytes. A text column has 19 and 20 only. Of a row's cells with one
  * of 19, 20, 8 and 21 the lowest column is told, whichever it has.
@@ -77,7 +83,7 @@
  *
  * POINTERS: each points to at least as many elements as the length beside it says, is not null (not even for length 0),
  * and is aligned for its type. No array that is written to may overlap another argument. Nothing is kept after a call, and no
- * function has state of its own, so calls on different arrays may run at the same time. A call needs some 50 KB of stack.
+ * function has state of its own, so calls on different arrays may run at the same time. A call needs some 80 KB of stack.
  *
  * In C before C23 an array of rows that is not const needs a cast where rows of const are asked for:
  *
@@ -90,7 +96,7 @@
 #include <stdint.h>
 
 #define WORKSHOP_NUMBERS 11       /* numbers in a row */
-#define WORKSHOP_BOOK_ROWS 2561   /* rows in a book */
+#define WORKSHOP_BOOK_ROWS 3361   /* rows in a book */
 #define WORKSHOP_WORK_ROWS 512    /* rows in a working area */
 #define WORKSHOP_RADIO_KEPT 11    /* numbers that a delivery by radio keeps beside its book */
 #define WORKSHOP_RADIO_LINES 4097 /* and bytes */
@@ -99,7 +105,7 @@
 extern "C" {
 #endif
 
-/* Reads a delivery, the five table texts, into the book. What the book held before does not matter. The texts stand in the
+/* Reads a delivery, the six table texts, into the book. What the book held before does not matter. The texts stand in the
  * order in which they are read: a text that a later release adds comes in its table's place, as stop_point did between
  * stop and vehicle_block, so a caller that was compiled against an earlier header must be compiled again.
  *
@@ -107,11 +113,12 @@ extern "C" {
  * WORKSHOP_BOOK_ROWS (16) it stays as it was. Can refuse with 16, then 22, then 1 to 11, 17 and 19 to 21. */
 uint64_t workshop_read(uint64_t edition, const uint8_t *vehicle_type, size_t vehicle_type_length, const uint8_t *depot,
     size_t depot_length, const uint8_t *stop, size_t stop_length, const uint8_t *stop_point, size_t stop_point_length,
-    const uint8_t *vehicle_block, size_t vehicle_block_length, uint64_t (*book)[11], size_t rows, uint64_t place[4]);
+    const uint8_t *vehicle_block, size_t vehicle_block_length, const uint8_t *day_type_calendar,
+    size_t day_type_calendar_length, uint64_t (*book)[11], size_t rows, uint64_t place[4]);
 
 /* THE DELIVERY BY RADIO, for a caller that has no room for a whole table. Each table is announced with its length, sent in
  * parts that are cut anywhere, even between a quote and its double or a carriage return and its line feed, and closed. The
- * five tables come in the order in which workshop_read takes them. Three arrays of the caller's keep the delivery between the
+ * six tables come in the order in which workshop_read takes them. Three arrays of the caller's keep the delivery between the
  * calls; every call is handed all three as the last one left them:
  *
  *     book     WORKSHOP_BOOK_ROWS rows: the book, as far as it is read, and the delivery's edition in its last row
@@ -135,7 +142,7 @@ uint64_t workshop_read(uint64_t edition, const uint8_t *vehicle_type, size_t veh
  *         uint8_t part[256];
  *         size_t table, length;
  *
- *         for (table = 0; table < 5; table++) {
+ *         for (table = 0; table < 6; table++) {
  *             workshop_radio_announce(announced_length(table), DELIVERY, place);
  *             while ((length = receive(part, sizeof part)) > 0)
  *                 workshop_radio_part(part, length, DELIVERY, place);
@@ -173,7 +180,7 @@ uint64_t workshop_radio_part(const uint8_t *part, size_t part_length, uint64_t (
 
 /* Closes the announced table: its last line may lack its line feed, and the bytes that came are held to those announced. In
  * turn behind the announcement, also where no part came. Accepted, or the first fault of the tables closed so far: 1 to 11
- * or 17 to 21. The close of the last table, vehicle_block, gives the delivery's verdict, and the book is then the one that
+ * or 17 to 21. The close of the last table, day_type_calendar, gives the delivery's verdict, and the book is then the one that
  * workshop_read leaves: that of the delivery, or the empty one, all zero. Behind it only workshop_radio_open is in turn. */
 uint64_t workshop_radio_close(uint64_t (*book)[11], size_t rows, uint64_t *kept, size_t kept_length, uint8_t *lines,
     size_t lines_length, uint64_t place[4]);
@@ -188,8 +195,8 @@ uint64_t workshop_radio_close(uint64_t (*book)[11], size_t rows, uint64_t *kept,
 uint64_t workshop_slip(const uint8_t *slip, size_t slip_length, uint64_t (*book)[11], size_t book_rows,
     uint64_t (*work)[11], size_t work_rows, uint64_t place[4]);
 
-/* Looks up one cell of one table text: `table` 1 to 4 or 6, `line` the one that its row starts on, `column` by its number (not
- * by its place in the row). Only the header and that row are judged, so a text that workshop_read refuses may still have
+/* Looks up one cell of one table text: `table` 1 to 4, 6 or 7, `line` the one that its row starts on, `column` by its number
+ * (not by its place in the row). Only the header and that row are judged, so a text that workshop_read refuses may still have
  * answers. By 2.3 the rows that start above `line` are judged too, from the top and for 17 and then 6 alone: behind such a
  * fault no row's beginning is certain.
  *
@@ -217,6 +224,13 @@ uint64_t workshop_type(const uint64_t (*book)[11], size_t rows, uint64_t version
  * zeros; 16 for the book, 15 if no such block is in it. */
 uint64_t workshop_block(const uint64_t (*book)[11], size_t rows, uint64_t version, uint64_t day_type, uint64_t depot,
     uint64_t block, uint64_t answer[7], uint64_t place[4]);
+
+/* Sums up a season of one vehicle type: seconds[0] is the sum, over its blocks, of the block's seconds times the number of the
+ * calendar's days from `first` to `last`, both included, that have the block's VERSION and DAY_TYPE_NR. Both are days (see A
+ * DAY). A span that ends before it begins has 0 seconds. No sum is over 512 * 999,999 * 800. Refused: 0 seconds; 16 for the
+ * book, 15 if no such type is in it, 23 if `first` or `last` is no date, in this order. */
+uint64_t workshop_season(const uint64_t (*book)[11], size_t rows, uint64_t version, uint64_t number, uint64_t first,
+    uint64_t last, uint64_t seconds[1], uint64_t place[4]);
 
 /* Writes the book's blocks as a vehicle_block table: the header and a line for each block by rising key, no quotes, no
  * leading zeros, each line ended by a line feed. length[0] is the number of bytes written; the bytes of `out` behind them

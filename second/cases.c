@@ -9,8 +9,12 @@
 /* The places of a block's numbers in its row. */
 enum { B_VERSION, B_DAY_TYPE, B_DEPOT, B_BLOCK, B_TYPE, B_DEP_STOP, B_DEP_POINT, B_BEGIN, B_ARR_STOP, B_ARR_POINT, B_END };
 
+/* And of a day's numbers. */
+enum { C_VERSION, C_DAY, C_DAY_TYPE };
+
 enum {
-    MOST_ROWS = 720,  /* of a table text: past 512, so that 5 can come and a line behind it can be asked for */
+    TOO_MANY = 208,   /* rows past a table's last, so that 5 can come and a line behind it can be asked for */
+    MOST_ROWS = CALENDAR_ROWS + TOO_MANY,
     MOST_CELLS = 48,  /* of a line: past 32 */
     MOST_BYTES = 140000,
     TEXT_LIMIT = 65536,
@@ -405,6 +409,88 @@ static void make_blocks(size_t n)
     delivery.count[VEHICLE_BLOCK] = count;
 }
 
+/* Dates at the edges: leap days, the ends of months and of years, the first day of all and the last. */
+static uint64_t edge_date(void)
+{
+    static const uint64_t dates[] = {16000101, 16000131, 16000228, 16000229, 16000301, 17000228, 17000301, 18000228, 19000228,
+        19000301, 19991231, 20000101, 20000228, 20000229, 20000301, 20230228, 20240229, 20240430, 20241231, 21000228, 24000229,
+        96000229, 99960229, 99990228, 99991201, 99991231};
+
+    return dates[below(sizeof dates / sizeof dates[0])];
+}
+
+/* And what looks like a date and is none: days that a month does not have, months that no year has, years that are none here,
+ * digits that are too few. All but the last have no more than eight digits. */
+static uint64_t no_date(void)
+{
+    static const uint64_t numbers[] = {16000100, 16000132, 16000230, 15991231, 15960229, 17000229, 18000229, 19000229, 19000230,
+        20000230, 21000229, 20230229, 20240230, 20240231, 20240431, 20240631, 20240931, 20241131, 20240100, 20240132, 20241232,
+        20240001, 20241301, 20240000, 20249999, 20240199, 20249901, 99990229, 99991131, 99991232, 99991301, 99999999, 0, 1, 101,
+        2024, 240229, 2024229, 2024101, 9999123, 1600101, 10000101, 101010, 20240229 + 100000000};
+
+    return numbers[below(sizeof numbers / sizeof numbers[0])];
+}
+
+/* Mostly of some months, so that the days of a calendar and those asked for stand close together. */
+static uint64_t any_date(void)
+{
+    uint64_t day;
+
+    if (chance(15))
+        return edge_date();
+    do {
+        uint64_t year = chance(95) ? 2024 : between(1600, 9999);
+        uint64_t month = chance(80) ? between(1, 3) : between(1, 12);
+
+        day = (year * 100 + month) * 100 + between(1, 31);
+    } while (!is_date(day));
+    return day;
+}
+
+/* Of a date that is not the last one. */
+static uint64_t next_day(uint64_t day)
+{
+    do
+        day++;
+    while (!is_date(day));
+    return day;
+}
+
+/* The version and the day type of some block, at times others. */
+static void any_day_type(uint64_t *day)
+{
+    const struct column *column = &tables[edition][DAY_TYPE_CALENDAR].columns[C_DAY_TYPE];
+    size_t blocks = delivery.count[VEHICLE_BLOCK];
+
+    day[C_VERSION] = any_version();
+    day[C_DAY_TYPE] = any_number(column, 6);
+    if (blocks > 0 && chance(75)) {
+        const uint64_t *block = delivery.rows[VEHICLE_BLOCK][below(blocks)];
+
+        day[C_VERSION] = block[B_VERSION];
+        day[C_DAY_TYPE] = block[B_DAY_TYPE];
+    }
+}
+
+/* Days of the calendar, no key twice: here and there, or one behind the other where there are many. */
+static void make_calendar(size_t n)
+{
+    row *days = delivery.rows[DAY_TYPE_CALENDAR];
+    uint64_t day = (uint64_t)between(1600, 9990) * 10000 + 101;
+    size_t count = 0;
+    size_t tries;
+
+    for (tries = 0; count < n && tries < 20 * n; tries++) {
+        memset(days[count], 0, sizeof(row));
+        any_day_type(days[count]);
+        day = n > 60 ? next_day(day) : any_date();
+        days[count][C_DAY] = day;
+        if (find_key((const row *)days, count, days[count], 2) == count)
+            count++;
+    }
+    delivery.count[DAY_TYPE_CALENDAR] = count;
+}
+
 static size_t any_size(void)
 {
     size_t dial = below(100);
@@ -412,13 +498,14 @@ static size_t any_size(void)
     return dial < 4 ? 0 : dial < 25 ? between(1, 3) : dial < 90 ? between(4, 14) : between(15, 60);
 }
 
-static void make_delivery(size_t types, size_t depots, size_t stops, size_t points, size_t blocks)
+static void make_delivery(size_t types, size_t depots, size_t stops, size_t points, size_t blocks, size_t days)
 {
     make_keys(VEHICLE_TYPE, types);
     make_keys(DEPOT, depots);
     make_keys(STOP, stops);
     make_points(points);
     make_blocks(blocks);
+    make_calendar(days);
 }
 
 static void make_any_delivery(void)
@@ -427,13 +514,14 @@ static void make_any_delivery(void)
     size_t depots = any_size();
     size_t stops = any_size();
     size_t points = any_size();
+    size_t blocks = any_size();
 
-    make_delivery(types, depots, stops, points, any_size());
+    make_delivery(types, depots, stops, points, blocks, any_size());
 }
 
 static void make_full_delivery(void)
 {
-    make_delivery(512, 512, 512, 512, 512);
+    make_delivery(512, 512, 512, 512, 512, 800);
 }
 
 /* ---- Rows in key order */
@@ -480,6 +568,9 @@ static void order_rows(unsigned t)
 }
 
 /* ---- Content against a column's rules */
+
+/* The column that the next faults are for; 0: any one. */
+static unsigned meant_column;
 
 static uint8_t any_letter(void)
 {
@@ -532,10 +623,18 @@ static void put_digits(struct growing *content, size_t n)
 }
 
 /* 20: more bytes than the column's width, mostly one. Often zeros before a number that the column would take. */
-static void put_too_long(struct growing *content, size_t width)
+static void put_too_long(struct growing *content, const struct column *column)
 {
-    size_t n = width + (chance(80) ? 1 : between(2, 30));
+    size_t n = column->width + (chance(80) ? 1 : between(2, 30));
 
+    if (column->kind == 'D' && chance(60)) {
+        uint64_t day = any_date();
+
+        put_number(content, day, chance(50) ? n : 1);
+        if (content->length < n)
+            put_digits(content, n - content->length);
+        return;
+    }
     switch (below(3)) {
     case 0: put_number(content, 1, n); break;
     case 1: put_digits(content, n); break;
@@ -556,9 +655,11 @@ static void put_not_digits(struct growing *content, size_t width)
 /* 21: a number beside the column's range, mostly the next one. Above the greatest number of its width it is 20. */
 static void put_beside_range(struct growing *content, const struct column *column)
 {
-    uint64_t number = column->most + (chance(60) ? 1 : between(1, 7));
+    uint64_t number = column->most + (meant_column || chance(60) ? 1 : between(1, 7));
 
-    if (column->least > 0 && chance(85))
+    if (column->kind == 'D' && chance(90))
+        number = no_date();
+    else if (column->least > 0 && (meant_column || chance(85)))
         number = column->least - 1;
     put_number(content, number, chance(30) ? between(1, column->width) : 1);
 }
@@ -571,7 +672,7 @@ static void put_against(struct growing *content, const struct column *column, en
 {
     switch (way) {
     case EMPTY: break;
-    case TOO_LONG: put_too_long(content, column->width); break;
+    case TOO_LONG: put_too_long(content, column); break;
     case NOT_DIGITS: put_not_digits(content, column->width); break;
     default: put_beside_range(content, column); break;
     }
@@ -584,7 +685,7 @@ struct raw {
     uint32_t start, length;
 };
 
-static uint8_t pool_bytes[400000];
+static uint8_t pool_bytes[600000];
 
 /* Line 0 is the header. A cell of the header has in column_of the number of its column, 0 for an unknown one. */
 static struct {
@@ -697,7 +798,7 @@ static size_t any_length(size_t width)
 /* The number of a named column in this row, 0 where the delivery has none. */
 static struct raw raw_value(const struct column *column, uint64_t number)
 {
-    if (column->kind == 'd')
+    if (column->kind != 'c')
         return raw_number(number, column->width);
     return raw_text(any_length(column->width));
 }
@@ -765,9 +866,11 @@ static struct raw raw_foreign_name(void)
     if (sheet.table == DEPOT)
         return raw_words(chance(50) ? "HANDICAP_PLACES" : "STOP_NAME");
     if (sheet.table == VEHICLE_BLOCK)
-        return raw_words(chance(50) ? "STOPPING_POINT_NR" : "VEH_TYPE_SEATS");
+        return raw_words(chance(50) ? "STOPPING_POINT_NR" : chance(50) ? "DAY" : "VEH_TYPE_SEATS");
     if (sheet.table == STOP_POINT)
         return raw_words(chance(50) ? "STOP_NAME" : "DEP_STOPPING_POINT_NR");
+    if (sheet.table == DAY_TYPE_CALENDAR)
+        return raw_words(chance(50) ? "DAY_TEXT" : "DAY_TYPE");
     return raw_words(chance(50) ? "VEH_TYP_NR" : "DEPOT_NR");
 }
 
@@ -964,9 +1067,6 @@ static void fault_quotes(size_t line)
     at = chance(10) ? sheet.cells[line] - 1 : below(sheet.cells[line]);
     sheet.cell[line][at] = raw_fault(sheet.cell[line][at]);
 }
-
-/* The column that the next faults are for; 0: any one. */
-static unsigned meant_column;
 
 static unsigned any_column(void)
 {
@@ -1206,6 +1306,14 @@ static unsigned any_table(void)
     return chance(35) ? VEHICLE_BLOCK : reading_order[below(TABLES)];
 }
 
+/* One that is not the blocks. */
+static unsigned any_other_table(void)
+{
+    unsigned t = reading_order[below(TABLES - 1)];
+
+    return t == VEHICLE_BLOCK ? DAY_TYPE_CALENDAR : t;
+}
+
 /* Some faults in one sheet. Where there are two, the second is often on the first one's line, or a header fault beside a
  * header fault: only so the order between them shows. */
 static void make_faults(size_t count)
@@ -1327,19 +1435,21 @@ static uint8_t other_bytes[LAST_TABLE + 1][20000];
 
 static row *rows_of(row *book, unsigned t)
 {
-    return book + (size_t)TABLE_ROWS * part_of(t);
+    return book + first_row(t);
 }
 
 static const row *rows_of_in(const row *book, unsigned t)
 {
-    return book + (size_t)TABLE_ROWS * part_of(t);
+    return book + first_row(t);
 }
 
-static size_t used(const row *rows)
+/* How many rows of table t are used. */
+static size_t used(const row *rows, unsigned t)
 {
+    size_t room = most_rows(t);
     size_t n = 0;
 
-    while (n < TABLE_ROWS && rows[n][0] != 0)
+    while (n < room && rows[n][0] != 0)
         n++;
     return n;
 }
@@ -1360,12 +1470,12 @@ static void make_book(void)
     made_book[MARKS][0] = edition;
 }
 
-/* The text of a table that has these keys, as plain as it can be. */
+/* The text of a table that has these rows, as plain as it can be. */
 static struct text plain_text(const row *book, unsigned t)
 {
     struct growing text = {other_bytes[t], 0, sizeof other_bytes[t]};
     const row *rows = rows_of_in(book, t);
-    size_t n = used(rows);
+    size_t n = used(rows, t);
     size_t i, c;
 
     for (c = 0; c < tables[edition][t].column_count; c++)
@@ -1375,7 +1485,7 @@ static struct text plain_text(const row *book, unsigned t)
         }
     put_byte(&text, '\n');
     for (i = 0; i < n; i++) {
-        for (c = 0; c < tables[edition][t].key_width; c++) {
+        for (c = 0; c < tables[edition][t].kept; c++) {
             put(&text, c > 0 ? ";" : "");
             put_number(&text, rows[i][c], 1);
         }
@@ -1386,11 +1496,12 @@ static struct text plain_text(const row *book, unsigned t)
 
 static void put_made_book(const struct cases_host *host)
 {
-    struct text others[TABLES - 1];
+    struct text others[TABLES] = {{NULL, 0}};
     size_t i;
 
-    for (i = 0; i < TABLES - 1; i++)
-        others[i] = plain_text((const row *)made_book, reading_order[i]);
+    for (i = 0; i < TABLES; i++)
+        if (reading_order[i] != VEHICLE_BLOCK)
+            others[i] = plain_text((const row *)made_book, reading_order[i]);
     host->put_book(host->self, (const row *)made_book, others);
 }
 
@@ -1405,30 +1516,92 @@ static uint64_t strange_number(void)
     return strange[below(sizeof strange / sizeof strange[0])];
 }
 
-static void ask_type(const struct cases_host *host, size_t book_rows)
+/* A type to ask for, mostly one that is there. */
+static void choose_type(const struct cases_host *host, uint64_t *version, uint64_t *number)
 {
     const row *types = rows_of_in(host->book(host->self), VEHICLE_TYPE);
-    size_t n = used(types);
-    uint64_t version = any_version();
-    uint64_t number = below(20);
+    size_t n = used(types, VEHICLE_TYPE);
 
+    *version = any_version();
+    *number = below(20);
     if (n > 0 && chance(80)) {
         size_t i = below(n);
 
-        version = types[i][0];
-        number = types[i][1];
+        *version = types[i][0];
+        *number = types[i][1];
     }
     if (chance(8))
-        version = strange_number();
+        *version = strange_number();
     if (chance(8))
-        number = strange_number();
+        *number = strange_number();
+}
+
+static void ask_type(const struct cases_host *host, size_t book_rows)
+{
+    uint64_t version, number;
+
+    choose_type(host, &version, &number);
     host->type(host->self, book_rows, version, number);
+}
+
+/* A day of the book's calendar, or one beside it or elsewhere. */
+static uint64_t day_to_ask(const struct cases_host *host)
+{
+    const row *days = rows_of_in(host->book(host->self), DAY_TYPE_CALENDAR);
+    size_t n = used(days, DAY_TYPE_CALENDAR);
+    uint64_t day;
+
+    if (n == 0 || chance(15))
+        return any_date();
+    day = days[below(n)][C_DAY];
+    return is_date(day) && day < 99991231 && chance(25) ? next_day(day) : day;
+}
+
+/* A span: all days, one day, some days, or one that ends before it begins. */
+static void choose_span(const struct cases_host *host, uint64_t *first, uint64_t *last)
+{
+    size_t way = below(10);
+
+    *first = 16000101;
+    *last = 99991231;
+    if (way < 3)
+        return;
+    *first = day_to_ask(host);
+    *last = way < 5 ? *first : day_to_ask(host);
+    if (*last < *first && chance(80)) {
+        uint64_t kept = *first;
+
+        *first = *last;
+        *last = kept;
+    }
+}
+
+/* The seasons of the type of some block, or of any type; at times between ends that are no dates. */
+static void ask_season(const struct cases_host *host, size_t book_rows)
+{
+    const row *blocks = rows_of_in(host->book(host->self), VEHICLE_BLOCK);
+    size_t n = used(blocks, VEHICLE_BLOCK);
+    uint64_t version, number, first, last;
+
+    choose_type(host, &version, &number);
+    if (n > 0 && chance(60)) {
+        size_t i = below(n);
+
+        version = blocks[i][B_VERSION];
+        number = blocks[i][B_TYPE];
+    }
+    choose_span(host, &first, &last);
+    if (chance(10))
+        first = chance(90) ? no_date() : strange_number();
+    if (chance(10))
+        last = chance(90) ? no_date() : strange_number();
+    host->season(host->self, book_rows, version, number, first, last);
 }
 
 static void ask_block(const struct cases_host *host, size_t book_rows)
 {
     const row *blocks = rows_of_in(host->book(host->self), VEHICLE_BLOCK);
-    size_t n = used(blocks);
+    size_t n = used(blocks, VEHICLE_BLOCK);
     uint64_t key[4];
     size_t i;
 
@@ -1447,7 +1620,7 @@ static void ask_block(const struct cases_host *host, size_t book_rows)
 static size_t written_length(const row *book)
 {
     const row *blocks = rows_of_in(book, VEHICLE_BLOCK);
-    size_t n = used(blocks);
+    size_t n = used(blocks, VEHICLE_BLOCK);
     size_t length = 0;
     size_t i, c;
 
@@ -1501,7 +1674,7 @@ static void ask_cell(const struct cases_host *host, const struct growing *text, 
     if (printed[t].long_line && chance(40))
         line = printed[t].long_line + (chance(20) ? between(0, 2) : 0);
     if (chance(4))
-        table = chance(50) ? below(8) : strange_number();
+        table = chance(50) ? below(10) : strange_number();
     if (chance(6))
         line = chance(70) ? below(4) : strange_number();
     if (chance(4))
@@ -1547,6 +1720,8 @@ static void ask_all(const struct cases_host *host)
     for (i = below(3); i > 0; i--)
         ask_block(host, BOOK_ROWS);
     if (chance(60))
+        ask_season(host, BOOK_ROWS);
+    if (chance(60))
         ask_write(host, BOOK_ROWS);
 }
 
@@ -1566,13 +1741,13 @@ static void look_at_book(const row *book)
     const row *blocks = rows_of_in(book, VEHICLE_BLOCK);
     size_t i;
 
-    slip_sees.count = used(blocks);
+    slip_sees.count = used(blocks, VEHICLE_BLOCK);
     memcpy(slip_sees.blocks, blocks, slip_sees.count * sizeof blocks[0]);
-    for (i = 0; i < TABLES - 1; i++) {
+    for (i = 0; i < TABLES; i++) {
         unsigned t = reading_order[i];
 
         slip_sees.others.rows[t] = rows_of_in(book, t);
-        slip_sees.others.count[t] = used(slip_sees.others.rows[t]);
+        slip_sees.others.count[t] = used(slip_sees.others.rows[t], t);
     }
 }
 
@@ -1848,7 +2023,7 @@ static struct growing make_long_slip(const row *book)
 {
     const row *blocks = rows_of_in(book, VEHICLE_BLOCK);
     struct growing slip = {slip_bytes, 0, sizeof slip_bytes};
-    size_t n = used(blocks);
+    size_t n = used(blocks, VEHICLE_BLOCK);
     size_t more = chance(50) ? 0 : between(1, 3);
     size_t i, c;
 
@@ -1880,7 +2055,7 @@ static struct growing make_long_slip(const row *book)
 /* A number of another length than the right one. */
 static size_t other_length(size_t right)
 {
-    const size_t lengths[] = {0, 1, right - 1, right + 1, right / 2, right * 2, 511, 513, 2047, 2048, 2049, 600};
+    const size_t lengths[] = {0, 1, right - 1, right + 1, right / 2, right * 2, 511, 513, 2047, 2048, 2049, 2561, 600};
     size_t length;
 
     do
@@ -1998,7 +2173,8 @@ static struct damage any_damage(void)
     struct damage damage;
 
     damage.where = chance(20) ? IN_BOOK : chance(60) ? IN_KEPT : IN_LINES;
-    damage.row = chance(60) ? (size_t)TABLE_ROWS * below(TABLES) + below(6) : below(BOOK_ROWS);
+    damage.row = chance(60) ? first_row(reading_order[below(TABLES)]) : below(BOOK_ROWS - 6);
+    damage.row += below(6);
     damage.at = below(NUMBERS);
     if (chance(20)) {
         damage.row = MARKS;
@@ -2223,29 +2399,68 @@ static void story_of_a_delivery(const struct cases_host *host)
     for (i = 0; i < TABLES; i++)
         ask_cells(host, reading_order[i], reading_order[i] == first ? 6 : 1);
     /* a refused reading leaves the empty book, which has little to ask */
-    if (used(rows_of_in(host->book(host->self), DEPOT)) > 0 || chance(15)) {
+    if (used(rows_of_in(host->book(host->self), DEPOT), DEPOT) > 0 || chance(15)) {
         ask_all(host);
         take_slips(host, below(4));
     }
 }
 
+/* That many rows of one table, and what they refer to and refers to them. */
+static void make_rows(unsigned big, size_t rows)
+{
+    make_any_delivery();
+    if (big == VEHICLE_BLOCK) {
+        make_delivery(30, 30, 30, 30, rows, 30);
+    } else if (big == STOP_POINT) {
+        make_delivery(30, 30, 30, rows, 30, 30);
+    } else if (big == DAY_TYPE_CALENDAR) {
+        make_calendar(rows);
+    } else {
+        make_keys(big, rows);
+        make_points(delivery.count[STOP_POINT]);
+        make_blocks(delivery.count[VEHICLE_BLOCK]);
+    }
+}
+
+/* 5 */
+static void story_of_a_row_too_many(const struct cases_host *host, unsigned big)
+{
+    size_t i;
+
+    make_rows(big, most_rows(big) + 1);
+    for (i = 0; i < TABLES; i++) {
+        make_sheet(reading_order[i]);
+        print_sheet();
+    }
+    read_texts(host, BOOK_ROWS);
+    ask_cells(host, big, 2);
+}
+
 /* One fault at one place, each in its turn, so that none is left to luck: 3, 2 and the four faults of a cell at every column of
- * every table by both editions, and lines about as long as they may be. */
+ * every table by both editions, and lines about as long as they may be; and behind the columns 5 of every table. */
 static void story_of_a_place(const struct cases_host *host, uint64_t turn)
 {
     static const enum fault faults[] = {F_TWICE, F_MISSING, F_EMPTY, F_TOO_LONG, F_NOT_DIGITS, F_BESIDE_RANGE, F_LONG_LINE};
     enum { FAULTS = sizeof faults / sizeof faults[0] };
     enum fault fault = faults[turn / EDITIONS % FAULTS];
     uint64_t place = turn / EDITIONS / FAULTS;
+    uint64_t places;
     unsigned meant;
     size_t i;
 
     edition = turn % EDITIONS;
-    place %= edition == DINO_23 ? 12 + 2 + 3 + 3 + 11 : 11 + 2 + 3 + 3 + 11;
+    places = edition == DINO_23 ? 12 + 2 + 3 + 3 + 11 + 3 : 11 + 2 + 3 + 3 + 11 + 3;
+    place %= places + 2;
+    if (place >= places) {
+        story_of_a_row_too_many(host, reading_order[turn / EDITIONS % FAULTS % TABLES]);
+        return;
+    }
     for (i = 0; place >= tables[edition][reading_order[i]].column_count; i++)
         place -= tables[edition][reading_order[i]].column_count;
     meant = reading_order[i];
-    make_delivery(8, 8, 8, 8, 8);
+    do
+        make_delivery(8, 8, 8, 8, 8, 8);
+    while (delivery.count[meant] == 0);
     for (i = 0; i < TABLES; i++) {
         unsigned t = reading_order[i];
 
@@ -2327,10 +2542,10 @@ static void print_open_row(unsigned t)
 
 static void story_of_scribbles(const struct cases_host *host)
 {
-    unsigned first = reading_order[below(TABLES - 1)];
+    unsigned first = any_other_table();
     size_t i;
 
-    make_delivery(2, 2, 2, 2, 0);
+    make_delivery(2, 2, 2, 2, 0, 2);
     for (i = 0; i < TABLES; i++) {
         unsigned t = reading_order[i];
 
@@ -2362,23 +2577,15 @@ static void story_of_slips(const struct cases_host *host)
     take_slips(host, between(1, 6));
 }
 
-/* Tables at their size: 512 rows and more, texts at 65,536 bytes and over. */
+/* Tables at their size: 512 rows and more, of the calendar 800, texts at 65,536 bytes and over. */
 static void story_of_sizes(const struct cases_host *host)
 {
     unsigned big = reading_order[below(TABLES)];
-    size_t rows = chance(30) ? 512 : chance(60) ? 513 : between(500, MOST_ROWS);
+    size_t room = most_rows(big);
+    size_t rows = chance(30) ? room : chance(60) ? room + 1 : between(room - 12, room + TOO_MANY);
     size_t i;
 
-    make_any_delivery();
-    if (big == VEHICLE_BLOCK) {
-        make_delivery(30, 30, 30, 30, rows);
-    } else if (big == STOP_POINT) {
-        make_delivery(30, 30, 30, rows, 30);
-    } else {
-        make_keys(big, rows);
-        make_points(delivery.count[STOP_POINT]);
-        make_blocks(delivery.count[VEHICLE_BLOCK]);
-    }
+    make_rows(big, rows);
     for (i = 0; i < TABLES; i++) {
         unsigned t = reading_order[i];
 
@@ -2400,7 +2607,7 @@ static void story_of_long_texts(const struct cases_host *host)
     unsigned first = any_table();
     size_t i;
 
-    make_delivery(60, 60, 60, 60, 60); /* enough lines for 65,536 bytes, and one more */
+    make_delivery(60, 60, 60, 60, 60, 60); /* enough lines for 65,536 bytes, and one more */
     for (i = 0; i < TABLES; i++) {
         unsigned t = reading_order[i];
 
@@ -2439,7 +2646,7 @@ static uint64_t edge_number(size_t column)
 /* A used row of a table, or row 0 where there is none. */
 static size_t any_used(unsigned t)
 {
-    size_t n = used((const row *)rows_of(made_book, t));
+    size_t n = used((const row *)rows_of(made_book, t), t);
 
     return n == 0 ? 0 : below(n);
 }
@@ -2447,7 +2654,7 @@ static size_t any_used(unsigned t)
 static void remove_row(unsigned t)
 {
     row *rows = rows_of(made_book, t);
-    size_t n = used((const row *)rows);
+    size_t n = used((const row *)rows, t);
     size_t at = any_used(t);
 
     if (n == 0)
@@ -2470,40 +2677,48 @@ static void break_book(void)
 {
     static const size_t referring[] = {B_TYPE, B_TYPE, B_DEP_STOP, B_DEP_POINT, B_ARR_STOP, B_ARR_POINT};
     unsigned t = any_table();
-    unsigned keyed = reading_order[below(TABLES - 1)];
+    unsigned keyed = any_other_table();
     row *rows = rows_of(made_book, t);
     row *keys = rows_of(made_book, keyed);
     row *points = rows_of(made_book, STOP_POINT);
     row *blocks = rows_of(made_book, VEHICLE_BLOCK);
-    size_t n = used((const row *)rows);
+    row *days = rows_of(made_book, DAY_TYPE_CALENDAR);
+    size_t room = most_rows(t);
+    size_t n = used((const row *)rows, t);
     size_t one = any_used(t);
     size_t other = any_used(t);
     size_t point = any_used(STOP_POINT);
     size_t block = any_used(VEHICLE_BLOCK);
+    size_t day = any_used(DAY_TYPE_CALENDAR);
+    size_t other_day = any_used(DAY_TYPE_CALENDAR);
     size_t column = below(NUMBERS);
-    size_t key_width = tables[edition][keyed].key_width;
-    size_t unused = n < TABLE_ROWS ? between(n, TABLE_ROWS - 1) : n - 1;
+    size_t kept = tables[edition][keyed].kept;
+    size_t unused = n < room ? between(n, room - 1) : n - 1;
     uint64_t bit = (uint64_t)1 << below(64);
     size_t reference = referring[below(sizeof referring / sizeof referring[0])];
 
-    switch (below(18)) {
+    switch (below(22)) {
     case 0: swap_rows(rows, one, other); break;
     case 1: memcpy(rows[one], rows[other], sizeof rows[0]); break;
     case 2: memset(rows[one], 0, sizeof rows[0]); break;
     case 3: rows[unused][column] = chance(50) ? 1 : edge_number(column); break;
-    case 4: keys[other % 3][column < key_width ? key_width : column] = edge_number(0); break;
+    case 4: keys[other % 3][column < kept ? kept : column] = edge_number(0); break;
     case 5: rows[one][column] = edge_number(column); break;
     case 6: remove_row(keyed); break;
     case 7: blocks[block][reference] = below(60); break;
     case 8: break_times(blocks[block]); break;
     case 9: blocks[block][column] = chance(50) ? below(10) : edge_number(column); break;
     case 10: rows[one][0] = chance(50) ? 0 : 100; break;
-    case 11: swap_rows(rows, 0, n < TABLE_ROWS ? n : 0); break; /* the first row moves behind the last: a hole in front */
+    case 11: swap_rows(rows, 0, n < room ? n : 0); break; /* the first row moves behind the last: a hole in front */
     case 12: rows[one][1] = rows[other][1]; break;
     case 13: points[point][1] = chance(80) ? below(60) : edge_number(B_DEP_STOP); break;
     case 14: points[point][2] = chance(60) ? below(10) : edge_number(B_DEP_POINT); break;
     case 15: made_book[MARKS][0] = chance(30) ? other_edition() : chance(50) ? 2 : edge_number(0); break;
     case 16: made_book[MARKS][between(1, NUMBERS - 1)] = chance(50) ? 1 : edge_number(0); break;
+    case 17: days[day][C_DAY] = chance(70) ? no_date() : edge_date(); break;
+    case 18: days[day][C_DAY_TYPE] = chance(50) ? below(10) : edge_number(B_DAY_TYPE); break;
+    case 19: swap_rows(days, day, other_day); break;
+    case 20: days[day][C_VERSION] = chance(50) ? below(3) : edge_number(B_VERSION); break;
     default: if (chance(50)) rows[one][column] ^= bit; else rows[unused][column] ^= bit; break;
     }
 }
@@ -2529,6 +2744,7 @@ static void story_of_broken_books(const struct cases_host *host)
         put_made_book(host);
         ask_type(host, BOOK_ROWS);
         ask_block(host, BOOK_ROWS);
+        ask_season(host, BOOK_ROWS);
         ask_write(host, BOOK_ROWS);
         if (chance(5))
             set_length(&slip, chance(50) ? 0 : TEXT_LIMIT + 1);
@@ -2552,6 +2768,7 @@ static void story_of_lengths(const struct cases_host *host)
     put_made_book(host);
     ask_type(host, other_length(BOOK_ROWS));
     ask_block(host, other_length(BOOK_ROWS));
+    ask_season(host, other_length(BOOK_ROWS));
     ask_write(host, other_length(BOOK_ROWS));
     slip = make_slip(host->book(host->self));
     if (chance(10))

@@ -22,12 +22,13 @@ struct cases_host {
     /* reads a delivery, its texts in the order of reading; the book's earlier content is the host's to choose. Editions go by
      * the caller's number here, 21, 23 or another */
     void (*read)(void *self, uint64_t edition, const struct text texts[TABLES], size_t book_rows);
-    /* takes a book for the standing one, and the texts of all that is in it but the blocks */
-    void (*put_book)(void *self, const row *book, const struct text others[TABLES - 1]);
+    /* takes a book for the standing one, and the texts of all that is in it but the blocks, whose text is not looked at */
+    void (*put_book)(void *self, const row *book, const struct text others[TABLES]);
     void (*slip)(void *self, struct text slip, size_t book_rows, size_t work_rows);
     void (*cell)(void *self, uint64_t edition, struct text text, uint64_t table, uint64_t line, uint64_t column);
     void (*type)(void *self, size_t book_rows, uint64_t version, uint64_t number);
     void (*block)(void *self, size_t book_rows, const uint64_t key[4]);
+    void (*season)(void *self, size_t book_rows, uint64_t version, uint64_t number, uint64_t first, uint64_t last);
     void (*write)(void *self, size_t book_rows, size_t out_length);
     /* by radio, what is kept lent at these lengths */
     void (*radio_open)(void *self, uint64_t edition, struct radio_lengths lengths);

@@ -10,7 +10,7 @@
 #include <stdlib.h>
 #include <string.h>
 
-enum { DEFAULT_SEED = 1, DEFAULT_COUNT = 10000, WANTED_EACH = 20, SHOWN_FAILURES = 10, REFUSALS = 23, GUARD = 64 };
+enum { DEFAULT_SEED = 1, DEFAULT_COUNT = 10000, WANTED_EACH = 20, SHOWN_FAILURES = 10, REFUSALS = 24, GUARD = 64 };
 
 /* The two sides of everything that is lent: 0 the library's, 1 the second reader's. */
 enum { SIDES = 2, SECOND = 1 };
@@ -25,10 +25,11 @@ static struct {
     int shown;  /* failures so far */
     int verbose;
     row book[SIDES][BOOK_ROWS];     /* the standing book */
-    uint8_t other_bytes[TABLES - 1][140000]; /* the standing book's other tables, as texts */
-    struct text others[TABLES - 1];
+    uint8_t other_bytes[TABLES][140000]; /* the standing book's other tables, as texts; the blocks have none */
+    struct text others[TABLES];
     unsigned edition; /* of the call */
     uint64_t came[REFUSALS];
+    uint64_t seasons; /* that have some seconds */
     uint64_t came_at[EDITIONS][REFUSALS][LAST_TABLE + 1][34]; /* by edition, table and column */
 } host;
 
@@ -286,11 +287,13 @@ static int is_over(void)
     return host.failed;
 }
 
-static void keep_others(const struct text others[TABLES - 1])
+static void keep_others(const struct text others[TABLES])
 {
     size_t i;
 
-    for (i = 0; i < TABLES - 1; i++) {
+    for (i = 0; i < TABLES; i++) {
+        if (reading_order[i] == VEHICLE_BLOCK)
+            continue;
         memcpy(host.other_bytes[i], others[i].bytes, others[i].length);
         host.others[i].bytes = host.other_bytes[i];
         host.others[i].length = others[i].length;
@@ -300,12 +303,12 @@ static void keep_others(const struct text others[TABLES - 1])
 /* The other tables of the book that a refused reading leaves. */
 static void keep_empty_others(void)
 {
-    static const char *const headers[TABLES - 1] = {"VERSION;VEH_TYPE_NR\n", "VERSION;DEPOT_NR\n",
-        "VERSION;STOP_NR;STOP_NAME\n", "VERSION;STOP_NR;STOPPING_POINT_NR\n"};
-    struct text others[TABLES - 1];
+    static const char *const headers[TABLES] = {"VERSION;VEH_TYPE_NR\n", "VERSION;DEPOT_NR\n", "VERSION;STOP_NR;STOP_NAME\n",
+        "VERSION;STOP_NR;STOPPING_POINT_NR\n", "", "VERSION;DAY;DAY_TYPE_NR\n"};
+    struct text others[TABLES];
     size_t i;
 
-    for (i = 0; i < TABLES - 1; i++) {
+    for (i = 0; i < TABLES; i++) {
         others[i].bytes = (const uint8_t *)headers[i];
         others[i].length = strlen(headers[i]);
     }
@@ -329,6 +332,7 @@ static void call_read(void *self, uint64_t edition, const struct text texts[TABL
         show_text("stop", texts[2]);
         show_text("stop_point", texts[3]);
         show_text("vehicle_block", texts[4]);
+        show_text("day_type_calendar", texts[5]);
         printf("    by edition %" PRIu64 ", into a book of %" PRIu64 " rows of garbage\n", edition, (uint64_t)book_rows);
     }
     for (s = 0; s < SIDES; s++) {
@@ -363,7 +367,7 @@ static uint64_t edition_of_book(int s)
     return name_of_edition(host.book[s][MARKS][0] == 1 ? DINO_23 : DINO_21);
 }
 
-static void call_put_book(void *self, const row *book, const struct text others[TABLES - 1])
+static void call_put_book(void *self, const row *book, const struct text others[TABLES])
 {
     int s;
 
@@ -390,9 +394,9 @@ static void compare_afresh(int s)
         fail("the book that a slip left is not written");
         return;
     }
-    memcpy(texts, host.others, sizeof host.others);
-    texts[TABLES - 1].bytes = written;
-    texts[TABLES - 1].length = (size_t)length[0];
+    memcpy(texts, host.others, sizeof texts);
+    texts[part_of(VEHICLE_BLOCK)].bytes = written;
+    texts[part_of(VEHICLE_BLOCK)].length = (size_t)length[0];
     if (side_read(sides[s], edition_of_book(s), texts, afresh, BOOK_ROWS, place) != 0) {
         fail("the blocks written after a slip are not read");
         return;
@@ -505,6 +509,29 @@ static void call_block(void *self, size_t book_rows, const uint64_t key[4])
         end_looking("a block question changed the book", book, s, book_rows);
     }
     compare_answers(&answers);
+}
+
+static void call_season(void *self, size_t book_rows, uint64_t version, uint64_t number, uint64_t first, uint64_t last)
+{
+    struct answers answers = fresh_answers();
+    int s;
+
+    (void)self;
+    if (is_over())
+        return;
+    begin_call("season", edition_of_book(SECOND));
+    if (host.verbose)
+        printf("    version %" PRIu64 ", number %" PRIu64 ", from %" PRIu64 " to %" PRIu64 ", %" PRIu64 " rows of book\n",
+            version, number, first, last, (uint64_t)book_rows);
+    for (s = 0; s < SIDES; s++) {
+        row *book = lend_book(s, book_rows);
+
+        answers.returned[s] = sides[s]->season((const row *)book, book_rows, version, number, first, last, answers.numbers[s],
+            answers.place[s]);
+        end_looking("a season question changed the book", book, s, book_rows);
+    }
+    compare_answers(&answers);
+    host.seasons += answers.returned[SECOND] == 0 && answers.numbers[SECOND][0] > 0;
 }
 
 static void call_write(void *self, size_t book_rows, size_t out_length)
@@ -825,8 +852,8 @@ static const row *standing_book(void *self)
 }
 
 static const struct cases_host calls = {NULL, call_read, call_put_book, call_slip, call_cell, call_type, call_block,
-    call_write, call_radio_open, call_radio_announce, call_radio_part, call_radio_close, call_radio_damage, call_radio_mend,
-    standing_book};
+    call_season, call_write, call_radio_open, call_radio_announce, call_radio_part, call_radio_close, call_radio_damage,
+    call_radio_mend, standing_book};
 
 /* ---- Runs */
 
@@ -859,6 +886,7 @@ static void print_counts(int places)
     puts("How often each number of refusal came:");
     for (number = 0; number < REFUSALS; number++)
         printf("%3" PRIu64 " %8" PRIu64 "\n", (uint64_t)number, host.came[number]);
+    printf("Seasons that have some seconds: %" PRIu64 "\n", host.seasons);
     if (!places)
         return;
     puts("And where (edition, number, table, column):");
@@ -882,6 +910,10 @@ static int counts_are_enough(void)
             printf("FAILED: number %" PRIu64 " came fewer than %d times\n", (uint64_t)number, WANTED_EACH);
             enough = 0;
         }
+    if (host.seasons < WANTED_EACH) {
+        printf("FAILED: fewer than %d seasons have some seconds\n", WANTED_EACH);
+        enough = 0;
+    }
     return enough;
 }
 
@@ -912,9 +944,9 @@ static int cell_faults_came_at(unsigned edition, uint64_t table, const struct co
 
     if (column->required)
         enough &= came_at(edition, 19, table, c);
-    if (column->kind == 'd')
+    if (column->kind != 'c')
         enough &= came_at(edition, 8, table, c);
-    if (column->kind == 'd' && has_range(column))
+    if (column->kind != 'c' && has_range(column))
         enough &= came_at(edition, 21, table, c);
     return enough;
 }

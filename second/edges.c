@@ -8,7 +8,7 @@
 /* A string literal as a text; bytes 0 may stand in it. */
 #define T(s) {(const uint8_t *)(s), sizeof(s) - 1}
 
-/* ---- The whole case of document 01, which "gains the points 20/1 and 31/2" */
+/* ---- The whole case of document 01, which "gains the points 20/1 and 31/2" and "a calendar of its header alone" */
 
 #define TYPES "VERSION;VEH_TYPE_NR;VEH_TYPE_TEXT\n1;4;\"solo; low floor\"\n1;7;\"joint \"\"old\"\"\"\n"
 #define DEPOTS "VERSION;DEPOT_NR\n1;3\n"
@@ -22,9 +22,10 @@
 #define BLOCK_6_101 "1;6;3;101;4;20;1;80000;20;1;90000\n"
 #define BLOCK_ROWS BLOCK_101 BLOCK_102 BLOCK_6_101
 #define BLOCKS BLOCK_HEADER BLOCK_ROWS
+#define CALENDAR "VERSION;DAY;DAY_TYPE_NR\n"
 
 /* In the order of reading. */
-static const struct text whole_case[TABLES] = {T(TYPES), T(DEPOTS), T(STOPS), T(POINTS), T(BLOCKS)};
+static const struct text whole_case[TABLES] = {T(TYPES), T(DEPOTS), T(STOPS), T(POINTS), T(BLOCKS), T(CALENDAR)};
 
 /* ---- Editions */
 
@@ -76,6 +77,7 @@ static const struct reading_edge reading_edges[] = {
     {"length 0, table 3", 3, T(""), 2, 1, 1},
     {"length 0, table 6", 6, T(""), 2, 1, 1},
     {"length 0, table 4", 4, T(""), 2, 1, 1},
+    {"length 0, table 7", 7, T(""), 2, 1, 1},
     /* Easy to get wrong */
     {"columns by name, not by position", 2, T("DEPOT_NR;VERSION\n3;1\n"), 0, 0, 0},
     {"columns by position would find the depot", 2, T("DEPOT_NR;VERSION\n1;3\n"), 10, 2, 3},
@@ -218,6 +220,28 @@ static const struct reading_edge reading_edges[] = {
     {"C1-04 a point's 10 before a block's faults", 3, T(S "1;20;Yard\n"), 10, 3, 2},
     {"C1-02 a block's point at another stop", 6, T(P "1;20;2\n1;31;1\n"), 10, 2, 7},
     {"C1-02 a block's last point", 6, T(P "1;20;1\n1;31;1\n"), 10, 2, 10},
+    /* The calendar */
+    {"C7-02 2 in the calendar: the version", 7, T("DAY;DAY_TYPE_NR\n"), 2, 1, 1},
+    {"C7-02 2 in the calendar: the day", 7, T("VERSION;DAY_TYPE_NR;DAY_TEXT\n"), 2, 1, 2},
+    {"C7-02 2 in the calendar: the day type", 7, T("VERSION;DAY\n"), 2, 1, 3},
+    {"3 in the calendar", 7, T("DAY;VERSION;DAY_TYPE_NR;DAY\n20240101;1;5;20240101\n"), 3, 1, 2},
+    {"4 in the calendar", 7, T("VERSION;DAY" TEN_CELLS TEN_CELLS TEN_CELLS ";DAY_TYPE_NR\n"), 4, 1, 0},
+    {"6 in the calendar's header", 7, T("VERSION;DAY;DAY_TYPE_NR\"\n"), 6, 1, 3},
+    {"6 in a day", 7, T(CALENDAR "1;\"20240101;5\n"), 6, 2, 2},
+    {"7 in a day", 7, T(CALENDAR "1;20240101\n"), 7, 2, 0},
+    {"C7-02 the example of document 003", 7,
+        T("VERSION;DAY;DAY_TEXT;DAY_TYPE_NR\n1;\"20111121\";\"\";1\n1;\"20111122\";\"\";2\n1;\"20111123\";\"\";3\n"), 0, 0, 0},
+    {"C7-02 DAY_TEXT is unknown", 7, T("DAY_TEXT;DAY_TYPE_NR;DAY;VERSION;DAY_TEXT\n;5;20240101;1;" TEN TEN TEN TEN "x\n"), 0,
+        0, 0},
+    {"DAY is no column of vehicle_block", 4, T("DAY;DAY;" BLOCK_HEADER "x;;" BLOCK_101), 0, 0, 0},
+    {"C7-08 the key is version and day", 7, T(CALENDAR "1;20240101;5\n2;20240101;5\n1;20240102;5\n"), 0, 0, 0},
+    {"C7-08 a day twice", 7, T(CALENDAR "1;20240101;5\n1;20240102;5\n1;20240101;6\n"), 9, 4, 0},
+    {"C7-08 the key in numbers", 7, T(CALENDAR "1;20240101;5\n01;\"20240101\";5\n"), 9, 3, 0},
+    {"C7-03 21 before 9", 7, T(CALENDAR "1;20240101;5\n0;20240101;5\n"), 21, 3, 1},
+    {"C7-03 20 of the day type before 9", 7, T(CALENDAR "1;20240101;5\n1;20240101;0000000005\n"), 20, 3, 3},
+    {"C7-05 a day type that no block has", 7, T(CALENDAR "1;20240101;999999999\n99;20240101;0\n"), 0, 0, 0},
+    {"an earlier 9 before a later 21", 7, T(CALENDAR "1;20240101;5\n1;20240101;5\n1;20240230;5\n"), 9, 3, 0},
+    {"an earlier 21 before a later 9", 7, T(CALENDAR "1;20240101;5\n1;20240230;5\n1;20240101;5\n"), 21, 3, 2},
     /* Order around the four faults of a cell */
     {"6 before an earlier cell's 19", 2, T(D ";\"3\n"), 6, 2, 2},
     {"6 before an earlier cell's 20", 2, T(D "100;\"3\n"), 6, 2, 2},
@@ -528,7 +552,18 @@ static const struct cell_edge cell_edges[] = {
     {"A-32 table 0", T(D "1;3\n"), 0, 2, 1, 15, 0, 0, NOTHING},
     {"A-32 table 5", T(D "1;3\n"), 5, 2, 1, 15, 0, 0, NOTHING},
     {"C1-06 table 5 with stop points", T(POINTS), 5, 2, 1, 15, 0, 0, NOTHING},
-    {"A-32 table 7", T(D "1;3\n"), 7, 2, 1, 15, 0, 0, NOTHING},
+    {"A-32 table 8", T(D "1;3\n"), 8, 2, 1, 15, 0, 0, NOTHING},
+    {"a day's version", T(CALENDAR "01;20240229;7\n"), 7, 2, 1, 0, 0, 0, 1, 1, 0, 0},
+    {"a day", T(CALENDAR "1;20240229;7\n"), 7, 2, 2, 0, 0, 0, 1, 20240229, 0, 0},
+    {"a day in quotes, behind others", T(CALENDAR "x\n1;20240229;7\n1;\"20240229\";7\n"), 7, 4, 2, 0, 0, 0, 1, 20240229, 0, 0},
+    {"a day's type", T(CALENDAR "1;20240230;000000007\n"), 7, 2, 3, 0, 0, 0, 1, 7, 0, 0},
+    {"a day that is no date", T(CALENDAR "1;20230229;7\n"), 7, 2, 2, 21, 2, 2, NOTHING},
+    {"a day of seven digits", T(CALENDAR "1;2024229;7\n"), 7, 2, 2, 21, 2, 2, NOTHING},
+    {"a day of nine digits", T(CALENDAR "1;020240229;7\n"), 7, 2, 2, 20, 2, 2, NOTHING},
+    {"an empty day", T(CALENDAR "1;\"\";7\n"), 7, 2, 2, 19, 2, 2, NOTHING},
+    {"the calendar has no column 4", T(CALENDAR "1;20240229;7\n"), 7, 2, 4, 15, 0, 0, NOTHING},
+    {"header of the calendar", T("VERSION;DAY_TYPE_NR\n"), 7, 2, 1, 2, 1, 2, NOTHING},
+    {"table 7 of length 0", T(""), 7, 2, 1, 2, 1, 1, NOTHING},
     {"A-32 table 2^64 - 1", T(D "1;3\n"), UINT64_MAX, 2, 1, 15, 0, 0, NOTHING},
     {"A-32 column 0", T(D "1;3\n"), 2, 2, 0, 15, 0, 0, NOTHING},
     {"A-32 column 3 of depot", T(D "1;3\n"), 2, 2, 3, 15, 0, 0, NOTHING},
@@ -617,8 +652,8 @@ static const struct cell_edge cell_edges_23[] = {
 
 /* ---- Running them */
 
-/* The first rows of the stop points and of the blocks in a book. */
-enum { POINTS_AT = 1536, BLOCKS_AT = 2048 };
+/* The first rows of the stop points, of the blocks and of the calendar in a book. */
+enum { POINTS_AT = 1536, BLOCKS_AT = 2048, CALENDAR_AT = 2560 };
 
 static row book[BOOK_ROWS + 1];
 static row before[BOOK_ROWS + 1];
@@ -870,6 +905,12 @@ static struct text done(const struct growing *text)
     return t;
 }
 
+/* A day for each number, from 20000102 on, by rising numbers: every month has 28 of them. */
+static uint64_t day_numbered(uint64_t i)
+{
+    return (2000 + i / 336) * 10000 + (1 + i / 28 % 12) * 100 + 1 + i % 28;
+}
+
 /* Table t of `rows` rows, each with its number in the key. The first row of each other table is what the blocks refer to. */
 static struct text long_table(unsigned t, uint64_t rows)
 {
@@ -881,6 +922,7 @@ static struct text long_table(unsigned t, uint64_t rows)
         [STOP] = {S, "1;", ";a\n"},
         [STOP_POINT] = {P, "1;", ";0\n"},
         [VEHICLE_BLOCK] = {BLOCK_HEADER, "1;5;1;", ";1;1;0;10;1;0;20\n"},
+        [DAY_TYPE_CALENDAR] = {CALENDAR, "1;", ";5\n"},
     };
     struct growing text = {big[t], 0};
     uint64_t i;
@@ -888,19 +930,23 @@ static struct text long_table(unsigned t, uint64_t rows)
     put(&text, shapes[t].header);
     for (i = 1; i <= rows; i++) {
         put(&text, shapes[t].before);
-        put_number(&text, i, 0);
+        put_number(&text, t == DAY_TYPE_CALENDAR ? day_numbered(i) : i, 0);
         put(&text, shapes[t].behind);
     }
     return done(&text);
 }
 
-/* The delivery with that many rows in table t and 512 in the others. */
+/* The delivery with that many rows in table t and 512 in the others; but the calendar and the others have one row beside each
+ * other, since nothing of one is in the other. */
 static void long_delivery(struct text texts[TABLES], unsigned t, uint64_t rows)
 {
     size_t i;
 
-    for (i = 0; i < TABLES; i++)
-        texts[i] = long_table(reading_order[i], reading_order[i] == t ? rows : 512);
+    for (i = 0; i < TABLES; i++) {
+        int alone = t == DAY_TYPE_CALENDAR || reading_order[i] == DAY_TYPE_CALENDAR;
+
+        texts[i] = long_table(reading_order[i], reading_order[i] == t ? rows : alone ? 1 : 512);
+    }
 }
 
 /* Makes a text that long. */
@@ -945,6 +991,7 @@ static struct growing slip_of_65536(void)
 /* How long texts are cut by radio. */
 enum { LONG_PART = 777 };
 
+/* What is said of row 512 and row 513 is tried on the calendar's rows 800 and 801. */
 static void run_long_tables(struct run *run)
 {
     const struct side *side = run->side;
@@ -953,27 +1000,29 @@ static void run_long_tables(struct run *run)
 
     for (part = 0; part < TABLES; part++) {
         unsigned t = reading_order[part];
+        size_t room = t == DAY_TYPE_CALENDAR ? 800 : 512;
+        size_t last = t == DAY_TYPE_CALENDAR ? 3359 : 512 * part + 511;
 
-        long_delivery(texts, t, 512);
-        tell(run, "512 rows", is_read(side, texts, part, 1, LONG_PART, 0, 0, 0, 0) && book[512 * part + 511][0] == 1);
-        long_delivery(texts, t, 513);
-        tell(run, "row 513", is_read(side, texts, part, 1, LONG_PART, 5, t, 514, 0));
+        long_delivery(texts, t, room);
+        tell(run, "512 rows", is_read(side, texts, part, 1, LONG_PART, 0, 0, 0, 0) && book[last][0] == 1);
+        long_delivery(texts, t, room + 1);
+        tell(run, "row 513", is_read(side, texts, part, 1, LONG_PART, 5, t, room + 2, 0));
         big[t][texts[part].length - 2] = '"';
-        tell(run, "A-13 row 513 has a 6", is_read(side, texts, part, 1, LONG_PART, 5, t, 514, 0));
+        tell(run, "A-13 row 513 has a 6", is_read(side, texts, part, 1, LONG_PART, 5, t, room + 2, 0));
         texts[part].length -= strlen("1;513\n") - 1;
-        tell(run, "A-13 row 513 is one byte", is_read(side, texts, part, 1, LONG_PART, 5, t, 514, 0));
-        texts[part] = long_table(t, 512);
+        tell(run, "A-13 row 513 is one byte", is_read(side, texts, part, 1, LONG_PART, 5, t, room + 2, 0));
+        texts[part] = long_table(t, room);
         put(&(struct growing){big[t], texts[part].length}, "\n");
         texts[part].length++;
-        tell(run, "A-13 row 513 is blank", is_read(side, texts, part, 1, LONG_PART, 5, t, 514, 0));
+        tell(run, "A-13 row 513 is blank", is_read(side, texts, part, 1, LONG_PART, 5, t, room + 2, 0));
         texts[part].length--;
         fill_up(&(struct growing){big[t], texts[part].length}, texts[part].length + 2049);
         texts[part].length += 2049;
-        tell(run, "C3-01 row 513 is too long", is_read(side, texts, part, 1, LONG_PART, 5, t, 514, 0));
-        texts[part] = long_table(t, 511);
+        tell(run, "C3-01 row 513 is too long", is_read(side, texts, part, 1, LONG_PART, 5, t, room + 2, 0));
+        texts[part] = long_table(t, room - 1);
         fill_up(&(struct growing){big[t], texts[part].length}, texts[part].length + 2049);
         texts[part].length += 2049;
-        tell(run, "C3-01 row 512 is too long", is_read(side, texts, part, 1, LONG_PART, 17, t, 513, 0));
+        tell(run, "C3-01 row 512 is too long", is_read(side, texts, part, 1, LONG_PART, 17, t, room + 1, 0));
     }
     long_delivery(texts, 2, 600);
     texts[1].length = 0;
@@ -1104,6 +1153,169 @@ static void run_questions(struct run *run)
         book[2][0] == 0 && book[1][0] != 0 && book[BLOCKS_AT + 2][0] == 0 && book[BLOCKS_AT + 1][0] != 0);
 }
 
+/* ---- Seasons */
+
+/* Of the whole case: type 4 has 28,800 seconds on days of type 5 and 10,000 on days of type 6, type 7 has 3,601 on days of
+ * type 5. Of version 1 there are three days of type 5, two of type 6 and one of type 7. */
+#define SEASON CALENDAR "1;20240229;6\n2;20240101;5\n1;20240101;5\n1;20240102;6\n1;20241231;5\n1;20240103;7\n1;20240104;5\n"
+
+struct season_edge {
+    const char *words;
+    uint64_t version, type, first, last;
+    uint64_t number, seconds;
+};
+
+static const struct season_edge season_edges[] = {
+    {"all days", 1, 4, 16000101, 99991231, 0, 3 * 28800 + 2 * 10000},
+    {"all days of type 7", 1, 7, 16000101, 99991231, 0, 3 * 3601},
+    {"the first day to the last", 1, 4, 20240101, 20241231, 0, 3 * 28800 + 2 * 10000},
+    {"without the first day", 1, 4, 20240102, 20241231, 0, 2 * 28800 + 2 * 10000},
+    {"without the last day", 1, 4, 20240101, 20241230, 0, 2 * 28800 + 2 * 10000},
+    {"one day", 1, 4, 20240101, 20240101, 0, 28800},
+    {"one day of the other type", 1, 4, 20240229, 20240229, 0, 10000},
+    {"one day of another day type", 1, 4, 20240103, 20240103, 0, 0},
+    {"one day that the calendar lacks", 1, 4, 20240105, 20240105, 0, 0},
+    {"two days", 1, 4, 20240101, 20240102, 0, 38800},
+    {"before the calendar", 1, 4, 16000101, 20231231, 0, 0},
+    {"behind the calendar", 1, 4, 20250101, 99991231, 0, 0},
+    {"the last before the first", 1, 4, 20240102, 20240101, 0, 0},
+    {"the last long before the first", 1, 4, 99991231, 16000101, 0, 0},
+    {"C7-06 29 February 2024", 1, 4, 20240229, 20240301, 0, 10000},
+    {"C7-06 29 February 1600", 1, 4, 16000229, 20240101, 0, 28800},
+    {"C7-06 first is 29 February 2023", 1, 4, 20230229, 20240101, 23, 0},
+    {"C7-06 last is 30 February 2024", 1, 4, 20240101, 20240230, 23, 0},
+    {"C7-06 first is 29 February 1700", 1, 4, 17000229, 20240101, 23, 0},
+    {"C7-06 last is 29 February 1900", 1, 4, 16000101, 19000229, 23, 0},
+    {"C7-06 first is of 1599", 1, 4, 15991231, 20240101, 23, 0},
+    {"C7-06 last is of 10000", 1, 4, 20240101, 100000101, 23, 0},
+    {"C7-06 first is 0", 1, 4, 0, 20240101, 23, 0},
+    {"C7-06 last is 99999999", 1, 4, 20240101, 99999999, 23, 0},
+    {"C7-06 last is 2^64 - 1", 1, 4, 20240101, UINT64_MAX, 23, 0},
+    {"C7-06 first is 2^32 and a day", 1, 4, 4294967296u + 20240101, 20241231, 23, 0},
+    {"C7-06 month 0", 1, 4, 20240001, 20241231, 23, 0},
+    {"C7-06 month 13", 1, 4, 20240101, 20241301, 23, 0},
+    {"C7-06 day 0", 1, 4, 20240100, 20241231, 23, 0},
+    {"C7-06 day 32", 1, 4, 20240101, 20240132, 23, 0},
+    {"C7-06 both are no dates", 1, 4, 0, 0, 23, 0},
+    {"C7-06 no date, and the last before the first", 1, 4, 20240230, 20240101, 23, 0},
+    {"C7-06 no date at the end, and before the first", 1, 4, 20240101, 20230229, 23, 0},
+    {"C7-06 15 before 23", 1, 5, 0, 0, 15, 0},
+    {"no type 5", 1, 5, 16000101, 99991231, 15, 0},
+    {"C7-07 no type 4 of version 2", 2, 4, 16000101, 99991231, 15, 0},
+    {"no type 0 of version 0", 0, 0, 16000101, 99991231, 15, 0},
+};
+
+static int season_is(const struct side *side, const struct season_edge *edge)
+{
+    uint64_t place[4], seconds[1] = {9};
+    uint64_t answer = side->season((const row *)book, BOOK_ROWS, edge->version, edge->type, edge->first, edge->last, seconds,
+        place);
+
+    return answered(answer, place, edge->number, 0, 0, 0) && seconds[0] == edge->seconds;
+}
+
+/* The whole case with those days. */
+static void season_case(struct text texts[TABLES])
+{
+    static const struct text season = T(SEASON);
+
+    memcpy(texts, whole_case, TABLES * sizeof texts[0]);
+    texts[part_of(DAY_TYPE_CALENDAR)] = season;
+}
+
+static void run_seasons(struct run *run)
+{
+    struct text texts[TABLES];
+    uint64_t place[4];
+    size_t i;
+
+    season_case(texts);
+    read_into_book(run->side, texts, place);
+    memcpy(before, book, sizeof before);
+    for (i = 0; i < sizeof season_edges / sizeof season_edges[0]; i++)
+        tell(run, season_edges[i].words, season_is(run->side, &season_edges[i]));
+    tell(run, "season questions leave the book as it is", memcmp(before, book, sizeof before) == 0);
+}
+
+/* The calendar in the book, after slips, and 16 before 15 and 23. */
+static void run_days(struct run *run)
+{
+    static const uint64_t days[8][3] = {{1, 20240101, 5}, {1, 20240102, 6}, {1, 20240103, 7}, {1, 20240104, 5},
+        {1, 20240229, 6}, {1, 20241231, 5}, {2, 20240101, 5}, {0}};
+    static const struct season_edge after_slip[] = {
+        {"type 4 after the slip", 1, 4, 16000101, 99991231, 0, 3 * (28800 + 3600)},
+        {"type 7 after the slip", 1, 7, 16000101, 99991231, 0, 0},
+        {"type 4 after the slip, one day", 1, 4, 20240101, 20240101, 0, 28800 + 3600},
+    };
+    static const struct season_edge into_next_day = {"a block into the next day", 1, 7, 20240103, 20240103, 0, 10000};
+    static const struct season_edge broken = {"16 before 15 and 23", 1, 5, 0, 0, 16, 0};
+    static const struct text slip = T(WHOLE_SLIP), night = T("A\t1\t7\t3\t103\t7\t20\t1\t80000\t31\t2\t3600\n");
+    struct text texts[TABLES];
+    uint64_t place[4], answer;
+    int good;
+    size_t i;
+
+    season_case(texts);
+    good = is_read(run->side, texts, part_of(DAY_TYPE_CALENDAR), 1, 1, 0, 0, 0, 0);
+    for (i = 0; i < 8; i++)
+        good = good && memcmp(book[CALENDAR_AT + i], days[i], sizeof days[i]) == 0
+            && memcmp(book[CALENDAR_AT + i] + 3, zeros, 8 * sizeof book[0][0]) == 0;
+    tell(run, "C7-08 days by rising key", good);
+    answer = slip_on_book(run->side, slip, place);
+    tell(run, "a slip on a book with days", answered(answer, place, 0, 0, 0, 0) && book[CALENDAR_AT][1] == 20240101);
+    for (i = 0; i < 3; i++)
+        tell(run, after_slip[i].words, season_is(run->side, &after_slip[i]));
+    answer = slip_on_book(run->side, night, place);
+    tell(run, into_next_day.words, answered(answer, place, 0, 0, 0, 0) && season_is(run->side, &into_next_day));
+    book[CALENDAR_AT + 799][2] = 1;
+    tell(run, broken.words, season_is(run->side, &broken));
+}
+
+/* 512 blocks of 999,999 seconds on 800 days. */
+static void run_greatest_season(struct run *run)
+{
+    static const uint64_t block[NUMBERS] = {1, 5, 3, 0, 4, 20, 1, 0, 31, 2, 999999};
+    static const struct season_edge greatest = {"the greatest season", 1, 4, 16000101, 99991231, 0, 409599590400u};
+    static const struct season_edge half = {"half of it", 1, 4, 16000101, 20010308, 0, 204799795200u};
+    uint64_t place[4];
+    size_t i;
+
+    read_into_book(run->side, whole_case, place);
+    for (i = 0; i < 512; i++) {
+        memcpy(book[BLOCKS_AT + i], block, sizeof block);
+        book[BLOCKS_AT + i][3] = i;
+    }
+    for (i = 0; i < 800; i++) {
+        book[CALENDAR_AT + i][0] = 1;
+        book[CALENDAR_AT + i][1] = day_numbered(i);
+        book[CALENDAR_AT + i][2] = 5;
+    }
+    tell(run, greatest.words, season_is(run->side, &greatest));
+    tell(run, half.words, day_numbered(399) == half.last && season_is(run->side, &half));
+}
+
+/* 7/13: "read last": every fault of a block comes before one of the calendar. */
+static void run_calendar_last(struct run *run)
+{
+    static const struct text faulty = T(BLOCK_HEADER BLOCK_101 "1;5;9;102;7;31;2;21600;20;1;25201\n"), nothing = T(""),
+                             no_date = T(CALENDAR "1;20230229;5\n"), no_header = T("VERSION;DAY\n");
+    struct text texts[TABLES];
+
+    memcpy(texts, whole_case, sizeof texts);
+    texts[4] = faulty;
+    texts[5] = nothing;
+    tell(run, "C7-01 a block's 10 before a calendar of length 0", is_read(run->side, texts, 5, 1, 1, 10, 4, 3, 3));
+    texts[5] = no_date;
+    tell(run, "C7-01 a block's 10 before a day's 21", is_read(run->side, texts, 5, 1, 1, 10, 4, 3, 3));
+    texts[4] = nothing;
+    texts[5] = no_header;
+    tell(run, "C7-01 the blocks' 2 before the calendar's 2", is_read(run->side, texts, 5, 1, 1, 2, 4, 1, 1));
+    texts[4] = whole_case[4];
+    tell(run, "C7-01 the calendar's 2", is_read(run->side, texts, 5, 1, 1, 2, 7, 1, 3));
+    texts[5] = no_date;
+    tell(run, "C7-01 a day's 21", is_read(run->side, texts, 5, 1, 1, 21, 7, 2, 2));
+}
+
 /* ---- The writer */
 
 static void run_writer(struct run *run)
@@ -1145,7 +1357,7 @@ static void run_widest_book(struct run *run)
     uint64_t i;
 
     memset(book, 0, sizeof book);
-    for (i = 0; i < TABLES - 1; i++) {
+    for (i = 0; i < part_of(VEHICLE_BLOCK); i++) {
         book[512 * i][0] = 99;
         book[512 * i][1] = i == 0 ? 99 : 99999;
     }
@@ -1180,8 +1392,8 @@ static int lent(const struct side *side, size_t book_rows, size_t work_rows, int
 
 static void run_lengths(struct run *run)
 {
-    uint64_t place[4], answer, sum[2], seven[7];
-    size_t lengths[] = {0, 1, 512, 2048, BOOK_ROWS - 1, BOOK_ROWS + 1};
+    uint64_t place[4], answer, sum[2], seven[7], seconds[1];
+    size_t lengths[] = {0, 1, 512, 2048, 2561, BOOK_ROWS - 1, BOOK_ROWS + 1};
     size_t i;
 
     for (i = 0; i < sizeof lengths / sizeof lengths[0]; i++) {
@@ -1197,6 +1409,8 @@ static void run_lengths(struct run *run)
         tell(run, "type question to a book of another length", answered(answer, place, 16, 0, 0, 0) && !sum[0] && !sum[1]);
         answer = run->side->block((const row *)book, lengths[i], 1, 5, 3, 101, seven, place);
         tell(run, "block question to a book of another length", answered(answer, place, 16, 0, 0, 0) && !seven[0]);
+        answer = run->side->season((const row *)book, lengths[i], 1, 4, 16000101, 99991231, seconds, place);
+        tell(run, "season question to a book of another length", answered(answer, place, 16, 0, 0, 0) && !seconds[0]);
     }
     read_into_book(run->side, whole_case, place);
     tell(run, "A-28 slip with a working area too short", lent(run->side, BOOK_ROWS, WORK_ROWS - 1, 1));
@@ -1274,6 +1488,11 @@ static const struct poke pokes[] = {
     {"a hole between blocks", BLOCKS_AT + 1, 0, 0, 0},
     {"something in the blocks' unused room", 2559, 0, 1, 0},
     {"a number alone in the blocks' unused room", 2559, 10, 1, 0},
+    {"a day type without a day in the calendar", CALENDAR_AT, 2, 5, 0},
+    {"a version without a day in the calendar", CALENDAR_AT, 0, 1, 0},
+    {"something in the calendar's unused room", CALENDAR_AT + 400, 1, 20240101, 0},
+    {"something in the calendar's row 513", CALENDAR_AT + 512, 0, 1, 0},
+    {"something in the calendar's last row", CALENDAR_AT + 799, 10, 1, 0},
     {"the row of marks says 2.1", MARKS, 0, 0, 1},
     {"the row of marks says 2.3", MARKS, 0, 1, 1},
     {"the row of marks says 2", MARKS, 0, 2, 0},
@@ -1289,7 +1508,7 @@ static const struct poke pokes[] = {
 static int book_is_kept(const struct side *side, int kept)
 {
     static const struct text slip = T("");
-    uint64_t place[4], sum[2], seven[7], length[1], number = kept ? 0 : 16;
+    uint64_t place[4], sum[2], seven[7], seconds[1], length[1], number = kept ? 0 : 16;
     uint64_t answer;
     int good;
 
@@ -1299,6 +1518,8 @@ static int book_is_kept(const struct side *side, int kept)
     answer = side->type((const row *)book, BOOK_ROWS, 1, 4, sum, place);
     good = good && answered(answer, place, number, 0, 0, 0);
     answer = side->block((const row *)book, BOOK_ROWS, 1, 5, 3, 101, seven, place);
+    good = good && answered(answer, place, number, 0, 0, 0);
+    answer = side->season((const row *)book, BOOK_ROWS, 1, 4, 20240101, 20241231, seconds, place);
     good = good && answered(answer, place, number, 0, 0, 0);
     answer = side->write((const row *)book, BOOK_ROWS, out, sizeof out, length, place);
     good = good && answered(answer, place, number, 0, 0, 0) && (length[0] == 0) == (number == 16);
@@ -1340,6 +1561,52 @@ static void run_further_point(struct run *run, const struct further_point *point
     read_into_book(run->side, whole_case, place);
     memcpy(book[POINTS_AT + 2], point->key, sizeof point->key);
     tell(run, point->words, book_is_kept(run->side, point->kept));
+}
+
+/* Days in the calendar of the whole case. */
+struct calendar_rows {
+    const char *words;
+    uint64_t days[3][4];
+    int kept;
+};
+
+static const struct calendar_rows calendar_rows[] = {
+    {"a day", {{1, 20240229, 5}}, 1},
+    {"days by rising key", {{1, 16000101, 999999999}, {1, 99991231, 0}, {99, 16000101, 5}}, 1},
+    {"days of equal key", {{1, 20240101, 5}, {1, 20240101, 6}}, 0},
+    {"days out of order", {{1, 20240102, 5}, {1, 20240101, 5}}, 0},
+    {"versions out of order", {{2, 20240101, 5}, {1, 20240102, 5}}, 0},
+    {"a hole between days", {{1, 20240101, 5}, {0}, {1, 20240103, 5}}, 0},
+    {"a hole in front", {{0}, {1, 20240101, 5}}, 0},
+    {"a day of version 0", {{0, 20240101, 5}}, 0},
+    {"a day of version 100", {{100, 20240101, 5}}, 0},
+    {"a day type of 10 digits", {{1, 20240101, 1000000000}}, 0},
+    {"a day type of 2^64 - 1", {{1, 20240101, UINT64_MAX}}, 0},
+    {"something behind a day", {{1, 20240101, 5, 1}}, 0},
+    {"29 February 1600", {{1, 16000229, 5}}, 1},
+    {"29 February 1700", {{1, 17000229, 5}}, 0},
+    {"29 February 1900", {{1, 19000229, 5}}, 0},
+    {"29 February 2000", {{1, 20000229, 5}}, 1},
+    {"29 February 2023", {{1, 20230229, 5}}, 0},
+    {"30 February 2024", {{1, 20240230, 5}}, 0},
+    {"31 December 1599", {{1, 15991231, 5}}, 0},
+    {"31 December 9999", {{1, 99991231, 5}}, 1},
+    {"day 32", {{1, 99991232, 5}}, 0},
+    {"year 10000", {{1, 100000101, 5}}, 0},
+    {"2^32 and a day", {{1, 4294967296u + 20240101, 5}}, 0},
+    {"2^64 - 1 for a day", {{1, UINT64_MAX, 5}}, 0},
+    {"the last of three is no date", {{1, 20240101, 5}, {1, 20240102, 5}, {1, 20240132, 5}}, 0},
+};
+
+static void run_calendar_rows(struct run *run, const struct calendar_rows *rows)
+{
+    uint64_t place[4];
+    size_t i;
+
+    read_into_book(run->side, whole_case, place);
+    for (i = 0; i < 3; i++)
+        memcpy(book[CALENDAR_AT + i], rows->days[i], sizeof rows->days[i]);
+    tell(run, rows->words, book_is_kept(run->side, rows->kept));
 }
 
 /* "16; 1": a book that breaks the rule and a slip that is too long. */
@@ -1446,7 +1713,7 @@ struct cell_content {
     uint64_t number;
 };
 
-enum { MOST_CONTENTS = 26, MOST_ALIKE = 5 };
+enum { MOST_CONTENTS = 26, MOST_ALIKE = 6 };
 
 /* Columns of the same rules, and contents for each of them. */
 struct columns_edge {
@@ -1461,7 +1728,7 @@ struct columns_edge {
 #define QUOTES "\"\"\"\"" /* two doubled ones, which are two bytes of content */
 
 static const struct columns_edge columns_edges[] = {
-    {"d2, 1 to 99, required", {{1, 1}, {2, 1}, {3, 1}, {4, 1}, {6, 1}},
+    {"d2, 1 to 99, required", {{1, 1}, {2, 1}, {3, 1}, {4, 1}, {6, 1}, {7, 1}},
         {{"", 19}, {"\"\"", 19}, {"1", 0}, {"01", 0}, {"99", 0}, {"\"99\"", 0}, {"0", 21}, {"00", 21}, {"\"0\"", 21},
             {"100", 20}, {"000", 20}, {"001", 20}, {"\"100\"", 20}, {"x", 8}, {"xy", 8}, {"1x", 8}, {"x1", 8}, {"-1", 8},
             {" 1", 8}, {"xyz", 20}, {"-10", 20}, {"99x", 20}, {"\"1\"\"\"", 8}, {"\"1\"\"2\"", 20}, {"\"" QUOTES "\"", 8},
@@ -1490,7 +1757,24 @@ static const struct columns_edge columns_edges[] = {
         {{"", 19}, {"\"\"", 19}, {"0", 0}, {"00000007", 0}, {"99999999", 0}, {"000000007", 20}, {"100000000", 20},
             {"4294967303", 20}, {"1.5", 8}, {"stuvwxyz", 8}, {"rstuvwxyz", 20}, {"\"1234\"\"567\"", 8},
             {"\"1234\"\"5678\"", 20}}},
-    {"d9, required", {{4, 2}},
+    {"d8, a date, required", {{7, 2}},
+        {{"", 19}, {"\"\"", 19}, {"20240101", 0}, {"\"20240101\"", 0}, {"16000101", 0}, {"99991231", 0}, {"15991231", 21},
+            {"16000100", 21}, {"00000000", 21}, {"0", 21}, {"99991232", 21}, {"99999999", 21}, {"2024101", 21}, {"9991231", 21},
+            {"\"2024101\"", 21}, {"020240101", 20}, {"202401010", 20}, {"100000101", 20}, {"4315207397", 20},
+            {"18446744073729791717", 20}, {"2024-1-1", 8}, {"2024010x", 8}, {"2024-01-01", 20}, {"x20240101", 20},
+            {"\"2024\"\"101\"", 8}, {"\"2024\"\"0101\"", 20}}},
+    {"the months", {{7, 2}},
+        {{"20240131", 0}, {"20240132", 21}, {"20240331", 0}, {"20240332", 21}, {"20240430", 0}, {"20240431", 21},
+            {"20240531", 0}, {"20240532", 21}, {"20240630", 0}, {"20240631", 21}, {"20240731", 0}, {"20240732", 21},
+            {"20240831", 0}, {"20240832", 21}, {"20240930", 0}, {"20240931", 21}, {"20241031", 0}, {"20241032", 21},
+            {"20241130", 0}, {"20241131", 21}, {"20241231", 0}, {"20241232", 21}, {"20240001", 21}, {"20241301", 21},
+            {"20240100", 21}, {"20240199", 21}}},
+    {"C7-04 leap years", {{7, 2}},
+        {{"16000229", 0}, {"16000230", 21}, {"16000228", 0}, {"16040229", 0}, {"17000228", 0}, {"17000229", 21},
+            {"18000229", 21}, {"19000229", 21}, {"19000228", 0}, {"20000229", 0}, {"20000230", 21}, {"20220229", 21},
+            {"20230229", 21}, {"20240229", 0}, {"20240230", 21}, {"21000229", 21}, {"24000229", 0}, {"96000229", 0},
+            {"99000229", 21}, {"99960229", 0}, {"99980229", 21}, {"99990228", 0}, {"99990229", 21}}},
+    {"d9, required", {{4, 2}, {7, 3}},
         {{"", 19}, {"\"\"", 19}, {"0", 0}, {"000000005", 0}, {"999999999", 0}, {"0000000005", 20}, {"1000000000", 20},
             {"18446744073709551621", 20}, {"x", 8}, {"rstuvwxyz", 8}, {"qrstuvwxyz", 20}, {"\"1234\"\"5678\"", 8},
             {"\"1234\"\"56789\"", 20}}},
@@ -1537,7 +1821,9 @@ static const struct columns_edge columns_edges_23[] = {
         {{"", 19}, {"\"\"", 19}, {"1", 0}, {"00001", 0}, {"99999", 0}, {"0", 21}, {"00000", 21}, {"\"0\"", 21},
             {"000000", 20}, {"000020", 20}, {"100000", 20}, {"999999", 20}, {"x", 8}, {"0x", 8}, {"vwxyz", 8}, {"uvwxyz", 20},
             {"\"20\n\"", 8}, {"\"\n\"", 8}, {"\"200\r\n\"", 8}, {"\"2000\r\n\"", 20}}},
-    {"d2, 1 to 99, required, with breaks", {{1, 1}, {2, 1}, {3, 1}, {4, 1}, {6, 1}},
+    {"d8, a date, with breaks", {{7, 2}},
+        {{"\"2024101\n\"", 8}, {"\"202411\r\n\"", 8}, {"\"20240101\n\"", 20}, {"\"2024\n0101\"", 20}, {"\"\n\"", 8}}},
+    {"d2, 1 to 99, required, with breaks", {{1, 1}, {2, 1}, {3, 1}, {4, 1}, {6, 1}, {7, 1}},
         {{"\"1\n\"", 8}, {"\"\n1\"", 8}, {"\"\n\"", 8}, {"\"\n\n\"", 8}, {"\"\r\n\"", 8}, {"\"1\r\n\"", 20},
             {"\"1\n2\"", 20}, {"\"\r\n\n\"", 20}, {"\"0\n\"", 8}}},
     {"c40, optional, with breaks", {{1, 6}},
@@ -1551,6 +1837,7 @@ static const char *const good_row[LAST_TABLE + 1][MOST_COLUMNS] = {
     [STOP] = {"1", "20", "Yard"},
     [STOP_POINT] = {"1", "20", "1"},
     [VEHICLE_BLOCK] = {"1", "5", "3", "101", "4", "20", "1", "18000", "31", "2", "46800"},
+    [DAY_TYPE_CALENDAR] = {"1", "20240229", "5"},
 };
 
 /* The cells of that row, this one in one column, this between them. */
@@ -1996,6 +2283,12 @@ static const struct announced_edge announced_edges[] = {
     {"C3-04 a byte more of table 6", 6, LENGTH(POINTS) - 1, T(POINTS), 18, 0, 0},
     {"C3-04 a byte fewer of table 4", 4, LENGTH(BLOCKS) + 1, T(BLOCKS), 18, 0, 0},
     {"C3-04 a byte more of table 4", 4, LENGTH(BLOCKS) - 1, T(BLOCKS), 18, 0, 0},
+    {"C3-04 a byte fewer of table 7", 7, LENGTH(CALENDAR) + 1, T(CALENDAR), 18, 0, 0},
+    {"C3-04 a byte more of table 7", 7, LENGTH(CALENDAR) - 1, T(CALENDAR), 18, 0, 0},
+    {"nothing came of table 7", 7, LENGTH(CALENDAR), T(""), 18, 0, 0},
+    {"C3-06 18 in place of 21 of a day", 7, LENGTH(CALENDAR) + 13, T(CALENDAR "1;20230229;5\n1"), 18, 0, 0},
+    {"C3-05 65,537 announced of table 7", 7, 65537, T(CALENDAR), 1, 0, 0},
+    {"C3-11 0 announced of table 7", 7, 0, T(""), 2, 1, 1},
     {"nothing came", 2, LENGTH(DEPOTS), T(""), 18, 0, 0},
     {"C3-07 nothing was announced", 2, 0, T(DEPOTS), 18, 0, 0},
     {"C3-07 one byte, none announced", 2, 0, T("\n"), 18, 0, 0},
@@ -2345,7 +2638,7 @@ static void run_radio(struct run *run)
 /* 22: "right after 16", before all else. */
 static void run_strange_edition(struct run *run, uint64_t name)
 {
-    static const struct text nothing[TABLES] = {T(""), T(""), T(""), T(""), T("")};
+    static const struct text nothing[TABLES] = {T(""), T(""), T(""), T(""), T(""), T("")};
     const struct side *side = run->side;
     uint64_t place[4], got[4], answer;
     int good;
@@ -2409,7 +2702,8 @@ static void run_both_editions(struct run *run)
 /* C5-10: headers alone leave the book without rows, and it is the empty one by 2.1 alone. */
 static void run_headers_alone(struct run *run)
 {
-    static const struct text headers[TABLES] = {T("VERSION;VEH_TYPE_NR"), T(D), T(S), T(P), T(BLOCK_HEADER)};
+    static const struct text headers[TABLES] = {T("VERSION;VEH_TYPE_NR"), T(D), T(S), T(P), T(BLOCK_HEADER),
+        T(CALENDAR)};
     static const struct text slip = T("");
     uint64_t place[4], answer;
     int good = is_read(run->side, headers, TABLES, 1, 1, 0, 0, 0, 0);
@@ -2481,6 +2775,8 @@ static void run_by_edition(struct run *run)
         run_poke(run, &pokes[i]);
     for (i = 0; i < COUNT(further_points); i++)
         run_further_point(run, &further_points[i]);
+    for (i = 0; i < COUNT(calendar_rows); i++)
+        run_calendar_rows(run, &calendar_rows[i]);
     for (i = 0; i < COUNT(times_edges); i++)
         run_times(run, &times_edges[i]);
     for (i = 0; i < COUNT(columns_edges); i++)
@@ -2495,6 +2791,10 @@ static void run_by_edition(struct run *run)
     run_long_texts(run);
     run_full_book(run);
     run_questions(run);
+    run_seasons(run);
+    run_days(run);
+    run_greatest_season(run);
+    run_calendar_last(run);
     run_writer(run);
     run_widest_book(run);
     run_lengths(run);

@@ -7,7 +7,7 @@
 
 #include <string.h>
 
-enum { ROWS = 512, NUMBERS = 11, BOOK_ROWS = SECOND_BOOK_ROWS, WORK_ROWS = ROWS, TEXT_BYTES = SECOND_TEXT_BYTES };
+enum { BLOCKS = 512, NUMBERS = 11, BOOK_ROWS = SECOND_BOOK_ROWS, WORK_ROWS = BLOCKS, TEXT_BYTES = SECOND_TEXT_BYTES };
 enum { LINE_BYTES = 2048, HEADER_CELLS = 32 };
 
 /* Rows that are only looked at. */
@@ -15,6 +15,9 @@ typedef const uint64_t (*rows_in)[NUMBERS];
 
 /* The places of a block's numbers in its row. */
 enum { B_VERSION, B_DAY_TYPE, B_DEPOT, B_BLOCK, B_TYPE, B_DEP_STOP, B_DEP_POINT, B_BEGIN, B_ARR_STOP, B_ARR_POINT, B_END };
+
+/* And those of a day of the calendar. */
+enum { C_VERSION, C_DAY, C_DAY_TYPE };
 
 /* ---- Answers */
 
@@ -34,7 +37,8 @@ static uint64_t accept(uint64_t place[4])
 }
 
 /* "The table number belongs to each place (0 for 0, 14, 15, 16)." These three have the place 0, 0. "For numbers added later,
- * any part of a place that is not named is 0, and so is the table where no line is named": 5/13 names no place for 22. */
+ * any part of a place that is not named is 0, and so is the table where no line is named": 5/13 names no place for 22, nor 7/13
+ * for 23. */
 static uint64_t refuse_without_place(uint64_t place[4], uint64_t number)
 {
     return refuse(place, number, 0, 0, 0);
@@ -268,6 +272,13 @@ static int content_is(const uint8_t *text, struct cell cell, const char *name)
 
 /* ---- What a column takes */
 
+/* Whether a number is in its column's range. 7/13: "a day that is no date of the years 1600 to 9999 is 8 (21 after 4/13)",
+ * digits too few for one too. */
+static int takes_number(const struct column *column, uint64_t number)
+{
+    return number >= column->least && number <= column->most && (column->kind != 'D' || is_date(number));
+}
+
 /* "A d cell is 1 to N digits, leading zeros allowed, no sign". 4/13: "8 stays for content that is not digits"; "21 outside the
  * named range". Returns 0, 8 or 21. There are not more digits than the column's width. */
 static uint64_t judge_digits(const uint8_t *digits, size_t length, const struct column *column, uint64_t *value)
@@ -280,7 +291,7 @@ static uint64_t judge_digits(const uint8_t *digits, size_t length, const struct 
             return 8;
         sum = sum * 10 + (uint64_t)(digits[i] - '0');
     }
-    if (sum < column->least || sum > column->most)
+    if (!takes_number(column, sum))
         return 21;
     *value = sum;
     return 0;
@@ -381,65 +392,78 @@ static int compare_keys(const uint64_t *one, const uint64_t *other, unsigned wid
     return 0;
 }
 
-/* How many rows of a table are in use: no VERSION is 0, and a row of the unused room is all zero. */
-static size_t used(rows_in rows)
+/* Keys are as wide in both editions. */
+static unsigned key_width(unsigned t)
 {
+    return tables[DINO_21][t].key_width;
+}
+
+/* How many rows of table t are in use: no VERSION is 0, and a row of the unused room is all zero. */
+static size_t used(rows_in rows, unsigned t)
+{
+    size_t room = most_rows(t);
     size_t n = 0;
 
-    while (n < ROWS && rows[n][0] != 0)
+    while (n < room && rows[n][0] != 0)
         n++;
     return n;
 }
 
-/* The row of that key among the used rows of one table, or ROWS. */
-static size_t find(rows_in rows, const uint64_t *key, unsigned width)
+static int is_full(rows_in rows, unsigned t)
 {
-    size_t i;
-
-    for (i = 0; i < ROWS && rows[i][0] != 0; i++)
-        if (compare_keys(rows[i], key, width) == 0)
-            return i;
-    return ROWS;
+    return used(rows, t) == most_rows(t);
 }
 
-/* Puts a row among the others, "rows by rising key". There is room for it, and its key is not there yet. */
-static void insert(uint64_t (*rows)[NUMBERS], const uint64_t row[NUMBERS], unsigned width)
+/* Where a key stands that no row of table t has. */
+static size_t nowhere(unsigned t)
 {
-    size_t i = used((rows_in)rows);
+    return most_rows(t);
+}
 
-    while (i > 0 && compare_keys(rows[i - 1], row, width) > 0) {
+/* The row of that key among the used rows of table t, or nowhere. */
+static size_t find(rows_in rows, unsigned t, const uint64_t *key)
+{
+    unsigned width = key_width(t);
+    size_t room = most_rows(t);
+    size_t i;
+
+    for (i = 0; i < room && rows[i][0] != 0; i++)
+        if (compare_keys(rows[i], key, width) == 0)
+            return i;
+    return nowhere(t);
+}
+
+/* Puts a row among the others of table t, "rows by rising key". There is room for it, and its key is not there yet. */
+static void insert(uint64_t (*rows)[NUMBERS], unsigned t, const uint64_t row[NUMBERS])
+{
+    size_t i = used((rows_in)rows, t);
+
+    while (i > 0 && compare_keys(rows[i - 1], row, key_width(t)) > 0) {
         memcpy(rows[i], rows[i - 1], sizeof rows[i]);
         i--;
     }
     memcpy(rows[i], row, sizeof rows[i]);
 }
 
-/* Takes a used row out; the rows above it move down, and the room that is left is zero. */
-static void delete(uint64_t (*rows)[NUMBERS], size_t at)
+/* Takes a used row of table t out; the rows above it move down, and the room that is left is zero. */
+static void delete(uint64_t (*rows)[NUMBERS], unsigned t, size_t at)
 {
-    size_t n = used((rows_in)rows);
+    size_t n = used((rows_in)rows, t);
 
     for (; at + 1 < n; at++)
         memcpy(rows[at], rows[at + 1], sizeof rows[at]);
     memset(rows[n - 1], 0, sizeof rows[n - 1]);
 }
 
-/* The 512 rows of one table in a book. */
+/* The rows of one table in a book. */
 static uint64_t (*rows_of(uint64_t (*book)[NUMBERS], unsigned t))[NUMBERS]
 {
-    return book + (size_t)ROWS * part_of(t);
+    return book + first_row(t);
 }
 
 static rows_in rows_of_in(rows_in book, unsigned t)
 {
-    return book + (size_t)ROWS * part_of(t);
-}
-
-/* "The book holds the keys of tables 1 to 3 and the 11 numbers of each block"; of "a table added later" it "keeps its keys
- * and the numbers asked of it", and a stop point is asked for its key alone. Keys are as wide in both editions. */
-static unsigned kept_numbers(unsigned t)
-{
-    return t == VEHICLE_BLOCK ? NUMBERS : tables[DINO_21][t].key_width;
+    return book + first_row(t);
 }
 
 /* 5/13: "the delivery's edition, which the book keeps (2.1 after a refused reading)". It stands in the book's last row, the
@@ -482,13 +506,14 @@ static uint64_t seconds_of(const uint64_t block[NUMBERS])
     return block[B_END] - block[B_BEGIN];
 }
 
+/* A row of a table whose key is these two numbers. */
 static int refers(rows_in book, unsigned t, uint64_t version, uint64_t number)
 {
     uint64_t key[2];
 
     key[0] = version;
     key[1] = number;
-    return find(rows_of_in(book, t), key, 2) < ROWS;
+    return find(rows_of_in(book, t), t, key) != nowhere(t);
 }
 
 static int refers_to_point(rows_in book, uint64_t version, uint64_t stop, uint64_t point)
@@ -498,7 +523,7 @@ static int refers_to_point(rows_in book, uint64_t version, uint64_t stop, uint64
     key[0] = version;
     key[1] = stop;
     key[2] = point;
-    return find(rows_of_in(book, STOP_POINT), key, 3) < ROWS;
+    return find(rows_of_in(book, STOP_POINT), STOP_POINT, key) != nowhere(STOP_POINT);
 }
 
 /* 1/13: "A stop point must name a known stop"; "for a stop point, column 2". The column, or 0. */
@@ -529,7 +554,7 @@ static uint64_t block_lost_reference(rows_in book, const uint64_t block[NUMBERS]
     return 0;
 }
 
-/* The same for a row of any table: those of the first three refer to nothing. */
+/* The same for a row of any table: those of the first three and of the calendar refer to nothing. */
 static uint64_t lost_reference(rows_in book, unsigned t, const uint64_t numbers[NUMBERS])
 {
     if (t == STOP_POINT)
@@ -607,8 +632,8 @@ static uint64_t read_row(unsigned edition, unsigned t, const uint8_t *text, stru
     uint64_t row[NUMBERS] = {0};
     uint64_t number, column;
 
-    /* "5 | more than 512 rows | first row too many, 0". Every row above stands in the book. */
-    if (used((rows_in)rows) == ROWS)
+    /* "5 | more than 512 rows | first row too many, 0"; 7/13: "row 801 is 5". Every row above stands in the book. */
+    if (is_full((rows_in)rows, t))
         return refuse(place, 5, t, line.number, 0);
     number = take_line(edition, t, text, line, header, cells, place);
     if (number)
@@ -620,14 +645,14 @@ static uint64_t read_row(unsigned edition, unsigned t, const uint8_t *text, stru
     if (t == VEHICLE_BLOCK && ends_early(numbers))
         return refuse(place, 11, t, line.number, 11);
     /* "9 | key stands in an earlier row": the rows so far are the earlier ones, and their keys are numbers. */
-    if (find((rows_in)rows, numbers, table->key_width) < ROWS)
+    if (find((rows_in)rows, t, numbers) != nowhere(t))
         return refuse(place, 9, t, line.number, 0);
     /* "10 | reference finds no row | line, column" */
     column = lost_reference((rows_in)book, t, numbers);
     if (column)
         return refuse(place, 10, t, line.number, column);
-    memcpy(row, numbers, kept_numbers(t) * sizeof row[0]);
-    insert(rows, row, table->key_width);
+    memcpy(row, numbers, table->kept * sizeof row[0]);
+    insert(rows, t, (const uint64_t *)row);
     return 0;
 }
 
@@ -657,7 +682,8 @@ static uint64_t read_table(unsigned t, const uint8_t *text, size_t length, uint6
 
 uint64_t second_read(uint64_t edition, const uint8_t *vehicle_type, size_t vehicle_type_length, const uint8_t *depot,
     size_t depot_length, const uint8_t *stop, size_t stop_length, const uint8_t *stop_point, size_t stop_point_length,
-    const uint8_t *vehicle_block, size_t vehicle_block_length, uint64_t (*book)[11], size_t rows, uint64_t place[4])
+    const uint8_t *vehicle_block, size_t vehicle_block_length, const uint8_t *day_type_calendar,
+    size_t day_type_calendar_length, uint64_t (*book)[11], size_t rows, uint64_t place[4])
 {
     const uint8_t *texts[LAST_TABLE + 1];
     size_t lengths[LAST_TABLE + 1];
@@ -676,14 +702,15 @@ uint64_t second_read(uint64_t edition, const uint8_t *vehicle_type, size_t vehic
     texts[STOP] = stop, lengths[STOP] = stop_length;
     texts[STOP_POINT] = stop_point, lengths[STOP_POINT] = stop_point_length;
     texts[VEHICLE_BLOCK] = vehicle_block, lengths[VEHICLE_BLOCK] = vehicle_block_length;
+    texts[DAY_TYPE_CALENDAR] = day_type_calendar, lengths[DAY_TYPE_CALENDAR] = day_type_calendar_length;
     /* What the book held does not matter: it is filled anew. */
     begin_book(edition_named(edition), book);
-    /* "in this order: tables 1 to 4"; 1/13: "between stop and vehicle_block" */
+    /* "in this order: tables 1 to 4"; 1/13: "between stop and vehicle_block"; 7/13: "read last" */
     for (i = 0; i < TABLES; i++) {
         unsigned t = reading_order[i];
         uint64_t number = read_table(t, texts[t], lengths[t], book, place);
 
-        /* "A refused reading leaves an empty book, which is the book of four tables without rows." Now it is five, and 5/13:
+        /* "A refused reading leaves an empty book, which is the book of four tables without rows." Now it is six, and 5/13:
          * "2.1 after a refused reading". */
         if (number) {
             begin_book(DINO_21, book);
@@ -804,23 +831,22 @@ static int is_zero(const uint64_t *numbers, size_t count)
 static int table_keeps_rule(unsigned edition, rows_in rows, unsigned t)
 {
     const struct table *table = &tables[edition][t];
-    unsigned kept = kept_numbers(t);
-    size_t n = used(rows);
+    size_t n = used(rows, t);
     size_t i;
     unsigned c;
 
     for (i = 0; i < n; i++) {
-        for (c = 0; c < kept; c++)
-            if (rows[i][c] < table->columns[c].least || rows[i][c] > table->columns[c].most)
+        for (c = 0; c < table->kept; c++)
+            if (!takes_number(&table->columns[c], rows[i][c]))
                 return 0;
-        if (!is_zero(rows[i] + kept, NUMBERS - kept))
+        if (!is_zero(rows[i] + table->kept, NUMBERS - table->kept))
             return 0;
         /* "rows by rising key"; equal keys would have been 9 */
         if (i > 0 && compare_keys(rows[i - 1], rows[i], table->key_width) >= 0)
             return 0;
     }
     /* "unused room zero" */
-    for (i = n; i < ROWS; i++)
+    for (i = n; i < table->most_rows; i++)
         if (!is_zero(rows[i], NUMBERS))
             return 0;
     return 1;
@@ -833,7 +859,8 @@ static int marks_keep_rule(const uint64_t marks[NUMBERS])
 }
 
 /* "The book rule: it is a book that some accepted delivery leaves", of the book's own edition. Every book that passes here is
- * left by the delivery of its own rows in their order: 512 rows of full width stay far below 65,536 bytes in each table. */
+ * left by the delivery of its own rows in their order: rows of full width, 512 or the calendar's 800, stay far below 65,536
+ * bytes in each table. */
 static int keeps_book_rule(rows_in book)
 {
     unsigned part;
@@ -847,7 +874,7 @@ static int keeps_book_rule(rows_in book)
 
         if (!table_keeps_rule(edition_of(book), rows, t))
             return 0;
-        n = used(rows);
+        n = used(rows, t);
         for (i = 0; i < n; i++)
             if ((t == VEHICLE_BLOCK && ends_early(rows[i])) || lost_reference(book, t, rows[i]))
                 return 0;
@@ -901,7 +928,7 @@ static void answer_cell(struct cell cell, const struct column *column, uint64_t 
     /* `""` is empty, and so the raw bytes tell whether there is content. */
     if (cell.start == cell.end)
         return;
-    if (column->kind == 'd') {
+    if (column->kind != 'c') {
         answer[0] = number;
         answer[1] = value;
         return;
@@ -974,7 +1001,7 @@ uint64_t second_type(const uint64_t (*book)[11], size_t rows, uint64_t version, 
     if (!refers(book, VEHICLE_TYPE, version, number))
         return refuse_without_place(place, 15);
     blocks = rows_of_in(book, VEHICLE_BLOCK);
-    n = used(blocks);
+    n = used(blocks, VEHICLE_BLOCK);
     for (i = 0; i < n; i++) {
         if (blocks[i][B_VERSION] != version || blocks[i][B_TYPE] != number)
             continue;
@@ -1000,11 +1027,50 @@ uint64_t second_block(const uint64_t (*book)[11], size_t rows, uint64_t version,
     key[1] = day_type;
     key[2] = depot;
     key[3] = block;
-    at = find(blocks, key, 4);
+    at = find(blocks, VEHICLE_BLOCK, key);
     /* A key of zeros is no row of the unused room: find looks at used rows only. */
-    if (at == ROWS)
+    if (at == nowhere(VEHICLE_BLOCK))
         return refuse_without_place(place, 15);
     memcpy(answer, blocks[at] + 4, 7 * sizeof answer[0]);
+    return accept(place);
+}
+
+/* 7/13: "the number of days in that span with the block's version and day type", "both included". A span whose last day is
+ * before its first has none. Days as YYYYMMDD stand in the order of their numbers. */
+static uint64_t days_of(rows_in book, const uint64_t block[NUMBERS], uint64_t first, uint64_t last)
+{
+    rows_in calendar = rows_of_in(book, DAY_TYPE_CALENDAR);
+    size_t n = used(calendar, DAY_TYPE_CALENDAR);
+    uint64_t days = 0;
+    size_t i;
+
+    for (i = 0; i < n; i++)
+        if (calendar[i][C_VERSION] == block[B_VERSION] && calendar[i][C_DAY_TYPE] == block[B_DAY_TYPE]
+            && calendar[i][C_DAY] >= first && calendar[i][C_DAY] <= last)
+            days++;
+    return days;
+}
+
+/* 7/13: "the sum, over its blocks, of seconds times the number of days"; "a span end that is no such date is 23, after 16 and
+ * 15" */
+uint64_t second_season(const uint64_t (*book)[11], size_t rows, uint64_t version, uint64_t number, uint64_t first,
+    uint64_t last, uint64_t seconds[1], uint64_t place[4])
+{
+    rows_in blocks;
+    size_t n, i;
+
+    seconds[0] = 0;
+    if (!is_book(book, rows))
+        return refuse_without_place(place, 16);
+    if (!refers(book, VEHICLE_TYPE, version, number))
+        return refuse_without_place(place, 15);
+    if (!is_date(first) || !is_date(last))
+        return refuse_without_place(place, 23);
+    blocks = rows_of_in(book, VEHICLE_BLOCK);
+    n = used(blocks, VEHICLE_BLOCK);
+    for (i = 0; i < n; i++)
+        if (blocks[i][B_VERSION] == version && blocks[i][B_TYPE] == number)
+            seconds[0] += seconds_of(blocks[i]) * days_of(book, blocks[i], first, last);
     return accept(place);
 }
 
@@ -1111,29 +1177,29 @@ static uint64_t take_slip_line(const uint8_t *slip, struct slip_line line, uint6
     if (!kind)
         return refuse(place, 12, SLIP, line_number, 0);
     /* "An A meets 5 only while 512 blocks stand; a deleted block's room is used again." */
-    if (kind == 'A' && used((rows_in)blocks) == ROWS)
+    if (kind == 'A' && is_full((rows_in)blocks, VEHICLE_BLOCK))
         return refuse(place, 5, SLIP, line_number, 0);
     number = take_fields(edition_of(book), slip, fields, count, numbers, &column);
     if (number)
         return refuse(place, number, SLIP, line_number, column);
     if (kind != 'D' && ends_early(numbers))
         return refuse(place, 11, SLIP, line_number, 11);
-    at = find((rows_in)blocks, numbers, 4);
+    at = find((rows_in)blocks, VEHICLE_BLOCK, numbers);
     /* "9 | key stands in an earlier row (A: in the book)" */
-    if (kind == 'A' && at < ROWS)
+    if (kind == 'A' && at != nowhere(VEHICLE_BLOCK))
         return refuse(place, 9, SLIP, line_number, 0);
     /* "13 | slip names a block not in the book" */
-    if (kind != 'A' && at == ROWS)
+    if (kind != 'A' && at == nowhere(VEHICLE_BLOCK))
         return refuse(place, 13, SLIP, line_number, 0);
     column = kind == 'D' ? 0 : block_lost_reference(book, numbers);
     if (column)
         return refuse(place, 10, SLIP, line_number, column);
     if (kind == 'A')
-        insert(blocks, (const uint64_t *)numbers, 4);
+        insert(blocks, VEHICLE_BLOCK, (const uint64_t *)numbers);
     else if (kind == 'R')
         memcpy(blocks[at], numbers, sizeof blocks[at]);
     else
-        delete(blocks, at);
+        delete(blocks, VEHICLE_BLOCK, at);
     return 0;
 }
 
@@ -1186,7 +1252,7 @@ uint64_t second_slip(const uint8_t *slip, size_t slip_length, uint64_t (*book)[1
 /* ---- The writer */
 
 /* Header and rows: eleven names of at most 21 bytes and 512 rows of 54 digits, each byte string with one byte behind it. */
-enum { WRITTEN_BYTES = 11 * 22 + ROWS * (54 + 11) };
+enum { WRITTEN_BYTES = 11 * 22 + BLOCKS * (54 + 11) };
 
 /* Decimal, no leading zeros. */
 static size_t write_number(uint8_t *out, uint64_t number)
@@ -1208,7 +1274,7 @@ static size_t write_number(uint8_t *out, uint64_t number)
  * are those of both editions. */
 static size_t write_blocks(rows_in blocks, uint8_t out[WRITTEN_BYTES])
 {
-    size_t n = used(blocks);
+    size_t n = used(blocks, VEHICLE_BLOCK);
     size_t at = 0;
     size_t i;
     unsigned c;

@@ -6,11 +6,12 @@
 #include <stddef.h>
 #include <stdint.h>
 
-enum { SECOND_BOOK_ROWS = 2561 };
+enum { SECOND_BOOK_ROWS = 3361 };
 
 uint64_t second_read(uint64_t edition, const uint8_t *vehicle_type, size_t vehicle_type_length, const uint8_t *depot,
     size_t depot_length, const uint8_t *stop, size_t stop_length, const uint8_t *stop_point, size_t stop_point_length,
-    const uint8_t *vehicle_block, size_t vehicle_block_length, uint64_t (*book)[11], size_t rows, uint64_t place[4]);
+    const uint8_t *vehicle_block, size_t vehicle_block_length, const uint8_t *day_type_calendar,
+    size_t day_type_calendar_length, uint64_t (*book)[11], size_t rows, uint64_t place[4]);
 
 /* The delivery by radio. In place of `kept` and `lines` this reader keeps a struct of its own, with all bytes of the table
  * that is announced; of the other two it is told the lengths at which they are lent. */
@@ -53,6 +54,9 @@ uint64_t second_type(const uint64_t (*book)[11], size_t rows, uint64_t version, 
 
 uint64_t second_block(const uint64_t (*book)[11], size_t rows, uint64_t version, uint64_t day_type, uint64_t depot,
     uint64_t block, uint64_t answer[7], uint64_t place[4]);
+
+uint64_t second_season(const uint64_t (*book)[11], size_t rows, uint64_t version, uint64_t number, uint64_t first,
+    uint64_t last, uint64_t seconds[1], uint64_t place[4]);
 
 uint64_t second_write(const uint64_t (*book)[11], size_t rows, uint8_t *out, size_t out_length, uint64_t length[1],
     uint64_t place[4]);

@@ -9,8 +9,9 @@
 #include <stddef.h>
 #include <stdint.h>
 
-/* The book's last row is its row of marks. */
-enum { NUMBERS = 11, TABLE_ROWS = 512, MARKS = TABLES * TABLE_ROWS, BOOK_ROWS = MARKS + 1, WORK_ROWS = 512 };
+/* Every table has room for TABLE_ROWS rows but the calendar. The book's last row is its row of marks. */
+enum { NUMBERS = 11, TABLE_ROWS = 512, CALENDAR_ROWS = 800, WORK_ROWS = 512 };
+enum { MARKS = (TABLES - 1) * TABLE_ROWS + CALENDAR_ROWS, BOOK_ROWS = MARKS + 1 };
 enum { RADIO_KEPT = SECOND_KEPT, RADIO_LINES = SECOND_LINES };
 
 typedef uint64_t row[NUMBERS];
@@ -40,7 +41,7 @@ struct radio {
 struct side {
     const char *name;
     uint64_t (*read)(uint64_t edition, const uint8_t *, size_t, const uint8_t *, size_t, const uint8_t *, size_t,
-        const uint8_t *, size_t, const uint8_t *, size_t, row *book, size_t rows, uint64_t place[4]);
+        const uint8_t *, size_t, const uint8_t *, size_t, const uint8_t *, size_t, row *book, size_t rows, uint64_t place[4]);
     uint64_t (*slip)(const uint8_t *, size_t, row *book, size_t rows, row *work, size_t work_rows, uint64_t place[4]);
     uint64_t (*cell)(uint64_t edition, const uint8_t *, size_t, uint64_t table, uint64_t line, uint64_t column,
         uint64_t answer[4], uint64_t place[4]);
@@ -48,6 +49,8 @@ struct side {
         uint64_t place[4]);
     uint64_t (*block)(const row *book, size_t rows, uint64_t version, uint64_t day_type, uint64_t depot, uint64_t block,
         uint64_t answer[7], uint64_t place[4]);
+    uint64_t (*season)(const row *book, size_t rows, uint64_t version, uint64_t number, uint64_t first, uint64_t last,
+        uint64_t seconds[1], uint64_t place[4]);
     uint64_t (*write)(const row *book, size_t rows, uint8_t *out, size_t out_length, uint64_t length[1],
         uint64_t place[4]);
     /* by radio; NULL where a side has none of them */
@@ -68,7 +71,7 @@ static inline uint64_t side_read(const struct side *side, uint64_t edition, cons
     size_t rows, uint64_t place[4])
 {
     return side->read(edition, t[0].bytes, t[0].length, t[1].bytes, t[1].length, t[2].bytes, t[2].length, t[3].bytes,
-        t[3].length, t[4].bytes, t[4].length, book, rows, place);
+        t[3].length, t[4].bytes, t[4].length, t[5].bytes, t[5].length, book, rows, place);
 }
 
 #endif

@@ -7,8 +7,9 @@
 #include <stdlib.h>
 #include <string.h>
 
-/* The book's last row is its row of marks. */
-enum { TABLES = 5, MARKS = WORKSHOP_BOOK_ROWS - 1, TABLE_ROWS = MARKS / TABLES, MOST_ROWS = WORKSHOP_BOOK_ROWS + 1 };
+/* Every table has room for 512 rows in the book, the calendar for 800. The book's last row is its row of marks. */
+enum { TABLES = 6, TABLE_ROWS = 512, CALENDAR_ROWS = 800 };
+enum { MARKS = WORKSHOP_BOOK_ROWS - 1, MOST_ROWS = WORKSHOP_BOOK_ROWS + 1 };
 enum { MOST_BYTES = 70000, MOST_NAMES = 32, MOST_FILE = 1000000, MOST_WAYS = 8, MOST_PARTS = 256 };
 
 /* Every number that is lent, before a call. */
@@ -22,7 +23,8 @@ struct text {
 };
 
 /* In the order of reading, which is that of the book. */
-static const char *const tables[TABLES] = {"vehicle_type", "depot", "stop", "stop_point", "vehicle_block"};
+static const char *const tables[TABLES] = {"vehicle_type", "depot", "stop", "stop_point", "vehicle_block",
+    "day_type_calendar"};
 
 static const uint64_t zeros[4];
 
@@ -51,8 +53,9 @@ static struct {
     row book_read[MOST_ROWS];
     uint64_t kept[WORKSHOP_RADIO_KEPT];
     uint8_t lines[WORKSHOP_RADIO_LINES];
-    int asks; /* the cell question in place of the reading */
-    uint64_t asked[3];
+    /* the reading, the cell question in its place, or the season question on the book that it leaves */
+    enum { READS, ASKS_CELL, ASKS_SEASON } asks;
+    uint64_t asked[4];
     struct text asked_text;
 } played;
 
@@ -186,7 +189,7 @@ static void set_text(struct text *text, const char *written)
 struct answer {
     uint64_t returned;
     uint64_t place[4];
-    uint64_t cell[4]; /* four zeros for a reading */
+    uint64_t numbers[4]; /* a cell's, or a season's seconds and three zeros; four zeros for a reading */
 };
 
 static void fill(uint64_t *numbers, size_t count, uint64_t with)
@@ -205,20 +208,48 @@ static void fill_book(void)
         fill(played.book[r], WORKSHOP_NUMBERS, BEFORE);
 }
 
-static struct answer call(void)
+static uint64_t read_texts(size_t book_rows, uint64_t place[4])
 {
     const struct text *t = played.texts;
+
+    return workshop_read(played.edition, t[0].bytes, t[0].length, t[1].bytes, t[1].length, t[2].bytes, t[2].length, t[3].bytes,
+        t[3].length, t[4].bytes, t[4].length, t[5].bytes, t[5].length, played.book, book_rows, place);
+}
+
+static uint64_t ask_cell(struct answer *answer)
+{
+    fill(answer->numbers, 4, BEFORE);
+    return workshop_cell(played.edition, played.asked_text.bytes, played.asked_text.length, played.asked[0], played.asked[1],
+        played.asked[2], answer->numbers, answer->place);
+}
+
+/* Of the book that the reading leaves, which is kept to be looked at. Where the reading is refused, that is the answer. */
+static uint64_t ask_season(struct answer *answer)
+{
+    uint64_t returned = read_texts(WORKSHOP_BOOK_ROWS, answer->place);
+
+    memcpy(played.book_read, played.book, sizeof played.book);
+    if (returned)
+        return returned;
+    fill(answer->numbers, 1, BEFORE);
+    fill(answer->place, 4, BEFORE);
+    return workshop_season((const row *)played.book, played.book_rows, played.asked[0], played.asked[1], played.asked[2],
+        played.asked[3], answer->numbers, answer->place);
+}
+
+static struct answer call(void)
+{
     struct answer answer;
 
     fill_book();
     fill(answer.place, 4, BEFORE);
-    fill(answer.cell, 4, played.asks ? BEFORE : 0);
-    if (played.asks)
-        answer.returned = workshop_cell(played.edition, played.asked_text.bytes, played.asked_text.length, played.asked[0],
-            played.asked[1], played.asked[2], answer.cell, answer.place);
+    fill(answer.numbers, 4, 0);
+    if (played.asks == ASKS_CELL)
+        answer.returned = ask_cell(&answer);
+    else if (played.asks == ASKS_SEASON)
+        answer.returned = ask_season(&answer);
     else
-        answer.returned = workshop_read(played.edition, t[0].bytes, t[0].length, t[1].bytes, t[1].length, t[2].bytes,
-            t[2].length, t[3].bytes, t[3].length, t[4].bytes, t[4].length, played.book, played.book_rows, answer.place);
+        answer.returned = read_texts(played.book_rows, answer.place);
     return answer;
 }
 
@@ -332,8 +363,9 @@ static int is_same_by_radio(uint64_t bytes, const uint64_t wanted[4])
     return 0;
 }
 
-/* Plays the case; whether it is answered with this place and, where a cell is asked, with these numbers, and by radio too. */
-static int answers_with(const uint64_t place[4], const uint64_t cell[4])
+/* Plays the case; whether it is answered with this place and, where something is asked, with these numbers, and a reading by
+ * radio too. */
+static int answers_with(const uint64_t place[4], const uint64_t numbers[4])
 {
     struct answer came;
     uint64_t radio_place[4];
@@ -347,11 +379,13 @@ static int answers_with(const uint64_t place[4], const uint64_t cell[4])
     } else {
         came = call();
         if (!same("the place", place, came.place, 4) || !same("the number returned", place, &came.returned, 1)
-            || !same("the cell", cell, came.cell, 4))
+            || !same("the numbers answered", numbers, came.numbers, 4))
             return 0;
+        if (played.asks == ASKS_SEASON && memcmp(played.book_read, played.book, sizeof played.book) != 0)
+            return fail("the book after a season question");
     }
     memcpy(played.book_read, played.book, sizeof played.book);
-    for (i = 0; i < file.ways && !played.asks; i++)
+    for (i = 0; i < file.ways && played.asks == READS; i++)
         if (!is_same_by_radio(file.parts[i], place))
             return 0;
     memcpy(played.book, played.book_read, sizeof played.book);
@@ -430,7 +464,7 @@ static void take_case(char *rest)
     end_case();
     played.name = rest;
     played.answers = 0;
-    played.asks = 0;
+    played.asks = READS;
     played.edition = 21;
     played.is_radio = 0;
     memset(played.is_named, 0, sizeof played.is_named);
@@ -469,22 +503,35 @@ static void take_announced(char *rest)
     take_byte(&at, 0);
 }
 
-static void take_cell(char *rest)
+/* The numbers that are asked for; what stands behind them and a blank. */
+static const char *take_asked(const char *at, size_t numbers)
 {
-    const char *at = rest;
     size_t i;
 
-    played.asks = 1;
-    for (i = 0; i < 3; i++) {
+    for (i = 0; i < numbers; i++) {
         played.asked[i] = take_number(&at);
         if (*at != 0)
             take_byte(&at, ' ');
     }
-    set_text(&played.asked_text, at);
+    return at;
 }
 
-/* Rows written as numbers with semicolons between them, and zeros behind them. */
-static void lay_out(const char *written, row rows[TABLE_ROWS])
+static void take_cell(char *rest)
+{
+    played.asks = ASKS_CELL;
+    set_text(&played.asked_text, take_asked(rest, 3));
+}
+
+static void take_season(char *rest)
+{
+    const char *at = take_asked(rest, 4);
+
+    played.asks = ASKS_SEASON;
+    take_byte(&at, 0);
+}
+
+/* Rows written as numbers with semicolons between them, and zeros behind them up to the table's last row. */
+static void lay_out(const char *written, row rows[CALENDAR_ROWS], size_t room)
 {
     static struct text text;
     const char *at = (const char *)text.bytes;
@@ -492,9 +539,9 @@ static void lay_out(const char *written, row rows[TABLE_ROWS])
 
     set_text(&text, written);
     text.bytes[text.length] = 0;
-    memset(rows, 0, TABLE_ROWS * sizeof rows[0]);
+    memset(rows, 0, room * sizeof rows[0]);
     for (r = 0; *at != 0; r++) {
-        if (r == TABLE_ROWS)
+        if (r == room)
             end_with("more rows than a table has");
         rows[r][0] = take_number(&at);
         for (c = 1; c < WORKSHOP_NUMBERS && *at == ';'; c++) {
@@ -507,15 +554,17 @@ static void lay_out(const char *written, row rows[TABLE_ROWS])
 
 static void want_accepted(char *rest)
 {
-    static row rows[TABLE_ROWS];
+    static row rows[CALENDAR_ROWS];
     row marks = {0};
     char *written = cut_word(rest);
-    const row *came = (const row *)played.book + table_of(rest) * TABLE_ROWS;
+    size_t table = table_of(rest);
+    size_t room = table == TABLES - 1 ? CALENDAR_ROWS : TABLE_ROWS;
+    const row *came = (const row *)played.book + table * TABLE_ROWS; /* the calendar stands last */
     int good = answers_with(zeros, zeros);
     size_t r;
 
-    lay_out(written, rows);
-    for (r = 0; r < TABLE_ROWS && good; r++)
+    lay_out(written, rows, room);
+    for (r = 0; r < room && good; r++)
         good = same("a row of the book", rows[r], came[r], WORKSHOP_NUMBERS);
     marks[0] = played.edition == 23;
     count(good && same("the row of marks", marks, played.book[MARKS], WORKSHOP_NUMBERS));
@@ -544,7 +593,7 @@ static void want_refused(char *rest)
         place[i] = take_number(&at);
         take_byte(&at, i < 3 ? ' ' : 0);
     }
-    count(answers_with(place, zeros) && (played.asks || book_is_left()));
+    count(answers_with(place, zeros) && (played.asks != READS || book_is_left()));
 }
 
 static void want_value(uint64_t kind, const char *at)
@@ -594,9 +643,21 @@ static void want_nothing(char *rest)
     const char *at = rest;
 
     take_byte(&at, 0);
-    if (!played.asks)
+    if (played.asks != ASKS_CELL)
         end_with("the case asks for no cell");
     count(answers_with(zeros, zeros));
+}
+
+static void want_seconds(char *rest)
+{
+    const char *at = rest;
+    uint64_t seconds[4] = {0, 0, 0, 0};
+
+    seconds[0] = take_number(&at);
+    take_byte(&at, 0);
+    if (played.asks != ASKS_SEASON)
+        end_with("the case asks for no season");
+    count(answers_with(zeros, seconds));
 }
 
 static void take_line(char *line)
@@ -605,9 +666,10 @@ static void take_line(char *line)
         const char *word;
         void (*take)(char *rest);
     } lines[] = {{"let", take_let}, {"beside", take_beside}, {"parts", take_parts}, {"case", take_case},
-        {"edition", take_edition}, {"book", take_book}, {"cell", take_cell}, {"announced", take_announced},
-        {"accepted", want_accepted}, {"refused", want_refused}, {"number", want_number}, {"equipment", want_equipment},
-        {"flags", want_flags}, {"text", want_text}, {"nothing", want_nothing}};
+        {"edition", take_edition}, {"book", take_book}, {"cell", take_cell}, {"season", take_season},
+        {"announced", take_announced}, {"accepted", want_accepted}, {"refused", want_refused}, {"number", want_number},
+        {"equipment", want_equipment}, {"flags", want_flags}, {"text", want_text}, {"nothing", want_nothing},
+        {"seconds", want_seconds}};
     char *rest;
     size_t i, t;
 

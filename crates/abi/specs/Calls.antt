@@ -11,6 +11,7 @@ use Rattle.radio.specs.Room.{Slices, Outcome}
 use Rattle.cell_question.specs.CellQuestion.{cellAsked}
 use Rattle.slips.specs.Calls.{slipCall}
 use Rattle.writer.specs.Calls.{writeCall}
+use Rattle.seasons.specs.Calls.{seasonCall}
 use Rattle.abi.specs.Telling.{Tells}
 
 abbrev pub ReadPermits : ℕ → Delivery → List Row → ℕ → List ℕ → List Row → Type 0
@@ -33,6 +34,11 @@ TypePermits book version type r place answer =
 abbrev pub BlockPermits : List Row → ℕ → ℕ → ℕ → ℕ → ℕ → List ℕ → List ℕ → Type 0
 BlockPermits book version day depot block r place answer =
     Tells r place (blockCall book version day depot block .verdict) × (answer ≡ blockCall book version day depot block .numbers)
+
+-- the answer is the seconds
+abbrev pub SeasonPermits : List Row → ℕ → ℕ → ℕ → ℕ → ℕ → List ℕ → List ℕ → Type 0
+SeasonPermits book version type first last r place answer =
+    Tells r place (seasonCall book version type first last .verdict) × (answer ≡ seasonCall book version type first last .seconds ∷ [])
 
 -- the length is one number
 abbrev pub WritePermits : List Row → Bytes → ℕ → List ℕ → List ℕ → Bytes → Type 0

@@ -5,7 +5,7 @@ ghost use Rattle.delivery.specs.Calls.{delivery};
 ghost use Rattle.radio.specs.Radio.{announce, part, close};
 ghost use Rattle.radio.specs.Room.{radioCall, openCall};
 ghost use Rattle.radio_rule.specs.Lent.{slices};
-ghost use Rattle.abi.specs.Calls.{ReadPermits, SlipPermits, CellPermits, TypePermits, BlockPermits, WritePermits, RadioPermits};
+ghost use Rattle.abi.specs.Calls.{ReadPermits, SlipPermits, CellPermits, TypePermits, BlockPermits, SeasonPermits, WritePermits, RadioPermits};
 use refusals::Cell;
 use refusals::Verdict;
 use rows::Row;
@@ -39,10 +39,11 @@ pub extern "C" fn workshop_read(
     stop: &[u8],
     stop_point: &[u8],
     vehicle_block: &[u8],
+    day_type_calendar: &[u8],
     book: &mut [Row],
     place: &mut [u64; 4],
 ) -> u64
-    ensures { λ r. ⌜ ReadPermits edition (delivery (now («vehicle_type» .entry)) (now (depot .entry)) (now (stop .entry)) (now («stop_point» .entry)) (now («vehicle_block» .entry))) (now (book .entry)) r (now (place .exit)) (now (book .exit)) ⌝ }
+    ensures { λ r. ⌜ ReadPermits edition (delivery (now («vehicle_type» .entry)) (now (depot .entry)) (now (stop .entry)) (now («stop_point» .entry)) (now («vehicle_block» .entry)) (now («day_type_calendar» .entry))) (now (book .entry)) r (now (place .exit)) (now (book .exit)) ⌝ }
 {
     let told = on_paper(delivery::read(
         edition,
@@ -51,6 +52,7 @@ pub extern "C" fn workshop_read(
         stop,
         stop_point,
         vehicle_block,
+        day_type_calendar,
         book,
     ));
     *place = told;
@@ -128,6 +130,26 @@ pub extern "C" fn workshop_block(
     let told = on_paper(verdict);
     let numbers = found.numbers;
     *answer = numbers;
+    *place = told;
+    told[0]
+}
+
+#[no_mangle]
+pub extern "C" fn workshop_season(
+    book: &[Row],
+    version: u64,
+    number: u64,
+    first: u64,
+    last: u64,
+    seconds: &mut [u64; 1],
+    place: &mut [u64; 4],
+) -> u64
+    ensures { λ r. ⌜ SeasonPermits (now (book .entry)) version number first last r (now (place .exit)) (now (seconds .exit)) ⌝ }
+{
+    let found = seasons::season_answer(book, version, number, first, last);
+    let verdict = found.verdict;
+    let told = on_paper(verdict);
+    *seconds = [found.seconds];
     *place = told;
     told[0]
 }

@@ -11,7 +11,7 @@ use Rattle.numbers.specs.Numbers.{value}
 use Rattle.rows.specs.Rows.{wide}
 use Rattle.tables.specs.Columns.{keyWidth, references}
 use Rattle.tables.specs.declared.Table.{Table}
-use Rattle.tables.specs.declared.Table.the-variants.{VehicleType, Depot, Stop, StopPoint, Block}
+use Rattle.tables.specs.declared.Table.the-variants.{VehicleType, Depot, Stop, StopPoint, Block, Calendar}
 use Rattle.tables.specs.declared.Reference.{Reference}
 use Rattle.values.specs.Judged.{rowed}
 use Rattle.values.specs.declared.Judged.{Judged}
@@ -37,6 +37,7 @@ module _ (ns : List ℕ) where
   named-wide Stop k = simp getD-padded
   named-wide StopPoint k = simp getD-padded
   named-wide Block k = simp getD-padded
+  named-wide Calendar k = simp getD-padded
 
   module _ (b : Book) where
     pub knows-wide : (t : Table) → knows t (wide ns) b ≡ knows t ns b

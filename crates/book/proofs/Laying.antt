@@ -16,7 +16,7 @@ use Rattle.editions.specs.declared.Edition.{Edition}
 use Rattle.editions.specs.declared.Edition.the-variants.{Dino21, Dino23}
 use Rattle.tables.specs.Parts.{room, bookRows, begin, partOf, rooms, tables, marksAt}
 use Rattle.tables.specs.declared.Table.{Table}
-use Rattle.tables.specs.declared.Table.the-variants.{VehicleType, Depot, Stop, StopPoint, Block}
+use Rattle.tables.specs.declared.Table.the-variants.{VehicleType, Depot, Stop, StopPoint, Block, Calendar}
 use Rattle.tables.specs.Columns.{keyWidth}
 use Rattle.tables.proofs.Parts.{part-within, around-table}
 use Rattle.book.specs.Room.{part, bookOf, laidOf, laid, marks, editionOf}
@@ -44,6 +44,7 @@ rows-part Depot xs = refl
 rows-part Stop xs = refl
 rows-part StopPoint xs = refl
 rows-part Block xs = refl
+rows-part Calendar xs = refl
 
 -- a part of the book as the code cuts it out
 pub part-cut : (t : Table) (xs : List Row) (from n : ℕ) → from ≡ begin t → n ≡ room t → take (from + n - from) (drop from xs) ≡ part t xs
@@ -90,11 +91,11 @@ pub record Orderly (b : Book) : Type 0 where
 
 -- two books are the same by their tables and their edition
 pub same-book : (a b : Book) → ((t : Table) → rows t a ≡ rows t b) → a .edition ≡ b .edition → a ≡ b
-same-book a b e f = go (a .types) (a .depots) (a .stops) (a .points) (a .blocks) (a .edition) (e VehicleType) (e Depot) (e Stop) (e StopPoint) (e Block) f
+same-book a b e f = go (a .types) (a .depots) (a .stops) (a .points) (a .blocks) (a .days) (a .edition) (e VehicleType) (e Depot) (e Stop) (e StopPoint) (e Block) (e Calendar) f
   where
-    go : (p q r s t : List Row) (d : Edition) → p ≡ b .types → q ≡ b .depots → r ≡ b .stops → s ≡ b .points → t ≡ b .blocks → d ≡ b .edition
-        → _≡_ {A = Book} (record { types = p; depots = q; stops = r; points = s; blocks = t; edition = d }) b
-    go p q r s t d e0 e1 e2 e3 e4 e5 = rw (e0, e1, e2, e3, e4, e5)
+    go : (p q r s t u : List Row) (d : Edition) → p ≡ b .types → q ≡ b .depots → r ≡ b .stops → s ≡ b .points → t ≡ b .blocks → u ≡ b .days → d ≡ b .edition
+        → _≡_ {A = Book} (record { types = p; depots = q; stops = r; points = s; blocks = t; days = u; edition = d }) b
+    go p q r s t u d e0 e1 e2 e3 e4 e5 e6 = rw (e0, e1, e2, e3, e4, e5, e6)
 
 pub rows-with : (t : Table) (ys : List Row) (b : Book) → rows t (with-rows t ys b) ≡ ys
 rows-with VehicleType ys b = refl
@@ -102,6 +103,7 @@ rows-with Depot ys b = refl
 rows-with Stop ys b = refl
 rows-with StopPoint ys b = refl
 rows-with Block ys b = refl
+rows-with Calendar ys b = refl
 
 pub with-same : (t : Table) (b : Book) → with-rows t (rows t b) b ≡ b
 with-same VehicleType b = refl
@@ -109,6 +111,7 @@ with-same Depot b = refl
 with-same Stop b = refl
 with-same StopPoint b = refl
 with-same Block b = refl
+with-same Calendar b = refl
 
 -- a book's tables are apart
 pub with-with : (t : Table) (xs ys : List Row) (b : Book) → with-rows t xs (with-rows t ys b) ≡ with-rows t xs b
@@ -117,6 +120,7 @@ with-with Depot xs ys b = refl
 with-with Stop xs ys b = refl
 with-with StopPoint xs ys b = refl
 with-with Block xs ys b = refl
+with-with Calendar xs ys b = refl
 
 pub entered-with : (t : Table) (row : Row) (xs : List Row) (b : Book) → entered t row (with-rows t xs b) ≡ with-rows t (inserted (keyWidth t) row xs) b
 entered-with t row xs b = ap (λ (l : List Row). with-rows t (inserted (keyWidth t) row l) (with-rows t xs b)) (rows-with t xs b) ∙ with-with t (inserted (keyWidth t) row xs) xs b
@@ -127,6 +131,7 @@ rows-begun e Depot = refl
 rows-begun e Stop = refl
 rows-begun e StopPoint = refl
 rows-begun e Block = refl
+rows-begun e Calendar = refl
 
 pub rows-empty : (t : Table) → rows t empty ≡ []
 rows-empty t = rows-begun Dino21 t
@@ -138,26 +143,37 @@ every-table P b VehicleType ys h k Depot = k Depot
 every-table P b VehicleType ys h k Stop = k Stop
 every-table P b VehicleType ys h k StopPoint = k StopPoint
 every-table P b VehicleType ys h k Block = k Block
+every-table P b VehicleType ys h k Calendar = k Calendar
 every-table P b Depot ys h k VehicleType = k VehicleType
 every-table P b Depot ys h k Depot = h
 every-table P b Depot ys h k Stop = k Stop
 every-table P b Depot ys h k StopPoint = k StopPoint
 every-table P b Depot ys h k Block = k Block
+every-table P b Depot ys h k Calendar = k Calendar
 every-table P b Stop ys h k VehicleType = k VehicleType
 every-table P b Stop ys h k Depot = k Depot
 every-table P b Stop ys h k Stop = h
 every-table P b Stop ys h k StopPoint = k StopPoint
 every-table P b Stop ys h k Block = k Block
+every-table P b Stop ys h k Calendar = k Calendar
 every-table P b StopPoint ys h k VehicleType = k VehicleType
 every-table P b StopPoint ys h k Depot = k Depot
 every-table P b StopPoint ys h k Stop = k Stop
 every-table P b StopPoint ys h k StopPoint = h
 every-table P b StopPoint ys h k Block = k Block
+every-table P b StopPoint ys h k Calendar = k Calendar
 every-table P b Block ys h k VehicleType = k VehicleType
 every-table P b Block ys h k Depot = k Depot
 every-table P b Block ys h k Stop = k Stop
 every-table P b Block ys h k StopPoint = k StopPoint
 every-table P b Block ys h k Block = h
+every-table P b Block ys h k Calendar = k Calendar
+every-table P b Calendar ys h k VehicleType = k VehicleType
+every-table P b Calendar ys h k Depot = k Depot
+every-table P b Calendar ys h k Stop = k Stop
+every-table P b Calendar ys h k StopPoint = k StopPoint
+every-table P b Calendar ys h k Block = k Block
+every-table P b Calendar ys h k Calendar = h
 
 pub rows-apart : (t u : Table) (xs : List Row) (b : Book) → (partOf u ≡ partOf t → ⊥) → rows u (with-rows t xs b) ≡ rows u b
 rows-apart t u xs b n = every-table (λ v l. (partOf v ≡ partOf t → ⊥) → l ≡ rows v b) b t xs (λ m. absurd (m refl)) (λ v m. refl) u n
@@ -189,6 +205,7 @@ front-stays Depot ys b = refl
 front-stays Stop ys b = refl
 front-stays StopPoint ys b = refl
 front-stays Block ys b = refl
+front-stays Calendar ys b = refl
 
 behind-stays : (t : Table) (ys : List Row) (b : Book) → behind t (with-rows t ys b) ≡ behind t b
 behind-stays VehicleType ys b = refl
@@ -196,6 +213,7 @@ behind-stays Depot ys b = refl
 behind-stays Stop ys b = refl
 behind-stays StopPoint ys b = refl
 behind-stays Block ys b = refl
+behind-stays Calendar ys b = refl
 
 laid-around : (t : Table) (b : Book) → laid b ≡ front t b ++ (filled (room t) (rows t b) ++ behind t b)
 laid-around t b =
@@ -272,14 +290,15 @@ module _ (xs : List Row) (long : length xs ≡ bookRows) where
       let within : marksAt < length xs = omega arith in
       drop-cons xs marksAt [] within ∙ ap (λ (l : List Row). getD xs marksAt [] ∷ l) (drop-of-length-le xs most)
 
-  parts : xs ≡ part VehicleType xs ++ (part Depot xs ++ (part Stop xs ++ (part StopPoint xs ++ (part Block xs ++ (getD xs marksAt [] ∷ [])))))
+  parts : xs ≡ part VehicleType xs ++ (part Depot xs ++ (part Stop xs ++ (part StopPoint xs ++ (part Block xs ++ (part Calendar xs ++ (getD xs marksAt [] ∷ []))))))
   parts =
       rest-of VehicleType (begin Depot) refl
       ∙ ap (λ (l : List Row). part VehicleType xs ++ l) (rest-of Depot (begin Stop) refl
       ∙ ap (λ (l : List Row). part Depot xs ++ l) (rest-of Stop (begin StopPoint) refl
       ∙ ap (λ (l : List Row). part Stop xs ++ l) (rest-of StopPoint (begin Block) refl
-      ∙ ap (λ (l : List Row). part StopPoint xs ++ l) (rest-of Block marksAt refl
-      ∙ ap (λ (l : List Row). part Block xs ++ l) marks-last))))
+      ∙ ap (λ (l : List Row). part StopPoint xs ++ l) (rest-of Block (begin Calendar) refl
+      ∙ ap (λ (l : List Row). part Block xs ++ l) (rest-of Calendar marksAt refl
+      ∙ ap (λ (l : List Row). part Calendar xs ++ l) marks-last)))))
 
 -- the book of a sound slice is in order, and laid out it is the slice
 module _ (xs : List Row) (sound : Sound xs) where
@@ -298,14 +317,14 @@ module _ (xs : List Row) (sound : Sound xs) where
   pub laid-book : laid (bookOf xs) ≡ xs
   laid-book =
       sym (parts xs (sound .long)
-      ∙ six (part VehicleType xs) (part Depot xs) (part Stop xs) (part StopPoint xs) (part Block xs) (getD xs marksAt []) _ _ _ _ _ _ (part-filled VehicleType) (part-filled Depot) (part-filled Stop) (part-filled StopPoint) (part-filled Block) (sound .marked))
+      ∙ seven (part VehicleType xs) (part Depot xs) (part Stop xs) (part StopPoint xs) (part Block xs) (part Calendar xs) (getD xs marksAt []) _ _ _ _ _ _ _ (part-filled VehicleType) (part-filled Depot) (part-filled Stop) (part-filled StopPoint) (part-filled Block) (part-filled Calendar) (sound .marked))
     where
-      together : (a b c d e : List Row) (m : Row) → a ++ (b ++ (c ++ (d ++ (e ++ (m ∷ []))))) ≡ (a ++ (b ++ (c ++ (d ++ (e ++ []))))) ++ (m ∷ [])
-      together a b c d e m = simp append-assoc
+      together : (a b c d e f : List Row) (m : Row) → a ++ (b ++ (c ++ (d ++ (e ++ (f ++ (m ∷ [])))))) ≡ (a ++ (b ++ (c ++ (d ++ (e ++ (f ++ [])))))) ++ (m ∷ [])
+      together a b c d e f m = simp append-assoc
 
-      six : (a b c d e : List Row) (m : Row) (a′ b′ c′ d′ e′ : List Row) (m′ : Row) → a ≡ a′ → b ≡ b′ → c ≡ c′ → d ≡ d′ → e ≡ e′ → m ≡ m′
-          → a ++ (b ++ (c ++ (d ++ (e ++ (m ∷ []))))) ≡ (a′ ++ (b′ ++ (c′ ++ (d′ ++ (e′ ++ []))))) ++ (m′ ∷ [])
-      six a b c d e m a′ b′ c′ d′ e′ m′ f g h i j k = let t = together a′ b′ c′ d′ e′ m′ in cc t
+      seven : (a b c d e f : List Row) (m : Row) (a′ b′ c′ d′ e′ f′ : List Row) (m′ : Row) → a ≡ a′ → b ≡ b′ → c ≡ c′ → d ≡ d′ → e ≡ e′ → f ≡ f′ → m ≡ m′
+          → a ++ (b ++ (c ++ (d ++ (e ++ (f ++ (m ∷ [])))))) ≡ (a′ ++ (b′ ++ (c′ ++ (d′ ++ (e′ ++ (f′ ++ [])))))) ++ (m′ ∷ [])
+      seven a b c d e f m a′ b′ c′ d′ e′ f′ m′ p q r s t u v = let w = together a′ b′ c′ d′ e′ f′ m′ in cc w
 
   -- the slice, where the part that was lent comes back with other rows
   pub lent-back : (t : Table) (from n : ℕ) → from ≡ begin t → n ≡ room t → (ys zs : List Row) → zs ≡ filled (room t) ys

@@ -8,29 +8,30 @@ use Rattle.rows.specs.Rows.{inserted, stands}
 use Rattle.editions.specs.declared.Edition.{Edition}
 use Rattle.editions.specs.declared.Edition.the-variants.{Dino21}
 use Rattle.tables.specs.declared.Table.{Table}
-use Rattle.tables.specs.declared.Table.the-variants.{VehicleType, Depot, Stop, StopPoint, Block}
+use Rattle.tables.specs.declared.Table.the-variants.{VehicleType, Depot, Stop, StopPoint, Block, Calendar}
 use Rattle.tables.specs.Columns.{keyWidth}
 use Rattle.tables.specs.Parts.{room, partOf}
 
--- "The book holds the keys of tables 1 to 3 and the 11 numbers of each block, rows by rising key", and the keys of stop points;
--- and "the delivery's edition, which the book keeps"
+-- "The book holds the keys of tables 1 to 3 and the 11 numbers of each block, rows by rising key", the keys of stop points, the
+-- three numbers of each day, and "the delivery's edition, which the book keeps"
 pub record Book : Type 0 where
   pub types : List Row
   pub depots : List Row
   pub stops : List Row
   pub points : List Row
   pub blocks : List Row
+  pub days : List Row
   pub edition : Edition
 
 -- a book by its edition and its tables
 abbrev pub bookBy : Edition → (Table → List Row) → Book
-bookBy e f = record { types = f VehicleType; depots = f Depot; stops = f Stop; points = f StopPoint; blocks = f Block; edition = e }
+bookBy e f = record { types = f VehicleType; depots = f Depot; stops = f Stop; points = f StopPoint; blocks = f Block; days = f Calendar; edition = e }
 
 -- the book that a reading begins with: tables without rows, and "the delivery's edition"
 abbrev pub emptyBy : Edition → Book
 emptyBy e = bookBy e (λ t. [])
 
--- "A refused reading leaves an empty book, which is the book of" five "tables without rows", and its edition is "2.1 after a refused reading"
+-- "A refused reading leaves an empty book, which is the book of" six "tables without rows", and its edition is "2.1 after a refused reading"
 abbrev pub empty : Book
 empty = emptyBy Dino21
 
@@ -40,6 +41,7 @@ rows Depot b = b .depots
 rows Stop b = b .stops
 rows StopPoint b = b .points
 rows Block b = b .blocks
+rows Calendar b = b .days
 
 -- the book with other rows in one table; its edition stays
 abbrev pub with-rows : Table → List Row → Book → Book
@@ -52,6 +54,6 @@ entered t row b = with-rows t (inserted (keyWidth t) row (rows t b)) b
 abbrev pub knows : Table → Row → Book → Bool
 knows t row b = stands (keyWidth t) row (rows t b)
 
--- "There are at most 512 rows in each table."
+-- "There are at most 512 rows in each table.", and 800 in the calendar
 abbrev pub full : Table → Book → Bool
 full t b = leb (room t) (length (rows t b))

@@ -21,7 +21,7 @@ use Rattle.editions.specs.declared.Edition.{Edition}
 use Rattle.editions.specs.declared.Edition.the-variants.{Dino21, Dino23}
 use Rattle.tables.specs.declared.Sort.{Sort}
 use Rattle.tables.specs.declared.Table.{Table}
-use Rattle.tables.specs.declared.Table.the-variants.{VehicleType, Depot, Stop, StopPoint, Block}
+use Rattle.tables.specs.declared.Table.the-variants.{VehicleType, Depot, Stop, StopPoint, Block, Calendar}
 use Rattle.tables.specs.Columns.{columnsOf, columnAt, number, numbered}
 use Rattle.tables.specs.declared.Named.{Named}
 use Rattle.tables.specs.declared.Named.the-variants.{Known, Unknown}
@@ -56,6 +56,7 @@ isEquip Depot k = false
 isEquip Stop k = false
 isEquip StopPoint k = false
 isEquip Block k = false
+isEquip Calendar k = false
 
 abbrev pub equipSaid : Edition → ℕ → Cell
 equipSaid Dino21 n = Equip21 n

@@ -79,6 +79,7 @@ fn is_equip(t: Table, column: usize) -> bool
         Table::Stop => false,
         Table::StopPoint => false,
         Table::Block => false,
+        Table::Calendar => false,
     }
 }
 

@@ -17,7 +17,7 @@ use Rattle.editions.specs.declared.Edition.{Edition}
 use Rattle.editions.specs.declared.Edition.the-variants.{Dino21, Dino23}
 use Rattle.tables.specs.declared.Table.{Table}
 use Rattle.tables.specs.Columns.{columnsOf, columnFrom, columnNumber, Column}
-use Rattle.tables.specs.declared.Table.the-variants.{VehicleType, Depot, Stop, StopPoint, Block}
+use Rattle.tables.specs.declared.Table.the-variants.{VehicleType, Depot, Stop, StopPoint, Block, Calendar}
 use Rattle.column_names.specs.Naming.{nameLength, namesIn, numberIn}
 
 -- where a name ends: here, further on, or where the names end
@@ -124,6 +124,8 @@ header-names Dino21 StopPoint = refl
 header-names Dino23 StopPoint = refl
 header-names Dino21 Block = refl
 header-names Dino23 Block = refl
+header-names Dino21 Calendar = refl
+header-names Dino23 Calendar = refl
 
 -- "Two other spellings are read as the same column": the other name of a table, if any, and the column for which it stands
 abbrev pub otherName : Table → Bytes
@@ -132,6 +134,7 @@ otherName Depot = []
 otherName Stop = []
 otherName StopPoint = []
 otherName Block = bytes "VEH_TYPE_NR"
+otherName Calendar = []
 
 abbrev pub otherColumn : Table → ℕ
 otherColumn VehicleType = 5
@@ -139,6 +142,7 @@ otherColumn Depot = 0
 otherColumn Stop = 0
 otherColumn StopPoint = 0
 otherColumn Block = 5
+otherColumn Calendar = 0
 
 other-number : (e : Edition) (t : Table) → columnNumber e t (otherName t) ≡ otherColumn t
 unfolding columnNumber columnFrom columnsOf bytes same
@@ -152,6 +156,8 @@ other-number Dino21 StopPoint = refl
 other-number Dino23 StopPoint = refl
 other-number Dino21 Block = refl
 other-number Dino23 Block = refl
+other-number Dino21 Calendar = refl
+other-number Dino23 Calendar = refl
 
 -- no column has a third name
 abbrev spelled : Bytes → Column → Bool
@@ -169,6 +175,8 @@ all-spelled Dino21 StopPoint = refl
 all-spelled Dino23 StopPoint = refl
 all-spelled Dino21 Block = refl
 all-spelled Dino23 Block = refl
+all-spelled Dino21 Calendar = refl
+all-spelled Dino23 Calendar = refl
 
 by-name : (o name : Bytes) (x : Column) → same name o ≡ false → spelled o x ≡ true → (same name (x .name) || same name (x .other)) ≡ same name (x .name)
 by-name o name x h e = go (same (x .other) (x .name)) refl e

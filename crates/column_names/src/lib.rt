@@ -29,6 +29,8 @@ pub const STOP_POINT_NAMES: [u8; 33] = *b"VERSION;STOP_NR;STOPPING_POINT_NR";
 pub const BLOCK_NAMES: [u8; 144] =
     *b"VERSION;DAY_TYPE_NR;DEPOT_NR;BLOCK_NR;VEH_TYP_NR;DEP_STOP_NR;DEP_STOPPING_POINT_NR;BEGIN_OF_BLOCK;ARR_STOP_NR;ARR_STOPPING_POINT_NR;END_OF_BLOCK";
 
+pub const CALENDAR_NAMES: [u8; 23] = *b"VERSION;DAY;DAY_TYPE_NR";
+
 // Two columns have another name too; it stands for the column of that number.
 const VEHICLE_TYPE_OTHER: [u8; 15] = *b"HANDICAP_PLACES";
 
@@ -135,5 +137,6 @@ pub fn column_of(edition: Edition, t: Table, name: &[u8]) -> usize
         Table::Stop => column_in(&STOP_NAMES, &NO_OTHER, NO_OTHER_COLUMN, name),
         Table::StopPoint => column_in(&STOP_POINT_NAMES, &NO_OTHER, NO_OTHER_COLUMN, name),
         Table::Block => column_in(&BLOCK_NAMES, &BLOCK_OTHER, BLOCK_OTHER_COLUMN, name),
+        Table::Calendar => column_in(&CALENDAR_NAMES, &NO_OTHER, NO_OTHER_COLUMN, name),
     }
 }

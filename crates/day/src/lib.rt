@@ -27,11 +27,12 @@ pub fn day(
     stop: &[u8],
     stop_point: &[u8],
     vehicle_block: &[u8],
+    day_type_calendar: &[u8],
     slip: &[u8],
     book: &mut [Row],
     work: &mut [Row],
 ) -> Verdict
-    ensures { λ r. ⌜ DayPermits edition (delivery (now («vehicle_type» .entry)) (now (depot .entry)) (now (stop .entry)) (now («stop_point» .entry)) (now («vehicle_block» .entry))) (now (slip .entry)) (now (book .entry)) (now (work .entry)) (outcome r (now (book .exit)) (now (work .exit))) ⌝ }
+    ensures { λ r. ⌜ DayPermits edition (delivery (now («vehicle_type» .entry)) (now (depot .entry)) (now (stop .entry)) (now («stop_point» .entry)) (now («vehicle_block» .entry)) (now («day_type_calendar» .entry))) (now (slip .entry)) (now (book .entry)) (now (work .entry)) (outcome r (now (book .exit)) (now (work .exit))) ⌝ }
 {
     if work.len() != ROWS {
         empty_book(book);
@@ -44,6 +45,7 @@ pub fn day(
         stop,
         stop_point,
         vehicle_block,
+        day_type_calendar,
         book,
     ) {
         Verdict::Accepted => slips::slip(slip, book, work),

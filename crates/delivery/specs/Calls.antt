@@ -41,8 +41,8 @@ abbrev pub readCall : ℕ → Delivery → List Row → Outcome
 readCall n d slice =
     if eqb (length slice) bookRows then readBy (choice n) d else outcome (nowhere badLoan) slice
 
-abbrev pub delivery : Bytes → Bytes → Bytes → Bytes → Bytes → Delivery
-delivery a b c d e = record { types = a; depots = b; stops = c; points = d; blocks = e }
+abbrev pub delivery : Bytes → Bytes → Bytes → Bytes → Bytes → Bytes → Delivery
+delivery a b c d e f = record { types = a; depots = b; stops = c; points = d; blocks = e; days = f }
 
 -- what the contract of `read` permits of an edition's number, a delivery and a lent book: one verdict, and one book behind it
 abbrev pub ReadPermits : ℕ → Delivery → List Row → Outcome → Type 0

@@ -37,16 +37,18 @@ fn take_tables(
     stops: &[u8],
     points: &[u8],
     blocks: &[u8],
+    days: &[u8],
     book: &mut [Row],
 ) -> Verdict
     requires { ⌜ Sound (now book) × (bookOf (now book) ≡ emptyBy (bookOf (now book) .edition)) ⌝ }
-    ensures { λ r. ⌜ Sound (now (book .exit)) × (resultOf r (now (book .exit)) ≡ reading (bookOf (now (book .entry)) .edition) (delivery (now (types .entry)) (now (depots .entry)) (now (stops .entry)) (now (points .entry)) (now (blocks .entry)))) ⌝ }
+    ensures { λ r. ⌜ Sound (now (book .exit)) × (resultOf r (now (book .exit)) ≡ reading (bookOf (now (book .entry)) .edition) (delivery (now (types .entry)) (now (depots .entry)) (now (stops .entry)) (now (points .entry)) (now (blocks .entry)) (now (days .entry)))) ⌝ }
 {
     let a = table_reading::take_table(types, Table::VehicleType, book);
     let b = then_table(a, depots, Table::Depot, book);
     let c = then_table(b, stops, Table::Stop, book);
     let d = then_table(c, points, Table::StopPoint, book);
-    then_table(d, blocks, Table::Block, book)
+    let e = then_table(d, blocks, Table::Block, book);
+    then_table(e, days, Table::Calendar, book)
 }
 
 // The reading by an edition, with a book of its size.
@@ -57,13 +59,14 @@ fn read_by(
     stops: &[u8],
     points: &[u8],
     blocks: &[u8],
+    days: &[u8],
     book: &mut [Row],
 ) -> Verdict
     requires { ⌜ length (now book) ≡ bookRows ⌝ }
-    ensures { λ r. ⌜ outcome r (now (book .exit)) ≡ readOutcome (reading edition (delivery (now (types .entry)) (now (depots .entry)) (now (stops .entry)) (now (points .entry)) (now (blocks .entry)))) ⌝ }
+    ensures { λ r. ⌜ outcome r (now (book .exit)) ≡ readOutcome (reading edition (delivery (now (types .entry)) (now (depots .entry)) (now (stops .entry)) (now (points .entry)) (now (blocks .entry)) (now (days .entry)))) ⌝ }
 {
     book::begin(book, edition);
-    let verdict = take_tables(types, depots, stops, points, blocks, book);
+    let verdict = take_tables(types, depots, stops, points, blocks, days, book);
     match verdict {
         Verdict::Accepted => Verdict::Accepted,
         Verdict::Refused(p) => {
@@ -81,9 +84,10 @@ pub fn read(
     stop: &[u8],
     stop_point: &[u8],
     vehicle_block: &[u8],
+    day_type_calendar: &[u8],
     book: &mut [Row],
 ) -> Verdict
-    ensures { λ r. ⌜ ReadPermits edition (delivery (now («vehicle_type» .entry)) (now (depot .entry)) (now (stop .entry)) (now («stop_point» .entry)) (now («vehicle_block» .entry))) (now (book .entry)) (outcome r (now (book .exit))) ⌝ }
+    ensures { λ r. ⌜ ReadPermits edition (delivery (now («vehicle_type» .entry)) (now (depot .entry)) (now (stop .entry)) (now («stop_point» .entry)) (now («vehicle_block» .entry)) (now («day_type_calendar» .entry))) (now (book .entry)) (outcome r (now (book .exit))) ⌝ }
 {
     if book.len() != BOOK_ROWS {
         return Check::bad_loan().on(Place::NO_TABLE, Place::NO_LINE);
@@ -97,6 +101,7 @@ pub fn read(
             stop,
             stop_point,
             vehicle_block,
+            day_type_calendar,
             book,
         ),
         Choice::Unknown => {

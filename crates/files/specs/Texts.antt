@@ -21,3 +21,4 @@ pub record Roomy (n : Lengths) : Type 0 where
   pub stops : n .stops ≤ textRoom
   pub points : n .points ≤ textRoom
   pub blocks : n .blocks ≤ textRoom
+  pub days : n .days ≤ textRoom

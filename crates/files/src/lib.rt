@@ -11,6 +11,7 @@ pub struct Lengths {
     pub stops: usize,
     pub points: usize,
     pub blocks: usize,
+    pub days: usize,
 }
 
 // Room for a text: one byte more than it may have, so that one that is too long is told.
@@ -27,9 +28,11 @@ pub const STOP_POINT: usize = 3 * TEXT_ROOM;
 
 pub const VEHICLE_BLOCK: usize = 4 * TEXT_ROOM;
 
-pub const SLIP: usize = 5 * TEXT_ROOM;
+pub const DAY_TYPE_CALENDAR: usize = 5 * TEXT_ROOM;
 
-pub const ROOM: usize = 6 * TEXT_ROOM;
+pub const SLIP: usize = 6 * TEXT_ROOM;
+
+pub const ROOM: usize = 7 * TEXT_ROOM;
 
 // What an open file holds, at the head of the buffer: as much as the buffer takes. One that cannot be read counts as empty.
 fn take(fd: i32, buffer: &mut [u8]) -> usize
@@ -80,7 +83,7 @@ fn load_at(path: &[u8], room: &mut [u8], from: usize, tell: bool) -> usize
     load(path, &mut room[from..to])
 }
 
-// The five tables of a delivery; a file that cannot be opened counts as empty, and is told on standard error where this is asked for.
+// The six tables of a delivery; a file that cannot be opened counts as empty, and is told on standard error where this is asked for.
 pub fn load_delivery(room: &mut [u8], tell: bool) -> Lengths
     ensures { λ r. ⌜ Roomy r ⌝ }
 {
@@ -89,12 +92,14 @@ pub fn load_delivery(room: &mut [u8], tell: bool) -> Lengths
     let stops = load_at(b"stop.din", room, STOP, tell);
     let points = load_at(b"stop_point.din", room, STOP_POINT, tell);
     let blocks = load_at(b"vehicle_block.din", room, VEHICLE_BLOCK, tell);
+    let days = load_at(b"day_type_calendar.din", room, DAY_TYPE_CALENDAR, tell);
     Lengths {
         types,
         depots,
         stops,
         points,
         blocks,
+        days,
     }
 }
 

@@ -17,6 +17,7 @@ pub fn day(edition: u64, book: &mut [Row], work: &mut [Row]) -> Verdict
         files::text(&room, files::STOP, n.stops),
         files::text(&room, files::STOP_POINT, n.points),
         files::text(&room, files::VEHICLE_BLOCK, n.blocks),
+        files::text(&room, files::DAY_TYPE_CALENDAR, n.days),
         files::text(&room, files::SLIP, slip),
         book,
         work,

@@ -21,7 +21,7 @@ use Rattle.tables.specs.Columns.{inRange, columnsOf, keptWidth, Column, columnA
 use Rattle.tables.specs.declared.Rules.{Rules}
 use Rattle.tables.specs.declared.Table.{Table}
 use Rattle.tables.specs.Parts.{partOf, tables, room, bookRows, marksAt}
-use Rattle.tables.specs.declared.Table.the-variants.{Block}
+use Rattle.tables.specs.declared.Table.the-variants.{Calendar}
 use Rattle.tables.proofs.Figures.{kept-columns, kept-few, part-below}
 use Rattle.tables.proofs.Parts.{in-order}
 use Rattle.book.specs.Book.{Book, rows}
@@ -71,12 +71,6 @@ module _ (row : Row) (long : length row ≡ 11) (i : ℕ) where
       rw (drop-of-length-le row l, e)
 
 -- ranges, from column i on
-pub range-below : (x : Rules) (n : ℕ) → n < x .low → inRange x n ≡ false
-range-below x n h = rw (lt-leb (x .low) n h)
-
-pub range-from : (x : Rules) (n : ℕ) → x .low ≤ n → inRange x n ≡ leb n (x .high)
-range-from x n h = rw (le-leb (x .low) n h)
-
 abbrev pub rangedFrom : Edition → ℕ → Table → Row → Bool
 rangedFrom e i t row = ranged (drop i (columnsOf e t)) (drop i (take (keptWidth t) row))
 
@@ -176,12 +170,12 @@ all-true f h [] = refl
 all-true f h (x ∷ xs) = rw (h x, all-true f h xs)
 
 -- a table is reached by its place in their order
-pub by-place : (f : Table → Bool) → ((i : ℕ) → i < length tables → f (getD tables i Block) ≡ true) → (t : Table) → f t ≡ true
+pub by-place : (f : Table → Bool) → ((i : ℕ) → i < length tables → f (getD tables i Calendar) ≡ true) → (t : Table) → f t ≡ true
 by-place f h t = ap f (sym (in-order t)) ∙ h (partOf t) (part-below t)
 
 module _ (b : Book) where
   pub tables-lawful : lawfulBook b ≡ true → (t : Table) → lawfulTable t b ≡ true
-  tables-lawful e = by-place (λ t. lawfulTable t b) (all-at (λ t. lawfulTable t b) Block tables e)
+  tables-lawful e = by-place (λ t. lawfulTable t b) (all-at (λ t. lawfulTable t b) Calendar tables e)
 
   pub lawful-tables : ((t : Table) → lawfulTable t b ≡ true) → lawfulBook b ≡ true
   lawful-tables h = all-true (λ t. lawfulTable t b) h tables

@@ -11,7 +11,7 @@ use Rattle.words.proofs.Lists.{and-left, and-right}
 use Rattle.refusals.specs.Verdicts.{passes}
 use Rattle.rows.specs.Rows.{wide}
 use Rattle.tables.specs.Columns.{columnsOf, keptWidth}
-use Rattle.tables.specs.declared.Table.the-variants.{StopPoint, Block}
+use Rattle.tables.specs.declared.Table.the-variants.{StopPoint, Calendar}
 use Rattle.tables.specs.Parts.{tables}
 use Rattle.book.specs.Book.{Book, rows}
 use Rattle.rules.specs.Rules.{timeFault, unknown}
@@ -28,10 +28,11 @@ points-named b (x ∷ xs) e =
     rw (here, points-named b xs (and-right (lawful StopPoint b x) (all (lawful StopPoint b) xs) e))
 
 -- the tables are asked in their order: a block's references once the points have been
-pub referable-next : (b : Book) (i : ℕ) → ((j : ℕ) → j < i → all (lawful (getD tables j Block) b) (rows (getD tables j Block) b) ≡ true) → Referable (getD tables i Block) b
+pub referable-next : (b : Book) (i : ℕ) → ((j : ℕ) → j < i → all (lawful (getD tables j Calendar) b) (rows (getD tables j Calendar) b) ≡ true) → Referable (getD tables i Calendar) b
 referable-next b zero h = tt
 referable-next b (suc zero) h = tt
 referable-next b (suc (suc zero)) h = tt
 referable-next b (suc (suc (suc zero))) h = tt
 referable-next b (suc (suc (suc (suc zero)))) h = points-named b (b .points) (h 3 (lit< tt))
-referable-next b (suc (suc (suc (suc (suc i))))) h = points-named b (b .points) (h 3 (omega arith))
+referable-next b (suc (suc (suc (suc (suc zero))))) h = tt
+referable-next b (suc (suc (suc (suc (suc (suc i)))))) h = tt

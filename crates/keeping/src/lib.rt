@@ -7,7 +7,7 @@ ghost use lib.ListN.{take, length, getD};
 ghost use Rattle.words.specs.Words.{same, all};
 ghost use Rattle.rows.specs.Rows.{wide, rowNumbers};
 ghost use Rattle.rows.specs.Spots.{holds};
-ghost use Rattle.tables.specs.Columns.{inRange, columnsOf, keptWidth, keyWidth};
+ghost use Rattle.tables.specs.Columns.{columnsOf, keptWidth, keyWidth};
 ghost use Rattle.tables.specs.Listing.{listed};
 ghost use Rattle.tables.specs.Parts.{bookRows, marksAt};
 ghost use Rattle.book.specs.Room.{bookOf, part, marks};
@@ -22,17 +22,7 @@ use rows::Row;
 use tables::BOOK_ROWS;
 use tables::Columns;
 use tables::MARKS;
-use tables::Rules;
 use tables::Table;
-
-fn in_range(rules: Rules, n: u64) -> bool
-    ensures { λ r. ⌜ r ≡ inRange rules n ⌝ }
-{
-    if n < rules.low {
-        return false;
-    }
-    n <= rules.high
-}
 
 // Whether each number that the book keeps of a row is in its column's range.
 fn in_ranges(t: Table, columns: &Columns, row: Row) -> bool
@@ -43,7 +33,7 @@ fn in_ranges(t: Table, columns: &Columns, row: Row) -> bool
     let mut i = 0;
     'columns: while i < n {
         let rules = tables::rules_at(columns, i);
-        if !in_range(rules, row[i]) {
+        if !ranges::takes(rules, row[i]) {
             within = false;
             break 'columns;
         }

@@ -27,7 +27,7 @@ use Rattle.editions.specs.declared.Edition.{Edition}
 use Rattle.editions.specs.declared.Edition.the-variants.{Dino21, Dino23}
 use Rattle.tables.specs.Columns.{number, numbered, Column, noColumn, columnsOf, columnAt, keptWidth, keyWidth}
 use Rattle.tables.specs.declared.Table.{Table}
-use Rattle.tables.specs.declared.Table.the-variants.{VehicleType, Depot, Stop, StopPoint, Block}
+use Rattle.tables.specs.declared.Table.the-variants.{VehicleType, Depot, Stop, StopPoint, Block, Calendar}
 use Rattle.tables.specs.declared.Named.the-variants.{Known}
 use Rattle.tables.specs.declared.Rules.{Rules}
 use Rattle.tables.specs.declared.Named.{Named}
@@ -59,6 +59,7 @@ numbered-known Depot = refl
 numbered-known Stop = refl
 numbered-known StopPoint = refl
 numbered-known Block = refl
+numbered-known Calendar = refl
 
 -- the contents of a line, one by one ---------------------------------------------------------------------------------------
 
@@ -155,6 +156,7 @@ kept-plain Depot n h = refl
 kept-plain Stop n h = refl
 kept-plain StopPoint n h = refl
 kept-plain Block n h = refl
+kept-plain Calendar n h = refl
 
 module _ (e : Edition) (t : Table) (s : Bytes) (i n : ℕ) (checked : Checked e t s) (on : i < length (rowLinesOf e s)) (known-column : n < length (columnsOf e t)) where
   abbrev line : Bytes

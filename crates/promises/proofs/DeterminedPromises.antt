@@ -13,6 +13,7 @@ determined = (
   λ n d s book work one other e f. e ∙ sym f,
   λ book version type one other e f. e ∙ sym f,
   λ book version day depot block one other e f. e ∙ sym f,
+  λ book version type first last one other e f. e ∙ sym f,
   λ book out one other e f. e ∙ sym f,
   λ v book out one other e f. e ∙ sym f,
   λ edition s p one other e f. e ∙ sym f,
@@ -47,6 +48,7 @@ determined-for-c = (
   λ n s table line k one other e f. told _ _ _ _ one other (e .0) (e .1) (f .0) (f .1),
   λ book version type one other e f. told _ _ _ _ one other (e .0) (e .1) (f .0) (f .1),
   λ book version day depot block one other e f. told _ _ _ _ one other (e .0) (e .1) (f .0) (f .1),
+  λ book version type first last one other e f. told _ _ _ _ one other (e .0) (e .1) (f .0) (f .1),
   λ book out one other e f. told-two _ _ _ _ _ _ one other (e .0) (e .1) (e .2) (f .0) (f .1) (f .2),
   λ call one other e f. told _ _ _ _ one other (e .0) (e .1) (f .0) (f .1),
 )

@@ -17,7 +17,7 @@ use Rattle.lines.specs.Lines.{lineAfter, slipLines, overlong}
 use Rattle.editions.specs.declared.Edition.{Edition}
 use Rattle.tables.specs.Columns.{number}
 use Rattle.tables.specs.declared.Table.{Table}
-use Rattle.tables.specs.declared.Table.the-variants.{VehicleType, Depot, Stop, StopPoint, Block}
+use Rattle.tables.specs.declared.Table.the-variants.{VehicleType, Depot, Stop, StopPoint, Block, Calendar}
 use Rattle.book.specs.Book.{Book, entered, emptyBy}
 use Rattle.book.specs.Result.{Result, leaves, refused, unless, _▹_}
 use Rattle.header.specs.Header.{Header, headerOf, topFaults}
@@ -28,7 +28,7 @@ use Rattle.delivery.specs.Delivery.{reading, Delivery}
 use Rattle.block_change.specs.Change.{slipCheck, slipLeaves}
 use Rattle.slips.specs.Slips.{linesPosted, posting}
 use Rattle.cell_question.specs.CellQuestion.{firstLine}
-use Rattle.promises.specs.Promises.{onward, checkAt, Faultless, FirstFault, rowLinesOf, startOf, rowStart, rowStep, AcceptedExactly, RefusedAtFirst, SlipAcceptedExactly, SlipRefusedAtFirst, DeliveryInOrder, FaultyTable, in-types, in-depots, in-stops, in-points, in-blocks, DeliveryRefused}
+use Rattle.promises.specs.Promises.{onward, checkAt, Faultless, FirstFault, rowLinesOf, startOf, rowStart, rowStep, AcceptedExactly, RefusedAtFirst, SlipAcceptedExactly, SlipRefusedAtFirst, DeliveryInOrder, FaultyTable, in-types, in-depots, in-stops, in-points, in-blocks, in-days, DeliveryRefused}
 use Rattle.promises.proofs.TestLaws.{going-on, unrefused, came}
 use Rattle.promises.proofs.DeliveryLaws.{in-order}
 
@@ -213,11 +213,11 @@ slip-refused-at-first s b p = (
       (λ v. rw (v .0) (slip-turned (slipLines s) b ∙ fault-turn slipCheck slipLeaves 5 suc (slipLines s) b p (v .1 .at) (v .1 .inside) (v .1 .fault) (v .1 .above))),
 )
 
--- the five tables --------------------------------------------------------------------------------------------------------
+-- the six tables ---------------------------------------------------------------------------------------------------------
 
 pub delivery-in-order : DeliveryInOrder
 unfolding reading
-delivery-in-order e d b = (in-order e d b, λ o. rw (o .types, o .depots, o .stops, o .points, o .blocks))
+delivery-in-order e d b = (in-order e d b, λ o. rw (o .types, o .depots, o .stops, o .points, o .blocks, o .days))
 
 -- a result that goes on, or ends in a refusal
 ended : (r : Result) (f : Book → Result) (p : Place) → (r ▹ f) ≡ refused p → (r ≡ refused p) ⊎ ((b : Book) × (r ≡ leaves b) × (f b ≡ refused p))
@@ -255,9 +255,11 @@ module _ (e : Edition) (d : Delivery) (p : Place) where
       in-points (s2 .0) (s3 .0) (s .0) (s2 .1) (s2 .2) (s3 .2) (s .2))
       (ended r3 (tableRead StopPoint (d .points)) p h)
 
-  faulty-table : reading e d ≡ refused p → FaultyTable e d p
-  unfolding reading
-  faulty-table h =
+  abbrev r5 : Result
+  r5 = r4 ▹ tableRead Block (d .blocks)
+
+  faulty-five : r5 ≡ refused p → FaultyTable e d p
+  faulty-five h =
       ⊎-elim faulty-four
       (λ s.
       let s4 = came r3 (tableRead StopPoint (d .points)) (s .0) (s .1) in
@@ -266,6 +268,18 @@ module _ (e : Edition) (d : Delivery) (p : Place) where
       in-blocks (s2 .0) (s3 .0) (s4 .0) (s .0) (s2 .1) (s2 .2) (s3 .2) (s4 .2) (s .2))
       (ended r4 (tableRead Block (d .blocks)) p h)
 
+  faulty-table : reading e d ≡ refused p → FaultyTable e d p
+  unfolding reading
+  faulty-table h =
+      ⊎-elim faulty-five
+      (λ s.
+      let s5 = came r4 (tableRead Block (d .blocks)) (s .0) (s .1) in
+      let s4 = came r3 (tableRead StopPoint (d .points)) (s5 .0) (s5 .1) in
+      let s3 = came r2 (tableRead Stop (d .stops)) (s4 .0) (s4 .1) in
+      let s2 = came r1 (tableRead Depot (d .depots)) (s3 .0) (s3 .1) in
+      in-days (s2 .0) (s3 .0) (s4 .0) (s5 .0) (s .0) (s2 .1) (s2 .2) (s3 .2) (s4 .2) (s5 .2) (s .2))
+      (ended r5 (tableRead Calendar (d .days)) p h)
+
 table-faulty : (e : Edition) (d : Delivery) (p : Place) → FaultyTable e d p → reading e d ≡ refused p
 unfolding reading
 table-faulty e d p (in-types f) = rw f
@@ -273,6 +287,7 @@ table-faulty e d p (in-depots b f g) = rw (f, g)
 table-faulty e d p (in-stops b c f g h) = rw (f, g, h)
 table-faulty e d p (in-points b c x f g h i) = rw (f, g, h, i)
 table-faulty e d p (in-blocks b c x y f g h i j) = rw (f, g, h, i, j)
+table-faulty e d p (in-days b c x y z f g h i j k) = rw (f, g, h, i, j, k)
 
 pub delivery-refused : DeliveryRefused
 delivery-refused e d p = (faulty-table e d p, table-faulty e d p)

@@ -21,7 +21,7 @@ use Rattle.lines.specs.Lines.{lineAfter, lines, headLine, rowLines, overlong, m
 use Rattle.editions.specs.declared.Edition.{Edition}
 use Rattle.tables.specs.Columns.{number}
 use Rattle.tables.specs.declared.Table.{Table}
-use Rattle.tables.specs.declared.Table.the-variants.{VehicleType, Depot, Stop, StopPoint, Block}
+use Rattle.tables.specs.declared.Table.the-variants.{VehicleType, Depot, Stop, StopPoint, Block, Calendar}
 use Rattle.book.specs.Book.{Book, emptyBy, entered}
 use Rattle.book.specs.Result.{Result, refused, leaves, unless, _▹_}
 use Rattle.header.specs.Header.{Header, headerOf, headerCheck}
@@ -129,47 +129,52 @@ unfolding run
 run-join [] ys k = refl
 run-join (x ∷ xs) ys k = run-join xs ys (after x k)
 
-five-runs : (v w x y z : List Call) (k : Radio) → run (v ++ (w ++ (x ++ (y ++ z)))) k ≡ run z (run y (run x (run w (run v k))))
-five-runs v w x y z k =
-    run-join v (w ++ (x ++ (y ++ z))) k ∙ run-join w (x ++ (y ++ z)) (run v k) ∙ run-join x (y ++ z) (run w (run v k)) ∙ run-join y z (run x (run w (run v k)))
+six-runs : (u v w x y z : List Call) (k : Radio) → run (u ++ (v ++ (w ++ (x ++ (y ++ z))))) k ≡ run z (run y (run x (run w (run v (run u k)))))
+six-runs u v w x y z k =
+    run-join u (v ++ (w ++ (x ++ (y ++ z)))) k ∙ run-join v (w ++ (x ++ (y ++ z))) (run u k) ∙ run-join w (x ++ (y ++ z)) (run v (run u k)) ∙ run-join x (y ++ z) (run w (run v (run u k)))
+    ∙ run-join y z (run x (run w (run v (run u k))))
 
 -- what stands before the last table
-pub record Four (ed : Edition) (a : Table → ℕ) (ps : Table → List Bytes) : Type 0 where
+pub record Five (ed : Edition) (a : Table → ℕ) (ps : Table → List Bytes) : Type 0 where
   pub result : Result
-  pub clear : Clear Block result
-  pub stands : run (callsFor a ps StopPoint) (run (callsFor a ps Stop) (run (callsFor a ps Depot) (run (callsFor a ps VehicleType) (start ed)))) ≡ awaits Block result
-  pub last : (result ▹ heard Block (a Block) (joined (ps Block))) ≡ hearing ed (sendingOf a ps)
+  pub clear : Clear Calendar result
+  pub stands : run (callsFor a ps Block) (run (callsFor a ps StopPoint) (run (callsFor a ps Stop) (run (callsFor a ps Depot) (run (callsFor a ps VehicleType) (start ed))))) ≡ awaits Calendar result
+  pub last : (result ▹ heard Calendar (a Calendar) (joined (ps Calendar))) ≡ hearing ed (sendingOf a ps)
 
-pub four-heard : (ed : Edition) (a : Table → ℕ) (ps : Table → List Bytes) → Four ed a ps
+pub five-heard : (ed : Edition) (a : Table → ℕ) (ps : Table → List Bytes) → Five ed a ps
 unfolding hearing sendingOf
-four-heard ed a ps =
+five-heard ed a ps =
     let table : Table → Radio → Radio = λ t k. run (callsFor a ps t) k in
     let s : Table → Bytes = λ t. joined (ps t) in
     let r1 : Result = leaves (emptyBy ed) ▹ heard VehicleType (a VehicleType) (s VehicleType) in
     let r2 : Result = r1 ▹ heard Depot (a Depot) (s Depot) in
     let r3 : Result = r2 ▹ heard Stop (a Stop) (s Stop) in
     let r4 : Result = r3 ▹ heard StopPoint (a StopPoint) (s StopPoint) in
+    let r5 : Result = r4 ▹ heard Block (a Block) (s Block) in
     let first : (u : Table) → eqb 1 (number u) ≡ false → Clear u r1 = λ u e. clear-on VehicleType u (a VehicleType) (s VehicleType) (leaves (emptyBy ed)) e tt in
     let second : (u : Table) → eqb 1 (number u) ≡ false → eqb 2 (number u) ≡ false → Clear u r2 = λ u e f. clear-on Depot u (a Depot) (s Depot) r1 f (first u e) in
     let third : (u : Table) → eqb 1 (number u) ≡ false → eqb 2 (number u) ≡ false → eqb 3 (number u) ≡ false → Clear u r3 = λ u e f g. clear-on Stop u (a Stop) (s Stop) r2 g (second u e f) in
+    let fourth : (u : Table) → eqb 1 (number u) ≡ false → eqb 2 (number u) ≡ false → eqb 3 (number u) ≡ false → eqb 6 (number u) ≡ false → Clear u r4 =
+    λ u e f g h. clear-on StopPoint u (a StopPoint) (s StopPoint) r3 h (third u e f g) in
     record {
-      result = r4;
-      clear = clear-on StopPoint Block (a StopPoint) (s StopPoint) r3 refl (third Block refl refl refl);
+      result = r5;
+      clear = clear-on Block Calendar (a Block) (s Block) r4 refl (fourth Calendar refl refl refl refl);
       stands =
-          ap (λ (k : Radio). table StopPoint (table Stop (table Depot k))) (table-heard VehicleType (a VehicleType) (ps VehicleType) (leaves (emptyBy ed)) tt)
-          ∙ ap (λ (k : Radio). table StopPoint (table Stop k)) (table-heard Depot (a Depot) (ps Depot) r1 (first Depot refl))
-          ∙ ap (λ (k : Radio). table StopPoint k) (table-heard Stop (a Stop) (ps Stop) r2 (second Stop refl refl))
-          ∙ table-heard StopPoint (a StopPoint) (ps StopPoint) r3 (third StopPoint refl refl refl);
+          ap (λ (k : Radio). table Block (table StopPoint (table Stop (table Depot k)))) (table-heard VehicleType (a VehicleType) (ps VehicleType) (leaves (emptyBy ed)) tt)
+          ∙ ap (λ (k : Radio). table Block (table StopPoint (table Stop k))) (table-heard Depot (a Depot) (ps Depot) r1 (first Depot refl))
+          ∙ ap (λ (k : Radio). table Block (table StopPoint k)) (table-heard Stop (a Stop) (ps Stop) r2 (second Stop refl refl))
+          ∙ ap (λ (k : Radio). table Block k) (table-heard StopPoint (a StopPoint) (ps StopPoint) r3 (third StopPoint refl refl refl))
+          ∙ table-heard Block (a Block) (ps Block) r4 (fourth Block refl refl refl refl);
       last = refl;
     }
 
 pub delivery-heard : DeliveryHeard
 unfolding callsOf
 delivery-heard ed a ps =
-    let f : Four ed a ps = four-heard ed a ps in
-    five-runs (callsFor a ps VehicleType) (callsFor a ps Depot) (callsFor a ps Stop) (callsFor a ps StopPoint) (callsFor a ps Block) (start ed)
-    ∙ ap (λ (k : Radio). run (callsFor a ps Block) k) (f .stands)
-    ∙ table-heard Block (a Block) (ps Block) (f .result) (f .clear) ∙ ap (λ (r : Result). all-over r) (f .last)
+    let f : Five ed a ps = five-heard ed a ps in
+    six-runs (callsFor a ps VehicleType) (callsFor a ps Depot) (callsFor a ps Stop) (callsFor a ps StopPoint) (callsFor a ps Block) (callsFor a ps Calendar) (start ed)
+    ∙ ap (λ (k : Radio). run (callsFor a ps Calendar) k) (f .stands)
+    ∙ table-heard Calendar (a Calendar) (ps Calendar) (f .result) (f .clear) ∙ ap (λ (r : Result). all-over r) (f .last)
 
 -- where the announced bytes came
 heard-read : (t : Table) (a : ℕ) (s : Bytes) (b : Book) → a ≡ length s → heard t a s b ≡ tableRead t s b
@@ -189,11 +194,12 @@ then-read t a s q (leaves b) e f = rw f (heard-read t a s b e)
 pub heard-as-read : HeardAsRead
 unfolding hearing reading
 heard-as-read ed d e =
-    then-read Block (d .announced Block) (d .sent Block) _ _ (e Block)
+    then-read Calendar (d .announced Calendar) (d .sent Calendar) _ _ (e Calendar)
+    (then-read Block (d .announced Block) (d .sent Block) _ _ (e Block)
     (then-read StopPoint (d .announced StopPoint) (d .sent StopPoint) _ _ (e StopPoint)
     (then-read Stop (d .announced Stop) (d .sent Stop) _ _ (e Stop)
     (then-read Depot (d .announced Depot) (d .sent Depot) _ _ (e Depot)
-    (then-read VehicleType (d .announced VehicleType) (d .sent VehicleType) (leaves (emptyBy ed)) (leaves (emptyBy ed)) (e VehicleType) refl))))
+    (then-read VehicleType (d .announced VehicleType) (d .sent VehicleType) (leaves (emptyBy ed)) (leaves (emptyBy ed)) (e VehicleType) refl)))))
 
 -- behind a fault -----------------------------------------------------------------------------------------------------------
 
@@ -217,6 +223,7 @@ standing-next Depot r = refl
 standing-next Stop r = refl
 standing-next StopPoint r = refl
 standing-next Block r = refl
+standing-next Calendar r = refl
 
 pub fault-answers : FaultAnswers
 unfolding closing finished

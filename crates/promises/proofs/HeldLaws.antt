@@ -28,9 +28,9 @@ use Rattle.editions.specs.declared.Edition.the-variants.{Dino21, Dino23}
 use Rattle.tables.specs.Columns.{columnsOf, keptWidth, keyWidth, number}
 use Rattle.tables.specs.declared.Table.{Table}
 use Rattle.tables.specs.Parts.{room as roomOf}
-use Rattle.tables.specs.declared.Table.the-variants.{VehicleType, Depot, Stop, StopPoint, Block}
+use Rattle.tables.specs.declared.Table.the-variants.{VehicleType, Depot, Stop, StopPoint, Block, Calendar}
 use Rattle.tables.proofs.Figures.{kept-few}
-use Rattle.tables.proofs.Parts.{room-alike}
+use Rattle.tables.proofs.Parts.{room-most}
 use Rattle.values.specs.Values.{badCell}
 use Rattle.book.specs.Book.{Book, rows, full, knows, with-rows, entered}
 use Rattle.book.specs.Result.{leaves, refused, unless, _▹_, Result}
@@ -109,6 +109,7 @@ contents-long ed Depot h cs = refl
 contents-long ed Stop h cs = refl
 contents-long ed StopPoint h cs = refl
 contents-long ed Block h cs = refl
+contents-long ed Calendar h cs = refl
 
 pub judged-taken : (t : Table) (b : Book) (h : Header) (l : Bytes) → judged t h l b ≡ Passes → Taken t b (rowRead (b .edition) t h l)
 unfolding judged
@@ -222,11 +223,11 @@ unfolding linesWritten EachShort
 lines-short [] h = omega arith
 lines-short (l ∷ ls) h = rw length-append (omega (arith, h .0, lines-short ls (h .1)))
 
-text-short : (t : Table) (ls : List Bytes) → EachShort ls → length ls ≤ 513 → length (linesWritten (plainNames t ∷ ls)) ≤ 65536
+text-short : (t : Table) (ls : List Bytes) → EachShort ls → length ls ≤ 801 → length (linesWritten (plainNames t ∷ ls)) ≤ 65536
 unfolding linesWritten
 text-short t ls h n = rw length-append (omega (arith, names-short t, lines-short ls h))
 
-pub plain-lines-read : (t : Table) (ls : List Bytes) (b : Book) → EachUnbroken (plainNames t ∷ ls) → EachShort ls → length ls ≤ 513 →
+pub plain-lines-read : (t : Table) (ls : List Bytes) (b : Book) → EachUnbroken (plainNames t ∷ ls) → EachShort ls → length ls ≤ 801 →
     tableRead t (linesWritten (plainNames t ∷ ls)) b ≡ rowsRead t (plainHeader t) 2 ls b
 unfolding tableRead EachUnbroken
 plain-lines-read t ls b u h n =
@@ -238,8 +239,8 @@ unfolding EachShort EachGood
 rows-short t b [] h = tt
 rows-short t b (y ∷ ys) h = let g : Good t b y = h .0 in (line-short (b .edition) t y (good-eleven t y (g .shape)) (g .inside), rows-short t b ys (h .1))
 
-few-lines : (t : Table) (b : Book) (ys : List Row) → Held t b ys → length (map (plainLine t) ys) ≤ 513
-few-lines t b ys h = omega (arith, length-map ys (plainLine t), h .size, room-alike t)
+few-lines : (t : Table) (b : Book) (ys : List Row) → Held t b ys → length (map (plainLine t) ys) ≤ 801
+few-lines t b ys h = omega (arith, length-map ys (plainLine t), h .size, room-most t)
 
 pub plain-short : (t : Table) (b : Book) (ys : List Row) → Held t b ys → length (plainText t ys) ≤ 65536
 plain-short t b ys h = text-short t (map (plainLine t) ys) (rows-short t b ys (h .good)) (few-lines t b ys h)
@@ -281,7 +282,7 @@ unfolding rowsRead
 table-more t b ys row h e r =
     let ls : List Bytes = map (plainLine t) ys in
     let l : Bytes = plainLine t row in
-    let n : length (ls ++ (l ∷ [])) ≤ 513 = omega (arith, room-alike t, length-append ls (l ∷ []), length-map ys (plainLine t), h .size) in
+    let n : length (ls ++ (l ∷ [])) ≤ 801 = omega (arith, room-most t, length-append ls (l ∷ []), length-map ys (plainLine t), h .size) in
     plain-lines-read t (ls ++ (l ∷ [])) (with-rows t [] b) (unbroken-last (plainNames t ∷ ls) l (unbroken-plain t ys) (unbroken-line t row))
     (short-append ls l (rows-short t b ys (h .good)) (line-short (b .edition) t row e r)) n
     ∙ rows-append t (plainHeader t) 2 ls (l ∷ []) (with-rows t [] b) (unbroken-rows t ys)

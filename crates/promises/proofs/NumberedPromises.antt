@@ -31,7 +31,7 @@ use Rattle.tables.proofs.Names.{column-number-most}
 use Rattle.tables.proofs.Figures.{columns-few}
 use Rattle.tables.specs.declared.Table.{Table}
 use Rattle.tables.specs.declared.Reference.{Reference}
-use Rattle.tables.specs.declared.Table.the-variants.{Block, VehicleType, Depot, Stop, StopPoint}
+use Rattle.tables.specs.declared.Table.the-variants.{Block, Calendar, VehicleType, Depot, Stop, StopPoint}
 use Rattle.values.specs.Values.{badCell, cellCheck, saidCheck}
 use Rattle.book.specs.Book.{Book, knows, full, emptyBy}
 use Rattle.book.specs.Result.{refused}
@@ -46,7 +46,7 @@ use Rattle.slip_line.specs.SlipLine.{badField, numbers, wish, rowIn}
 use Rattle.slip_line.specs.declared.Wish.{Wish}
 use Rattle.slip_line.specs.declared.Wish.the-variants.{Add, Replace, Delete, Unknown}
 use Rattle.block_change.specs.Change.{missingBlock, lineJudged, granted, slipCheck, slipLeaves}
-use Rattle.promises.specs.Promises.{Numbered, _naming_, unnamed, anyCell, anyColumn, requiredColumn, numberColumn, rangedColumn, rangeNamed, ofNumbers, endColumn, referringColumn, rowLinesOf, rowStart, rowStep, textNumbers, headerNumbers, rowNumbers, slipNumbers, among, givenIn, givenInSlip, FaultyTable, in-types, in-depots, in-stops, in-points, in-blocks, ReadingNumbered, onward, FirstFault, SlipNumbered}
+use Rattle.promises.specs.Promises.{Numbered, _naming_, unnamed, anyCell, anyColumn, requiredColumn, numberColumn, rangedColumn, rangeNamed, ofNumbers, endColumn, referringColumn, rowLinesOf, rowStart, rowStep, textNumbers, headerNumbers, rowNumbers, slipNumbers, among, givenIn, givenInSlip, FaultyTable, in-types, in-depots, in-stops, in-points, in-blocks, in-days, ReadingNumbered, onward, FirstFault, SlipNumbered}
 use Rattle.promises.proofs.TestLaws.{and-both, and-three, or-later}
 use Rattle.promises.proofs.TextLaws.{slip-lines-few, head-within, row-within, row-low, row-high, cut-few}
 use Rattle.promises.proofs.ExactPromises.{refused-at-first, step-edition, table-edition, delivery-refused, slip-refused-at-first}
@@ -141,7 +141,7 @@ value-below (b ∷ s) n i h l =
 
 -- so a number of the column's width that is out of its range is out of a range that is named
 range-named : (x : Rules) (s : Bytes) → allDigits s ≡ true → length s ≤ x .width → inRange x (value s) ≡ false → rangeNamed x ≡ true
-range-named x s d l out = go (eqb (x .low) 0) refl (eqb (x .high) (10 ^ x .width - 1)) refl
+range-named x s d l out = by-date (x .date) refl
   where
     below : value s < 10 ^ x .width
     below =
@@ -149,14 +149,18 @@ range-named x s d l out = go (eqb (x .low) 0) refl (eqb (x .high) (10 ^ x .width
         let v : value s < 10 ^ length s = rw z at (value-below s 0 0 d (power-le 0 0 (omega arith))) in
         omega (arith, v, power-le (length s) (x .width) l)
 
-    go : (p : Bool) → eqb (x .low) 0 ≡ p → (q : Bool) → eqb (x .high) (10 ^ x .width - 1) ≡ q → not (p && q) ≡ true
-    go true e true f =
+    go : x .date ≡ false → (p : Bool) → eqb (x .low) 0 ≡ p → (q : Bool) → eqb (x .high) (10 ^ x .width - 1) ≡ q → not (p && q) ≡ true
+    go u true e true f =
         let low = eqb-true (x .low) 0 e in
         let high = eqb-true (x .high) (10 ^ x .width - 1) f in
-        let r : inRange x (value s) ≡ true = and-both (leb (x .low) (value s)) (leb (value s) (x .high)) (le-leb (x .low) (value s) (omega arith)) (le-leb (value s) (x .high) (omega (arith, below))) in
+        let r : inRange x (value s) ≡ true = rw (le-leb (x .low) (value s) (omega arith), le-leb (value s) (x .high) (omega (arith, below)), u) in
         let z : _≡_ {A = ℕ} 0 1 = cc in let y : ⊥ = omega arith in absurd y
-    go true e false f = refl
-    go false e q f = refl
+    go u true e false f = refl
+    go u false e q f = refl
+
+    by-date : (t : Bool) → x .date ≡ t → (t || not (eqb (x .low) 0 && eqb (x .high) (10 ^ x .width - 1))) ≡ true
+    by-date true u = refl
+    by-date false u = go u (eqb (x .low) 0) refl (eqb (x .high) (10 ^ x .width - 1)) refl
 
 -- what is wrong with a cell of a table's column
 module _ (e : Edition) (xs : List Numbered) (t : Table)
@@ -204,6 +208,7 @@ end-timed Depot row e = e
 end-timed Stop row e = e
 end-timed StopPoint row e = e
 end-timed Block row e = refl
+end-timed Calendar row e = e
 
 given-ruled : (t : Table) (xs : List Numbered) (row : Row) (b : Book) → (endColumn t 11 ≡ true → among xs 11 11 ≡ true) → among xs 9 0 ≡ true →
     ((k : ℕ) → referringColumn t k ≡ true → among xs 10 k ≡ true) → given xs (ruled t row b) ≡ true
@@ -343,6 +348,11 @@ reading-numbered e d p h = go (delivery-refused e d p .0 h)
         on Block (d .blocks) y
         (table-edition StopPoint (d .points) x y j ∙ table-edition Stop (d .stops) c x i ∙ table-edition Depot (d .depots) b c h ∙ table-edition VehicleType (d .types) (emptyBy e) b g)
         f
+    go (in-days b c x y z g h i j k f) =
+        on Calendar (d .days) z
+        (table-edition Block (d .blocks) y z k ∙ table-edition StopPoint (d .points) x y j ∙ table-edition Stop (d .stops) c x i ∙ table-edition Depot (d .depots) b c h
+        ∙ table-edition VehicleType (d .types) (emptyBy e) b g)
+        f
 
 slip-on-paper : (e : Edition) (p : Place) (xs : List Numbered) (line : ℕ) → line ≤ suc mostBytes → (among xs (p .number) (p .column) ≡ true) × (p .table ≡ 5) × (p .line ≡ line) →
     (if eqb line 0 then textNumbers else slipNumbers e) ≡ xs → givenInSlip e (paper (Refused p)) ≡ true
@@ -449,6 +459,7 @@ references-near Depot = refl
 references-near Stop = refl
 references-near StopPoint = refl
 references-near Block = refl
+references-near Calendar = refl
 
 near-referring : (t : Table) (k : ℕ) → referringColumn t k ≡ true → k ≤ suc mostBytes
 near-referring t k e = omega (arith, near-member (map (λ x. x .column) (references t)) k (references-near t) e)

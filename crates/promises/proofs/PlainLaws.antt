@@ -6,9 +6,9 @@ use mathlib.Core.Bool.{true}
 use Prim.Native.Nat.{ℕ, zero, suc, _^_, _<_, _+_, _≤_}
 use native.Mathlib.Omega.{arith}
 use lib.ListN.{take, length, drop, length-map, length-append}
-use lib.Dec.{lit<, leb}
+use lib.Dec.{lit<}
 use lib.Seq.{length-take-le, take-at}
-use borrow.Author.Tests.{leb-true, le-ltb, eq-eqb}
+use borrow.Author.Tests.{le-ltb, eq-eqb}
 use Rattle.words.specs.Words.{if_then_else_, Bytes, Row}
 use Rattle.words.proofs.Lists.{and-left, and-right}
 use Rattle.refusals.proofs.Chaining.{both}
@@ -21,9 +21,10 @@ use Rattle.numbers.proofs.Writing.{decimal-digits, read-back, decimal-width}
 use Rattle.rows.specs.Rows.{wide}
 use Rattle.editions.specs.declared.Edition.{Edition}
 use Rattle.editions.specs.declared.Edition.the-variants.{Dino21, Dino23}
+use Rattle.ranges.proofs.Ranges.{range-within}
 use Rattle.tables.specs.Columns.{Column, columnsOf, keptWidth, inRange}
 use Rattle.tables.specs.declared.Table.{Table}
-use Rattle.tables.specs.declared.Table.the-variants.{VehicleType, Depot, Stop, StopPoint, Block}
+use Rattle.tables.specs.declared.Table.the-variants.{VehicleType, Depot, Stop, StopPoint, Block, Calendar}
 use Rattle.tables.specs.declared.Sort.the-variants.{Decimal}
 use Rattle.tables.proofs.Figures.{kept-few, keys-some, keys-kept, kept-columns}
 use Rattle.values.specs.Values.{badCell, cellCheck}
@@ -56,6 +57,7 @@ plainHeader Depot = 1 ∷ 2 ∷ []
 plainHeader Stop = 1 ∷ 2 ∷ 3 ∷ []
 plainHeader StopPoint = 1 ∷ 2 ∷ 3 ∷ []
 plainHeader Block = 1 ∷ 2 ∷ 3 ∷ 4 ∷ 5 ∷ 6 ∷ 7 ∷ 8 ∷ 9 ∷ 10 ∷ 11 ∷ []
+plainHeader Calendar = 1 ∷ 2 ∷ 3 ∷ []
 
 -- what stands behind the numbers that the book keeps: a stop's name
 abbrev pub behind : Table → List Bytes
@@ -64,6 +66,7 @@ behind Depot = []
 behind Stop = (120 ∷ []) ∷ []
 behind StopPoint = []
 behind Block = []
+behind Calendar = []
 
 abbrev pub plainCells : Table → Row → List Bytes
 plainCells t row = map decimal (take (keptWidth t) row) ++ behind t
@@ -120,6 +123,7 @@ kept-numeric ed VehicleType = ((1, refl, refl, refl, lit< tt), ((7, refl, refl, 
 kept-numeric ed Depot = ((1, refl, refl, refl, lit< tt), ((4, refl, refl, refl, lit< tt), tt))
 kept-numeric ed Stop = ((1, refl, refl, refl, lit< tt), ((4, refl, refl, refl, lit< tt), tt))
 kept-numeric ed StopPoint = ((1, refl, refl, refl, lit< tt), ((4, refl, refl, refl, lit< tt), ((1, refl, refl, refl, lit< tt), tt)))
+kept-numeric ed Calendar = ((1, refl, refl, refl, lit< tt), ((7, refl, refl, refl, lit< tt), ((8, refl, refl, refl, lit< tt), tt)))
 kept-numeric Dino21 Block = (
   (1, refl, refl, refl, lit< tt),
   (
@@ -179,7 +183,7 @@ good-cells k xs [] rest h r e = let z : k + 0 ≡ k = omega arith in rw z at e
 good-cells k [] (n ∷ ns) rest h r e = refl
 good-cells k (x ∷ xs) (n ∷ ns) rest h r e =
     let here = and-left (inRange (x .rules) n) (ranged xs ns) r in
-    let high : n ≤ x .rules .high = leb-true n (x .rules .high) (and-right (leb (x .rules .low) n) (leb n (x .rules .high)) here) in
+    let high : n ≤ x .rules .high = range-within (x .rules) n here .1 in
     let within : n < 10 ^ suc (h .0 .0) = omega (arith, h .0 .4) in
     let on : k + length (n ∷ ns) ≡ suc k + length ns = omega arith in
     rw (cell-good k (x .rules) (h .0 .0) n (h .0 .1) (h .0 .3) within here)
@@ -218,6 +222,7 @@ plain-behind Depot = tt
 plain-behind Stop = ((refl, tt), tt)
 plain-behind StopPoint = tt
 plain-behind Block = tt
+plain-behind Calendar = tt
 
 -- as many numbers as the book keeps
 pub kept-long : (t : Table) (row : Row) → Eleven row → length (take (keptWidth t) row) ≡ keptWidth t
@@ -238,6 +243,7 @@ absent ed Depot = []
 absent ed Stop = behind Stop
 absent ed StopPoint = []
 absent ed Block = []
+absent ed Calendar = []
 
 contents-cells : (ed : Edition) (t : Table) (row : Row) → Eleven row → contents ed t (plainHeader t) (plainCells t row) ≡ map content (map decimal (take (keptWidth t) row)) ++ absent ed t
 unfolding contentsFrom under columnsOf
@@ -251,6 +257,8 @@ contents-cells Dino21 StopPoint row (eleven a b c d e f g h i j k) = refl
 contents-cells Dino23 StopPoint row (eleven a b c d e f g h i j k) = refl
 contents-cells Dino21 Block row (eleven a b c d e f g h i j k) = refl
 contents-cells Dino23 Block row (eleven a b c d e f g h i j k) = refl
+contents-cells Dino21 Calendar row (eleven a b c d e f g h i j k) = refl
+contents-cells Dino23 Calendar row (eleven a b c d e f g h i j k) = refl
 
 contents-plain : (ed : Edition) (t : Table) (row : Row) → Eleven row → contents ed t (plainHeader t) (plainCells t row) ≡ map decimal (take (keptWidth t) row) ++ absent ed t
 contents-plain ed t row e = contents-cells ed t row e ∙ ap (λ (l : List Bytes). l ++ absent ed t) (content-decimals (take (keptWidth t) row))
@@ -267,6 +275,8 @@ absent-good Dino21 StopPoint = refl
 absent-good Dino23 StopPoint = refl
 absent-good Dino21 Block = refl
 absent-good Dino23 Block = refl
+absent-good Dino21 Calendar = refl
+absent-good Dino23 Calendar = refl
 
 kept-values : (ed : Edition) (t : Table) (row : Row) → Eleven row → map value (take (keptWidth t) (map decimal (take (keptWidth t) row) ++ absent ed t)) ≡ take (keptWidth t) row
 kept-values ed t row e =
@@ -282,6 +292,7 @@ cut-counted Depot row (eleven a b c d e f g h i j k) = refl
 cut-counted Stop row (eleven a b c d e f g h i j k) = refl
 cut-counted StopPoint row (eleven a b c d e f g h i j k) = refl
 cut-counted Block row (eleven a b c d e f g h i j k) = refl
+cut-counted Calendar row (eleven a b c d e f g h i j k) = refl
 
 -- no line end in what is written ------------------------------------------------------------------------------------------
 
@@ -303,6 +314,7 @@ unbroken-behind Depot = tt
 unbroken-behind Stop = ((refl, refl, refl, tt), tt)
 unbroken-behind StopPoint = tt
 unbroken-behind Block = tt
+unbroken-behind Calendar = tt
 
 pub unbroken-line : (t : Table) (row : Row) → Unbroken (plainLine t row)
 unbroken-line t row = unbroken-parted (plainCells t row) (unbroken-decimals (take (keptWidth t) row) (behind t) (unbroken-behind t))
@@ -319,6 +331,7 @@ names-tested Depot = refl
 names-tested Stop = refl
 names-tested StopPoint = refl
 names-tested Block = refl
+names-tested Calendar = refl
 
 pub unbroken-plain : (t : Table) (ys : List Row) → EachUnbroken (plainNames t ∷ map (plainLine t) ys)
 unfolding EachUnbroken
@@ -338,6 +351,8 @@ names-good Dino21 StopPoint = refl
 names-good Dino23 StopPoint = refl
 names-good Dino21 Block = refl
 names-good Dino23 Block = refl
+names-good Dino21 Calendar = refl
+names-good Dino23 Calendar = refl
 
 pub names-read : (ed : Edition) (t : Table) → header ed t (cellsOf (cut ed (plainNames t))) ≡ plainHeader t
 unfolding computed requiredOf
@@ -351,6 +366,8 @@ names-read Dino21 StopPoint = refl
 names-read Dino23 StopPoint = refl
 names-read Dino21 Block = refl
 names-read Dino23 Block = refl
+names-read Dino21 Calendar = refl
+names-read Dino23 Calendar = refl
 
 -- the size of what is written ---------------------------------------------------------------------------------------------
 
@@ -377,7 +394,7 @@ unfolding cellRoom room Numeric ranged
 row-short xs [] rest h r n = omega arith
 row-short [] (m ∷ ms) rest h r n = absurd (omega arith)
 row-short (x ∷ xs) (m ∷ ms) rest h r n =
-    let high : m ≤ x .rules .high = leb-true m (x .rules .high) (and-right (leb (x .rules .low) m) (leb m (x .rules .high)) (and-left (inRange (x .rules) m) (ranged xs ms) r)) in
+    let high : m ≤ x .rules .high = range-within (x .rules) m (and-left (inRange (x .rules) m) (ranged xs ms) r) .1 in
     let within : m < 10 ^ suc (h .0 .0) = omega (arith, h .0 .4) in
     let on = row-short xs ms rest (h .1) (and-right (inRange (x .rules) m) (ranged xs ms) r) (omega arith) in
     omega (arith, decimal-width (h .0 .0) m within, h .0 .3, on)
@@ -394,6 +411,8 @@ line-room Dino21 StopPoint = omega arith
 line-room Dino23 StopPoint = omega arith
 line-room Dino21 Block = omega arith
 line-room Dino23 Block = omega arith
+line-room Dino21 Calendar = omega arith
+line-room Dino23 Calendar = omega arith
 
 pub line-short : (ed : Edition) (t : Table) (row : Row) → Eleven row → ranged (columnsOf ed t) (take (keptWidth t) row) ≡ true → length (plainLine t row) ≤ 65
 line-short ed t row e r =
@@ -409,6 +428,7 @@ names-short Depot = omega arith
 names-short Stop = omega arith
 names-short StopPoint = omega arith
 names-short Block = omega arith
+names-short Calendar = omega arith
 
 -- a plain line has no fault of its own: 17 is never given for it
 pub row-judged : (t : Table) (row : Row) (b : Book) → Eleven row → row ≡ wide (take (keptWidth t) row) → ranged (columnsOf (b .edition) t) (take (keptWidth t) row) ≡ true →

@@ -16,7 +16,7 @@ use Rattle.rows.specs.Rows.{rising}
 use Rattle.tables.specs.Columns.{number}
 use Rattle.tables.specs.Parts.{tables}
 use Rattle.tables.specs.declared.Table.{Table}
-use Rattle.tables.specs.declared.Table.the-variants.{VehicleType, Depot, Stop, StopPoint, Block}
+use Rattle.tables.specs.declared.Table.the-variants.{VehicleType, Depot, Stop, StopPoint, Block, Calendar}
 use Rattle.editions.specs.declared.Edition.{Edition}
 use Rattle.editions.specs.declared.Edition.the-variants.{Dino21}
 use Rattle.book.specs.Book.{empty, emptyBy}
@@ -31,7 +31,7 @@ use Rattle.radio.specs.Room.{Slices, Outcome, outcome, laidBook, laidOut, radio
 use Rattle.radio.proofs.Laying.{OrderlyIn, handed}
 use Rattle.promises.specs.Radio.{UnknownOpeningStays, run, parts, joined, sendingOf, deliveryOf, callsFor, callsOf, lastAnswer, called, SlicesTested, FoundAgain, CallsKeep, RefusalStays, CallsLawful, CallsRun, RadioReads}
 use Rattle.promises.proofs.RuleLaws.{lawful-standing, laid-keeps, standing-orderly}
-use Rattle.promises.proofs.HeardPromises.{table-heard, Four, four-heard, delivery-heard, heard-as-read, never, out-of-turn}
+use Rattle.promises.proofs.HeardPromises.{table-heard, Five, five-heard, delivery-heard, heard-as-read, never, out-of-turn}
 use Rattle.promises.proofs.RadioRulePromises.{standing-of, radio-kept}
 use Rattle.radio.proofs.Laying as laying
 
@@ -152,20 +152,21 @@ last-table : (v : Verdict) (a : ℕ) (ps : List Bytes) (t : Table) (r : Result) 
 unfolding lastAnswer run
 last-table v a ps t r = last-parts Accepted ps t (counted a) 0 (begun r)
 
-five-answers : (u : Verdict) (v w x y z : List Call) (k : Radio) → (u′ : Verdict) × (lastAnswer u (v ++ (w ++ (x ++ (y ++ z)))) k ≡ lastAnswer u′ z (run y (run x (run w (run v k)))))
-five-answers u v w x y z k = (
+six-answers : (o : Verdict) (u v w x y z : List Call) (k : Radio) → (o′ : Verdict) × (lastAnswer o (u ++ (v ++ (w ++ (x ++ (y ++ z))))) k ≡ lastAnswer o′ z (run y (run x (run w (run v (run u k))))))
+six-answers o u v w x y z k = (
   _,
-  last-join u v (w ++ (x ++ (y ++ z))) k ∙ last-join _ w (x ++ (y ++ z)) (run v k) ∙ last-join _ x (y ++ z) (run w (run v k)) ∙ last-join _ y z (run x (run w (run v k))),
+  last-join o u (v ++ (w ++ (x ++ (y ++ z)))) k ∙ last-join _ v (w ++ (x ++ (y ++ z))) (run u k) ∙ last-join _ w (x ++ (y ++ z)) (run v (run u k)) ∙ last-join _ x (y ++ z) (run w (run v (run u k)))
+      ∙ last-join _ y z (run x (run w (run v (run u k)))),
 )
 
 last-heard : (ed : Edition) (a : Table → ℕ) (ps : Table → List Bytes) → lastAnswer Accepted (callsOf a ps) (start ed) ≡ verdictOf (hearing ed (sendingOf a ps))
 unfolding callsOf
 last-heard ed a ps =
-    let f : Four ed a ps = four-heard ed a ps in
-    let k = five-answers Accepted (callsFor a ps VehicleType) (callsFor a ps Depot) (callsFor a ps Stop) (callsFor a ps StopPoint) (callsFor a ps Block) (start ed) in
-    k .1 ∙ ap (lastAnswer (k .0) (callsFor a ps Block)) (f .stands)
-    ∙ last-table (k .0) (a Block) (ps Block) Block (f .result)
-    ∙ ap (λ (z : Radio). verdictOf (standing z)) (table-heard Block (a Block) (ps Block) (f .result) (f .clear)) ∙ ap verdictOf (f .last)
+    let f : Five ed a ps = five-heard ed a ps in
+    let k = six-answers Accepted (callsFor a ps VehicleType) (callsFor a ps Depot) (callsFor a ps Stop) (callsFor a ps StopPoint) (callsFor a ps Block) (callsFor a ps Calendar) (start ed) in
+    k .1 ∙ ap (lastAnswer (k .0) (callsFor a ps Calendar)) (f .stands)
+    ∙ last-table (k .0) (a Calendar) (ps Calendar) Calendar (f .result)
+    ∙ ap (λ (z : Radio). verdictOf (standing z)) (table-heard Calendar (a Calendar) (ps Calendar) (f .result) (f .clear)) ∙ ap verdictOf (f .last)
 
 as-read : (r : Result) → (verdictOf r ≡ readOutcome r .verdict) × (laidBook r ≡ readOutcome r .book)
 as-read (refused p) = (refl, refl)

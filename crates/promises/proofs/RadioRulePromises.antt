@@ -19,7 +19,7 @@ use Rattle.editions.specs.declared.Edition.{Edition}
 use Rattle.tables.specs.Columns.{number, keyWidth, references}
 use Rattle.tables.specs.Parts.{tables}
 use Rattle.tables.specs.declared.Table.{Table}
-use Rattle.tables.specs.declared.Table.the-variants.{VehicleType, Depot, Stop, StopPoint, Block}
+use Rattle.tables.specs.declared.Table.the-variants.{VehicleType, Depot, Stop, StopPoint, Block, Calendar}
 use Rattle.tables.specs.declared.Reference.{Reference}
 use Rattle.book.specs.Book.{Book, rows, entered, knows, full}
 use Rattle.book.specs.Result.{Result, refused, leaves, unless}
@@ -105,6 +105,7 @@ table-listed Depot = refl
 table-listed Stop = refl
 table-listed StopPoint = refl
 table-listed Block = refl
+table-listed Calendar = refl
 
 abbrev Listed : List Numbered → Type 0
 Listed xs = every (λ x. member (x .number) readingNumbers) xs ≡ true
@@ -254,6 +255,7 @@ next-lawful Depot r e = e
 next-lawful Stop r e = e
 next-lawful StopPoint r e = e
 next-lawful Block r e = e
+next-lawful Calendar r e = e
 
 begun-lawful : (t : Table) (r : Result) → lawfulResult r ≡ true → lawfulCourse t 0 (begun r) ≡ true
 begun-lawful t (refused p) e = e

@@ -72,8 +72,7 @@ find-fresh k key row xs ys h = go (sameKey k key row) refl (stands k key xs) ref
 -- what the rows of a reading leave: those that stood, and those of the lines
 pub record Gained (t : Table) (before after : Book) (xs : List Row) : Type 0 where
   pub many : length (rows t after) ≡ length xs + length (rows t before)
-  pub each : (row : Row) → copies row (rows t after) ≡ copies row xs + copies row (rows t before)
-  pub weighed : (weight : Row → ℕ) (v n : ℕ) → total weight v n (rows t after) ≡ total weight v n xs + total weight v n (rows t before)
+  pub weighed : (many : List Row → ℕ) → Weighs many → many (rows t after) ≡ many xs + many (rows t before)
   pub standing : (key : Row) → stands (keyWidth t) key (rows t after) ≡ both-stand (keyWidth t) key (rows t before) xs
   pub finding : (key : Row) → found (keyWidth t) key (rows t after) ≡ both-found (keyWidth t) key (rows t before) xs
 
@@ -85,8 +84,7 @@ rows-gained t h i [] b c e =
     subst (λ (z : Book). Gained t b z []) f
     (record {
       many = omega arith;
-      each = λ row. omega arith;
-      weighed = λ weight v n. omega arith;
+      weighed = λ many w. omega (arith, w .nothing);
       standing = λ key. sym (or-none (stands k key (rows t b)));
       finding = λ key. sym (found-none k key (rows t b));
     })
@@ -115,8 +113,10 @@ rows-gained t h i (l ∷ ls) b c e = go (judged t h l b) refl (rows-gained t h (
         rows-with t (inserted (keyWidth t) (rowRead (b .edition) t h l) (rows t b)) b in
         record {
           many = omega (arith, g .many, ap length own, length-inserted (keyWidth t) (rowRead (b .edition) t h l) (rows t b) (a .fresh));
-          each = λ row. omega (arith, g .each row, ap (copies row) own, fresh (copies row) (copies-weighs row) (keyWidth t) (rowRead (b .edition) t h l) (rows t b) (a .fresh));
-          weighed = λ weight v n. omega (arith, g .weighed weight v n, ap (total weight v n) own, fresh (total weight v n) (total-weighs weight v n) (keyWidth t) (rowRead (b .edition) t h l) (rows t b) (a .fresh));
+          weighed = λ many w.
+              let row : Row = rowRead (b .edition) t h l in
+              let more : many (map (rowRead (b .edition) t h) (l ∷ ls)) ≡ w .one row + many (map (rowRead (b .edition) t h) ls) = w .more row (map (rowRead (b .edition) t h) ls) in
+              omega (arith, g .weighed many w, ap many own, more, w .more row (rows t b), fresh many w (keyWidth t) row (rows t b) (a .fresh));
           standing = λ key.
               g .standing key ∙ ap (λ (z : List Row). both-stand (keyWidth t) key z (map (rowRead (b .edition) t h) ls)) own
               ∙ find-fresh (keyWidth t) key (rowRead (b .edition) t h l) (rows t b) (map (rowRead (b .edition) t h) ls) (a .fresh) .0;
@@ -140,6 +140,13 @@ table-gained ed d b t e =
     subst (λ (z : Edition). Gained t (r .before) (r .after) (rowsOf z t s)) (r .by)
     (rows-gained t h first (rowLinesOf q s) (r .before) (r .after) (going-on (topFaults q t s) (rowsRead t h first (rowLinesOf q s) (r .before)) (r .after) (r .read)))
 
+-- whatever counts or weighs rows one by one comes to the same of the book's rows and of the text's
+pub weighed-exactly : (ed : Edition) (d : Delivery) (b : Book) (t : Table) (many : List Row → ℕ) → Weighs many → reading ed d ≡ leaves b → many (rows t b) ≡ many (rowsOf ed t (textOf t d))
+weighed-exactly ed d b t many w e =
+    let r : ReadTo ed t (textOf t d) b = left-by ed d b e .tables t in
+    let g : Gained t (r .before) (r .after) (rowsOf ed t (textOf t d)) = table-gained ed d b t e in
+    omega (arith, ap many (r .same), g .weighed many w, ap many (r .bare), w .nothing)
+
 pub rows-exactly : RowsExactly
 unfolding copies
 rows-exactly ed d b t e =
@@ -148,7 +155,7 @@ rows-exactly ed d b t e =
     let g : Gained t (r .before) (r .after) (rowsOf ed t (textOf t d)) = table-gained ed d b t e in (
       a .standing t .rising,
       omega (arith, ap length (r .same), g .many, ap length (r .bare)),
-      λ row. omega (arith, ap (copies row) (r .same), g .each row, ap (copies row) (r .bare)),
+      λ row. weighed-exactly ed d b t (copies row) (copies-weighs row) e,
     )
 
 pub keys-exactly : KeysExactly
@@ -161,15 +168,9 @@ keys-exactly ed d b t key e =
       ap (λ (z : List Row). found k key z) (sym (r .same)) ∙ g .finding key ∙ ap (λ (z : List Row). both-found k key z (rowsOf ed t (textOf t d))) (r .bare),
     )
 
-pub weighed-exactly : (ed : Edition) (d : Delivery) (b : Book) → reading ed d ≡ leaves b → (weight : Row → ℕ) (v n : ℕ) → total weight v n (b .blocks) ≡ total weight v n (rowsOf ed Block (d .blocks))
-unfolding total
-weighed-exactly ed d b e weight v n =
-    let r : ReadTo ed Block (d .blocks) b = left-by ed d b e .tables Block in
-    let g : Gained Block (r .before) (r .after) (rowsOf ed Block (d .blocks)) = table-gained ed d b Block e in
-    omega (arith, ap (total weight v n) (r .same), g .weighed weight v n, ap (total weight v n) (r .bare))
-
 pub totals-exactly : TotalsExactly
-totals-exactly ed d b version type e = (weighed-exactly ed d b e seconds version type, weighed-exactly ed d b e (λ x. 1) version type)
+totals-exactly ed d b version type e =
+    (weighed-exactly ed d b Block (total seconds version type) (total-weighs seconds version type) e, weighed-exactly ed d b Block (total (λ x. 1) version type) (total-weighs (λ x. 1) version type) e)
 
 pub types-answered : TypesAnswered
 types-answered ed d b version type e =

@@ -21,6 +21,7 @@ use Rattle.tables.specs.declared.Table.{Table}
 use Rattle.tables.specs.declared.Rules.{Rules}
 use Rattle.tables.specs.declared.Table.the-variants.{VehicleType, Block}
 use Rattle.tables.proofs.Figures.{kept-columns, keys-some, keys-kept, version-low}
+use Rattle.ranges.proofs.Ranges.{range-within}
 use Rattle.book.specs.Book.{Book, rows, knows}
 use Rattle.book.specs.Room.{laid, bookOf}
 use Rattle.book.proofs.Laying.{Orderly, book-laid, sound-laid}
@@ -95,7 +96,7 @@ first-versioned ed t row e r =
     let some : 1 ≤ keptWidth t = omega (arith, keys-some t, keys-kept t) in
     let inside : inRange x (getD (take (keptWidth t) row) 0 0) ≡ true =
     first-inside (columnsOf ed t) (take (keptWidth t) row) (omega (arith, kept-columns ed t)) (omega (arith, kept-long t row e)) r in
-    let low : x .low ≤ getD (take (keptWidth t) row) 0 0 = leb-true (x .low) (getD (take (keptWidth t) row) 0 0) (and-left (leb (x .low) (getD (take (keptWidth t) row) 0 0)) _ inside) in
+    let low : x .low ≤ getD (take (keptWidth t) row) 0 0 = range-within x (getD (take (keptWidth t) row) 0 0) inside .0 in
     omega (arith, version-low ed t, getD-take (keptWidth t) row 0 0 some)
 
 versioned : (t : Table) (b : Book) (xs : List Row) → EachGood t b xs → Versioned xs

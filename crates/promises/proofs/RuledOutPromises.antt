@@ -21,6 +21,7 @@ few =
       stops = wide (1 ∷ 20 ∷ []) ∷ [];
       points = wide (1 ∷ 20 ∷ 1 ∷ []) ∷ [];
       blocks = [];
+      days = [];
       edition = Dino21;
     }
 

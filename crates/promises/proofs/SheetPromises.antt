@@ -26,7 +26,7 @@ use Rattle.editions.specs.declared.Choice.the-variants.{Chosen}
 use Rattle.tables.specs.Columns.{columnsOf, keyWidth, number}
 use Rattle.tables.specs.Parts.{room, bookRows}
 use Rattle.tables.specs.declared.Table.{Table}
-use Rattle.tables.specs.declared.Table.the-variants.{VehicleType, Depot, Stop, StopPoint, Block}
+use Rattle.tables.specs.declared.Table.the-variants.{VehicleType, Depot, Stop, StopPoint, Block, Calendar}
 use Rattle.book.specs.Book.{Book, empty, rows}
 use Rattle.book.specs.Room.{laid, bookOf}
 use Rattle.book.specs.Result.{Result, leaves, refused, unless, _▹_}
@@ -157,14 +157,15 @@ parted-long c (n ∷ ns) =
     let l : length (c ++ (9 ∷ parted 9 (decimal n ∷ map decimal ns))) ≡ length c + suc (length (parted 9 (decimal n ∷ map decimal ns))) = length-append c (9 ∷ parted 9 (decimal n ∷ map decimal ns)) in
     omega (arith, l, parted-long (decimal n) ns)
 
-tables-few : (t : Table) → number t ≤ 6
+tables-few : (t : Table) → number t ≤ 7
 tables-few VehicleType = omega arith
 tables-few Depot = omega arith
 tables-few Stop = omega arith
 tables-few StopPoint = omega arith
 tables-few Block = omega arith
+tables-few Calendar = omega arith
 
-refusal-short : (table : ℕ) (p : Place) → table ≤ 6 → Bounded table p → length (refusalText p) ≤ 19
+refusal-short : (table : ℕ) (p : Place) → table ≤ 7 → Bounded table p → length (refusalText p) ≤ 19
 unfolding bytes linesWritten
 refusal-short table p t h =
     let ns : List ℕ = p .number ∷ p .table ∷ p .line ∷ p .column ∷ [] in

@@ -12,6 +12,7 @@ use Rattle.words.proofs.Lists.{and-left, and-right}
 use Rattle.refusals.specs.Verdicts.{_⊳_, _when_, placed, tooManyRows, passes, endsEarly, noBlock, place, inText, textTooLong, nowhere, notThere}
 use Rattle.refusals.specs.declared.Check.{Check}
 use Rattle.refusals.specs.declared.Check.the-variants.{Passes, Fails}
+use Rattle.refusals.specs.declared.Verdict.the-variants.{Accepted}
 use Rattle.refusals.specs.declared.Place.{Place}
 use Rattle.lines.specs.Lines.{slipLines, overlong}
 use Rattle.numbers.specs.Numbers.{value}
@@ -21,7 +22,7 @@ use Rattle.rows.specs.declared.Order.{Order}
 use Rattle.rows.specs.declared.Order.the-variants.{Less, Same, More}
 use Rattle.rows.proofs.Changes.{stands-removed, length-removed}
 use Rattle.editions.specs.declared.Edition.{Edition}
-use Rattle.tables.specs.declared.Table.the-variants.{Block}
+use Rattle.tables.specs.declared.Table.the-variants.{Block, Calendar}
 use Rattle.book.specs.Book.{Book, with-rows, entered, full}
 use Rattle.book.specs.Result.{Result, leaves, _▹_, unless, refused}
 use Rattle.rules.specs.Rules.{ruled, timeFault, unknown, unknownOf, seconds}
@@ -38,7 +39,7 @@ use Rattle.slips.specs.Slips.{posted, linesPosted, posting, kept}
 use Rattle.writer.specs.Writing.{written, linesWritten}
 use Rattle.promises.specs.Promises.{run, RunReadsAfresh, midway, MidwayReadsAfresh, wellFormed, with-blocks, RuleKept, writtenWith, accepted, readThere, admissible, known, RefusedExactly, RefusedAlike, someLine, someSlip, changes, OtherTablesKept, names, BlocksKept, touches, TypesKept}
 use Rattle.promises.proofs.KeyLaws.{other-found, other-stands}
-use Rattle.promises.proofs.DeliveryLaws.{left-by, blocks-back, lines-plain}
+use Rattle.promises.proofs.DeliveryLaws.{left-by, blocks-back, lines-plain, held-undated, with-other-blocks}
 use Rattle.promises.proofs.SlipLaws.{Kept, kept-run, kept-onward, Fielded, fielded, elevenWished, wish-eleven, held-removed}
 use Rattle.promises.proofs.PlainLaws.{plainNames, plainLine, plain-names-block, plain-line-block, row-read, row-judged}
 use Rattle.promises.proofs.HeldLaws.{Held, table-more}
@@ -48,10 +49,8 @@ use Rattle.promises.proofs.RulePromises.{left-standing}
 
 -- a book of which a delivery's book keeps the other tables, and whose blocks stand by right, is read afresh
 kept-reads : (ed : Edition) (d : Delivery) (b c : Book) → reading ed d ≡ leaves b → Kept b c → reading ed (with-blocks (written c) d) ≡ leaves c
-unfolding reading
 kept-reads ed d b c e k =
-    ap (λ (r : Result). r ▹ tableRead Block (written c)) (left-by ed d b e .before-blocks)
-    ∙ blocks-back b (c .blocks) (k .blocks)
+    with-other-blocks ed d b e (written c) Accepted (c .blocks) (blocks-back (with-rows Calendar [] b) (c .blocks) (held-undated b (c .blocks) (k .blocks)))
     ∙ ap (λ (z : Book). leaves z) (sym (k .apart))
 
 kept-itself : (ed : Edition) (d : Delivery) (b : Book) → reading ed d ≡ leaves b → Kept b b
@@ -73,14 +72,15 @@ rule-kept b s l = (l .0, (with-blocks (written (posted s b)) (l .1 .0), run-read
 read-there : (ed : Edition) (d : Delivery) (b : Book) (ys : List Row) (row : Row) → reading ed d ≡ leaves b → Held Block b ys → Fielded (b .edition) row →
     reading ed (with-blocks (writtenWith row ys) d)
     ≡ unless (placed 4 (2 + length ys) (tooManyRows when full Block (with-rows Block ys b) ⊳ ruled Block row (with-rows Block ys b))) (leaves (entered Block row (with-rows Block ys b)))
-unfolding reading
+unfolding unknownOf
 read-there ed d b ys row e h n =
+    let c : Book = with-rows Calendar [] b in
     let text : writtenWith row ys ≡ linesWritten (plainNames Block ∷ (map (plainLine Block) ys ++ (plainLine Block row ∷ []))) =
     rw (plain-names-block, lines-plain b ys (h .good), plain-line-block row (n .numbers)) in
-    ap (λ (r : Result). r ▹ tableRead Block (writtenWith row ys)) (left-by ed d b e .before-blocks)
-    ∙ ap (λ (s : Bytes). tableRead Block s (with-rows Block [] b)) text
-    ∙ table-more Block b ys row h (n .numbers) (n .inside)
-    ∙ rw (row-judged Block row (with-rows Block ys b) (n .numbers) (n .shape) (n .inside), row-read (b .edition) Block row (n .numbers) (n .shape))
+    with-other-blocks ed d b e (writtenWith row ys) (placed 4 (2 + length ys) (tooManyRows when full Block (with-rows Block ys b) ⊳ ruled Block row (with-rows Block ys b))) (inserted 4 row ys)
+    (ap (λ (s : Bytes). tableRead Block s (with-rows Block [] c)) text
+    ∙ table-more Block c ys row (held-undated b ys h) (n .numbers) (n .inside)
+    ∙ rw (row-judged Block row (with-rows Block ys c) (n .numbers) (n .shape) (n .inside), row-read (b .edition) Block row (n .numbers) (n .shape)))
 
 accepted-placed : (i : ℕ) (c : Check) (x : Book) → accepted (unless (placed 4 i c) (leaves x)) ≡ passes c
 accepted-placed i Passes x = refl
@@ -255,7 +255,7 @@ module _ (weight : Row → ℕ) (v n : ℕ) (row : Row) where
       total-replaced (b .blocks) (or-left (ofType v n row) (ofType v n (found 4 row (b .blocks))) h) (or-right (ofType v n row) (ofType v n (found 4 row (b .blocks))) h)
   total-granted Delete b h = total-removed (b .blocks) h
 
-run-left : (b : Book) (ss : List Bytes) → Left b → Left (run ss b)
+pub run-left : (b : Book) (ss : List Bytes) → Left b → Left (run ss b)
 run-left b ss l = (l .0, (with-blocks (written (run ss b)) (l .1 .0), run-reads-afresh (l .0) (l .1 .0) b ss (l .1 .1)))
 
 -- the other tables ---------------------------------------------------------------------------------------------------------
@@ -264,7 +264,7 @@ pub other-tables-kept : OtherTablesKept
 other-tables-kept b ss l =
     let c : Book = run ss b in
     let k : Kept b c = kept-run b ss b (record { apart = refl; blocks = left-by (l .0) (l .1 .0) b (l .1 .1) .standing Block }) in
-    (ap (λ (z : Book). z .types) (k .apart), ap (λ (z : Book). z .depots) (k .apart), ap (λ (z : Book). z .stops) (k .apart), ap (λ (z : Book). z .points) (k .apart), ap (λ (z : Book). z .edition) (k .apart))
+    (ap (λ (z : Book). z .types) (k .apart), ap (λ (z : Book). z .depots) (k .apart), ap (λ (z : Book). z .stops) (k .apart), ap (λ (z : Book). z .points) (k .apart), ap (λ (z : Book). z .days) (k .apart), ap (λ (z : Book). z .edition) (k .apart))
 
 -- so the questions keep their answers
 pub blocks-kept : BlocksKept
@@ -279,14 +279,17 @@ blocks-kept b ss version day depot block l h =
     ∙ ap (λ (z : Row). blockAnswered (nowhere (notThere when not (stands 4 key (b .blocks)))) (seven z)) f
     ∙ sym (block-asked b (left-standing b l) version day depot block)
 
+-- whatever the blocks of a type weigh stays, where no accepted slip touches the type
+pub total-kept : (b : Book) (ss : List Bytes) (version type : ℕ) → someSlip (touches version type) ss b ≡ false → (weight : Row → ℕ) →
+    total weight version type (run ss b .blocks) ≡ total weight version type (b .blocks)
+total-kept b ss version type h weight = kept-slips (total weight version type) (touches version type) (λ x z e. total-granted weight version type (rowIn x) (wish (fields x)) z e) ss b h
+
 pub types-kept : TypesKept
 types-kept b ss version type l h =
     let key : Row = version ∷ type ∷ [] in
-    let total-kept : (weight : Row → ℕ) → total weight version type (run ss b .blocks) ≡ total weight version type (b .blocks) =
-    λ weight. kept-slips (total weight version type) (touches version type) (λ x z e. total-granted weight version type (rowIn x) (wish (fields x)) z e) ss b h in
     type-asked (run ss b) (left-standing (run ss b) (run-left b ss l)) version type
     ∙ ap (λ (z : List Row). typeAnswered (nowhere (notThere when not (stands 2 key z))) (total seconds version type (run ss b .blocks)) (total (λ x. 1) version type (run ss b .blocks)))
     (other-tables-kept b ss l .0)
-    ∙ ap (λ (z : ℕ). typeAnswered (nowhere (notThere when not (stands 2 key (b .types)))) z (total (λ x. 1) version type (run ss b .blocks))) (total-kept seconds)
-    ∙ ap (λ (z : ℕ). typeAnswered (nowhere (notThere when not (stands 2 key (b .types)))) (total seconds version type (b .blocks)) z) (total-kept (λ x. 1))
+    ∙ ap (λ (z : ℕ). typeAnswered (nowhere (notThere when not (stands 2 key (b .types)))) z (total (λ x. 1) version type (run ss b .blocks))) (total-kept b ss version type h seconds)
+    ∙ ap (λ (z : ℕ). typeAnswered (nowhere (notThere when not (stands 2 key (b .types)))) (total seconds version type (b .blocks)) z) (total-kept b ss version type h (λ x. 1))
     ∙ sym (type-asked b (left-standing b l) version type)

@@ -246,4 +246,4 @@ years-fault-ruled-out k ed d b ss book work version type a e m n there =
   where
     moved : (weight : Row → ℕ) → {n : ℕ} → n ≡ total weight version type (run ss b .blocks) →
         n + total weight version type (allTaken (honoured ss b) b) ≡ total weight version type (rowsOf ed Block (d .blocks)) + total weight version type (allBrought (honoured ss b))
-    moved weight f = omega (arith, f, shares-stored weight version type .2 b ss, weighed-exactly ed d b e weight version type)
+    moved weight f = omega (arith, f, shares-stored weight version type .2 b ss, weighed-exactly ed d b Block (total weight version type) (total-weighs weight version type) e)

@@ -17,14 +17,14 @@ pub data Case : Type 0 where
   -- the cell of that table and column in line 2 of a text: number, table, line, column; 1 and its value, or 2 and its stretch, or 3 and an
   -- equipment, or zeros
   cell : ℕ → ℕ → String → List ℕ → Case
-  -- five texts and no slip: the day sheet
+  -- five texts, a calendar of its header alone, and no slip: the day sheet
   day : String → String → String → String → String → String → Case
   -- a cell as it stands: how many bytes its content has
   long : String → ℕ → Case
 
 abbrev pub passes : Case → Bool
 passes (cell table column s answer) = same (cellPaper (cellAsked 21 (bytes s) table 2 column)) answer
-passes (day s1 s2 s3 s6 s4 out) = same (sheet Dino21 (record { types = bytes s1; depots = bytes s2; stops = bytes s3; points = bytes s6; blocks = bytes s4 }) []) (bytes out)
+passes (day s1 s2 s3 s6 s4 out) = same (sheet Dino21 (record { types = bytes s1; depots = bytes s2; stops = bytes s3; points = bytes s6; blocks = bytes s4; days = bytes "VERSION;DAY;DAY_TYPE_NR\n" }) []) (bytes out)
 passes (long s n) = eqb (length (content (bytes s))) n
 
 -- a d2 cell, a c40 cell, a c4 cell, an ACCESS_EQUIP, each in a vehicle_type

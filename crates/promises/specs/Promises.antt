@@ -24,7 +24,7 @@ use Rattle.editions.specs.declared.Edition.{Edition}
 use Rattle.tables.specs.Columns.{number, keyWidth, columnsOf, keptWidth, columnAt, references}
 use Rattle.tables.specs.Parts.{bookRows}
 use Rattle.tables.specs.declared.Table.{Table}
-use Rattle.tables.specs.declared.Table.the-variants.{VehicleType, Depot, Stop, StopPoint, Block}
+use Rattle.tables.specs.declared.Table.the-variants.{VehicleType, Depot, Stop, StopPoint, Block, Calendar}
 use Rattle.tables.specs.declared.Rules.{Rules}
 use Rattle.tables.specs.declared.Sort.{Sort}
 use Rattle.tables.specs.declared.Sort.the-variants as sort-is
@@ -62,6 +62,8 @@ use Rattle.writer.specs.Writing.{written, linesWritten, namesLine, rowLine}
 use Rattle.writer.specs.Calls as write-call
 use Rattle.sheet.specs.Calls.{sheetCall, SheetPermits}
 use Rattle.sheet.specs.Sheet.{sheetRoom}
+use Rattle.seasons.specs.Calls.{SeasonPermits}
+use Rattle.seasons.specs.declared.SeasonAnswer.{SeasonAnswer}
 use Rattle.abi.specs.Calls as for-c
 use Rattle.fault_mark.specs.Marks.{MarkPermits, NumberedPermits}
 use Rattle.fault_mark.specs.declared.Mark.{Mark}
@@ -84,6 +86,7 @@ Determined = ((n : ℕ) (d : Delivery) (book : List Row) → Single read-call.Ou
     × ((n : ℕ) (d : Delivery) (s : Bytes) (book work : List Row) → Single slip-call.Outcome (DayPermits n d s book work))
     × ((book : List Row) (version type : ℕ) → Single TypeAnswer (TypePermits book version type))
     × ((book : List Row) (version day depot block : ℕ) → Single BlockAnswer (BlockPermits book version day depot block))
+    × ((book : List Row) (version type first last : ℕ) → Single SeasonAnswer (SeasonPermits book version type first last))
     × ((book : List Row) (out : Bytes) → Single write-call.Outcome (WritePermits book out))
     × ((v : Verdict) (book : List Row) (out : Bytes) → Single write-call.Outcome (SheetPermits v book out))
     × ((e : Edition) (s : Bytes) (p : Place) → Single Mark (MarkPermits e s p))
@@ -98,6 +101,7 @@ DeterminedForC = ((n : ℕ) (d : Delivery) (book : List Row) → Single (ℕ × 
     × ((n : ℕ) (s : Bytes) (table line k : ℕ) → Single (ℕ × List ℕ × List ℕ) (λ o. for-c.CellPermits n s table line k (o .0) (o .1) (o .2)))
     × ((book : List Row) (version type : ℕ) → Single (ℕ × List ℕ × List ℕ) (λ o. for-c.TypePermits book version type (o .0) (o .1) (o .2)))
     × ((book : List Row) (version day depot block : ℕ) → Single (ℕ × List ℕ × List ℕ) (λ o. for-c.BlockPermits book version day depot block (o .0) (o .1) (o .2)))
+    × ((book : List Row) (version type first last : ℕ) → Single (ℕ × List ℕ × List ℕ) (λ o. for-c.SeasonPermits book version type first last (o .0) (o .1) (o .2)))
     × ((book : List Row) (out : Bytes) → Single (ℕ × List ℕ × List ℕ × Bytes) (λ o. for-c.WritePermits book out (o .0) (o .1) (o .2) (o .3)))
     × ((call : radio-is.Outcome) → Single (ℕ × List ℕ × Slices) (λ o. for-c.RadioPermits call (o .0) (o .1) (o .2)))
 
@@ -112,13 +116,13 @@ unnamed k = eqb k 0
 abbrev pub anyCell : ℕ → Bool
 anyCell k = ltb 0 k && leb k (suc mostBytes)
 
--- "A d cell is 1 to N digits"; "A d column with no range named takes every number of its width, zero too."
+-- "A d cell is 1 to N digits"; "A d column with no range named takes every number of its width, zero too."; of days a date is named
 abbrev pub ofNumbers : Sort → Bool
 ofNumbers sort-is.Decimal = true
 ofNumbers sort-is.Text = false
 
 abbrev pub rangeNamed : Rules → Bool
-rangeNamed x = not (eqb (x .low) 0 && eqb (x .high) (10 ^ x .width - 1))
+rangeNamed x = x .date || not (eqb (x .low) 0 && eqb (x .high) (10 ^ x .width - 1))
 
 -- a column of the table, a required one, one of numbers, one with a range, one that refers to another table
 abbrev pub anyColumn : Edition → Table → ℕ → Bool
@@ -363,17 +367,19 @@ SlipRefusedAtFirst = (s : Bytes) (b : Book) (p : Place) →
     (posting s b ≡ refused p)
     ↔ (((overlong s ≡ true) × (paper (Refused p) ≡ 1 ∷ 5 ∷ 0 ∷ 0 ∷ [])) ⊎ ((overlong s ≡ false) × FirstFault slipCheck slipLeaves 5 suc (slipLines s) b p))
 
--- the five tables in order: each is read on the book that the ones before it leave
+-- the six tables in order: each is read on the book that the ones before it leave
 pub record InOrder (e : Edition) (d : Delivery) (b : Book) : Type 0 where
   pub behind-types : Book
   pub behind-depots : Book
   pub behind-stops : Book
   pub behind-points : Book
+  pub behind-blocks : Book
   pub types : tableRead VehicleType (d .types) (emptyBy e) ≡ leaves behind-types
   pub depots : tableRead Depot (d .depots) behind-types ≡ leaves behind-depots
   pub stops : tableRead Stop (d .stops) behind-depots ≡ leaves behind-stops
   pub points : tableRead StopPoint (d .points) behind-stops ≡ leaves behind-points
-  pub blocks : tableRead Block (d .blocks) behind-points ≡ leaves b
+  pub blocks : tableRead Block (d .blocks) behind-points ≡ leaves behind-blocks
+  pub days : tableRead Calendar (d .days) behind-blocks ≡ leaves b
 
 abbrev pub DeliveryInOrder : Type 0
 DeliveryInOrder = (e : Edition) (d : Delivery) (b : Book) → (reading e d ≡ leaves b) ↔ InOrder e d b
@@ -388,6 +394,9 @@ pub data FaultyTable (e : Edition) (d : Delivery) (p : Place) : Type 0 where
       tableRead Stop (d .stops) c ≡ leaves f → tableRead StopPoint (d .points) f ≡ refused p → FaultyTable e d p
   in-blocks : (b c f g : Book) → tableRead VehicleType (d .types) (emptyBy e) ≡ leaves b → tableRead Depot (d .depots) b ≡ leaves c →
       tableRead Stop (d .stops) c ≡ leaves f → tableRead StopPoint (d .points) f ≡ leaves g → tableRead Block (d .blocks) g ≡ refused p → FaultyTable e d p
+  in-days : (b c f g h : Book) → tableRead VehicleType (d .types) (emptyBy e) ≡ leaves b → tableRead Depot (d .depots) b ≡ leaves c →
+      tableRead Stop (d .stops) c ≡ leaves f → tableRead StopPoint (d .points) f ≡ leaves g → tableRead Block (d .blocks) g ≡ leaves h →
+      tableRead Calendar (d .days) h ≡ refused p → FaultyTable e d p
 
 abbrev pub DeliveryRefused : Type 0
 DeliveryRefused = (e : Edition) (d : Delivery) (p : Place) → (reading e d ≡ refused p) ↔ FaultyTable e d p
@@ -403,6 +412,7 @@ textOf Depot d = d .depots
 textOf Stop d = d .stops
 textOf StopPoint d = d .points
 textOf Block d = d .blocks
+textOf Calendar d = d .days
 
 -- how many of the rows are this row
 unfoldable pub copies : Row → List Row → ℕ
@@ -464,7 +474,7 @@ StretchesAgree = (n : ℕ) (e : Edition) (t : Table) (s : Bytes) (line k : ℕ) 
 
 -- the delivery with another text of blocks
 abbrev pub with-blocks : Bytes → Delivery → Delivery
-with-blocks s d = record { types = d .types; depots = d .depots; stops = d .stops; points = d .points; blocks = s }
+with-blocks s d = record { types = d .types; depots = d .depots; stops = d .stops; points = d .points; blocks = s; days = d .days }
 
 -- "Blocks written out and read back give the same book": with the same other tables
 abbrev pub ReadsBack : Type 0
@@ -713,7 +723,7 @@ TypesKept = (b : Book) (ss : List Bytes) (version type : ℕ) → Left b → som
 -- and the other tables and the edition, which no slip touches
 abbrev pub OtherTablesKept : Type 0
 OtherTablesKept = (b : Book) (ss : List Bytes) → Left b →
-    (run ss b .types ≡ b .types) × (run ss b .depots ≡ b .depots) × (run ss b .stops ≡ b .stops) × (run ss b .points ≡ b .points) × (run ss b .edition ≡ b .edition)
+    (run ss b .types ≡ b .types) × (run ss b .depots ≡ b .depots) × (run ss b .stops ≡ b .stops) × (run ss b .points ≡ b .points) × (run ss b .days ≡ b .days) × (run ss b .edition ≡ b .edition)
 
 -- "The book rule: it is a book that some accepted delivery leaves." A slip, accepted or not, leaves a book that keeps the rule
 abbrev pub RuleKept : Type 0

@@ -16,7 +16,7 @@ use Rattle.editions.specs.declared.Choice.the-variants.{Chosen, Unknown}
 use Rattle.editions.specs.declared.Edition.{Edition}
 use Rattle.tables.specs.Columns.{number}
 use Rattle.tables.specs.declared.Table.{Table}
-use Rattle.tables.specs.declared.Table.the-variants.{VehicleType, Depot, Stop, StopPoint, Block}
+use Rattle.tables.specs.declared.Table.the-variants.{VehicleType, Depot, Stop, StopPoint, Block, Calendar}
 use Rattle.book.specs.Book.{Book}
 use Rattle.book.specs.Room.{laid}
 use Rattle.book.specs.Result.{Result, refused, leaves, _▹_}
@@ -49,7 +49,7 @@ abbrev pub callsFor : (Table → ℕ) → (Table → List Bytes) → Table → L
 callsFor a ps t = announce (a t) ∷ parts (ps t)
 
 unfoldable pub callsOf : (Table → ℕ) → (Table → List Bytes) → List Call
-callsOf a ps = callsFor a ps VehicleType ++ (callsFor a ps Depot ++ (callsFor a ps Stop ++ (callsFor a ps StopPoint ++ callsFor a ps Block)))
+callsOf a ps = callsFor a ps VehicleType ++ (callsFor a ps Depot ++ (callsFor a ps Stop ++ (callsFor a ps StopPoint ++ (callsFor a ps Block ++ callsFor a ps Calendar))))
 
 -- the whole reading, however it was cut ----------------------------------------------------------------------------------------
 
@@ -79,7 +79,7 @@ DeliveryHeard = (e : Edition) (a : Table → ℕ) (ps : Table → List Bytes) �
 
 -- "When the announced bytes have come, verdict, place and book are those of the whole reading"
 abbrev pub deliveryOf : Sending → Delivery
-deliveryOf d = record { types = d .sent VehicleType; depots = d .sent Depot; stops = d .sent Stop; points = d .sent StopPoint; blocks = d .sent Block }
+deliveryOf d = record { types = d .sent VehicleType; depots = d .sent Depot; stops = d .sent Stop; points = d .sent StopPoint; blocks = d .sent Block; days = d .sent Calendar }
 
 abbrev pub HeardAsRead : Type 0
 HeardAsRead = (e : Edition) (d : Sending) → ((t : Table) → d .announced t ≡ length (d .sent t)) → hearing e d ≡ reading e (deliveryOf d)

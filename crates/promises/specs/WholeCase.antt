@@ -1,4 +1,4 @@
--- The whole case of document 01, with the points 20/1 and 31/2.
+-- The whole case of document 01, with the points 20/1 and 31/2 and "a calendar of its header alone".
 use mathlib.Core.Path.{_≡_}
 use mathlib.Core.List.{[]}
 use Rattle.words.specs.Words.{bytes, Bytes}
@@ -14,6 +14,7 @@ delivery =
       stops = bytes "VERSION;STOP_NR;STOP_NAME\n1;20;Yard\n1;31;Mill\n";
       points = bytes "VERSION;STOP_NR;STOPPING_POINT_NR\n1;20;1\n1;31;2\n";
       blocks = bytes "VERSION;DAY_TYPE_NR;DEPOT_NR;BLOCK_NR;VEH_TYP_NR;DEP_STOP_NR;DEP_STOPPING_POINT_NR;BEGIN_OF_BLOCK;ARR_STOP_NR;ARR_STOPPING_POINT_NR;END_OF_BLOCK\n1;5;3;101;4;20;1;18000;31;2;46800\n1;5;3;102;7;31;2;21600;20;1;25201\n1;6;3;101;4;20;1;80000;20;1;90000\n";
+      days = bytes "VERSION;DAY;DAY_TYPE_NR\n";
     }
 
 abbrev pub slip : Bytes

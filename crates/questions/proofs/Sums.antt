@@ -6,10 +6,10 @@ use Prim.Native.Nat.{ℕ, zero, suc, _≤_, _<_, _+_, _*_}
 use native.Mathlib.Omega.{arith}
 use native.Mathlib.Numerals.{add-one}
 use native.Mathlib.Nat.{mul-suc}
-use lib.Dec.{leb, eqb}
+use lib.Dec.{eqb}
 use lib.ListN.{length, getD, take, drop, drop-of-length-le}
 use lib.Seq.{getD-take}
-use borrow.Author.Tests.{leb-true, ne-eqb, eq-eqb}
+use borrow.Author.Tests.{ne-eqb, eq-eqb}
 use Rattle.words.specs.Words.{Row, same, if_then_else_}
 use Rattle.words.proofs.Lists.{and-left, and-right, drop-step}
 use Rattle.refusals.specs.Verdicts.{passes}
@@ -18,6 +18,7 @@ use Rattle.tables.specs.Columns.{Column, noColumn, inRange, columnsOf, columnAt
 use Rattle.tables.specs.declared.Table.{Table}
 use Rattle.tables.specs.declared.Table.the-variants.{Block}
 use Rattle.tables.proofs.Figures.{kept-columns}
+use Rattle.ranges.proofs.Ranges.{range-within}
 use Rattle.book.specs.Book.{Book}
 use Rattle.book.specs.Room.{bookOf}
 use Rattle.rules.specs.Rules.{timeFault, unknown, seconds}
@@ -32,8 +33,7 @@ ranged-high : (xs : List Column) (ns : List ℕ) → ranged xs ns ≡ true → (
 unfolding ranged
 ranged-high [] ns e i h = absurd (omega arith)
 ranged-high (x ∷ xs) [] e i h = omega arith
-ranged-high (x ∷ xs) (n ∷ ns) e zero h =
-    leb-true n (x .rules .high) (and-right (leb (x .rules .low) n) (leb n (x .rules .high)) (and-left (inRange (x .rules) n) (ranged xs ns) e))
+ranged-high (x ∷ xs) (n ∷ ns) e zero h = range-within (x .rules) n (and-left (inRange (x .rules) n) (ranged xs ns) e) .1
 ranged-high (x ∷ xs) (n ∷ ns) e (suc i) h = ranged-high xs ns (and-right (inRange (x .rules) n) (ranged xs ns) e) i (omega arith)
 
 module _ (t : Table) (b : Book) (row : Row) (law : lawful t b row ≡ true) where

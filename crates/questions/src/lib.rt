@@ -39,7 +39,7 @@ pub struct Totals {
     pub count: u64,
 }
 
-fn of_type(row: Row, version: u64, number: u64) -> bool
+pub fn of_type(row: Row, version: u64, number: u64) -> bool
     ensures { λ r. ⌜ r ≡ ofType version number row ⌝ }
 {
     if row[0] != version {
@@ -56,7 +56,7 @@ fn share(here: bool, weight: u64) -> u64
 }
 
 // The seconds of a block. As in the definition, nothing is asked of the row: an end below its begin that is 11 leaves 0.
-fn seconds_of(row: Row) -> u64
+pub fn seconds_of(row: Row) -> u64
     ensures { λ r. ⌜ r ≡ seconds row ⌝ }
 {
     if rules::overnight(row) {

@@ -17,7 +17,7 @@ use Rattle.rows.proofs.Room.{sameRows-refl, sameRows-true}
 use Rattle.editions.specs.declared.Edition.{Edition}
 use Rattle.tables.specs.Parts.{bookRows}
 use Rattle.tables.specs.declared.Table.{Table}
-use Rattle.tables.specs.declared.Table.the-variants.{VehicleType, Depot, Stop, StopPoint, Block}
+use Rattle.tables.specs.declared.Table.the-variants.{VehicleType, Depot, Stop, StopPoint, Block, Calendar}
 use Rattle.book.specs.Book.{empty}
 use Rattle.book.specs.Result.{Result, refused, leaves}
 use Rattle.book.proofs.Laying.{book-laid, sound-laid, Orderly, orderly-empty}
@@ -87,6 +87,8 @@ found-awaits StopPoint (refused p) e = refl
 found-awaits StopPoint (leaves b) e = rw (book-laid b e)
 found-awaits Block (refused p) e = refl
 found-awaits Block (leaves b) e = rw (book-laid b e)
+found-awaits Calendar (refused p) e = refl
+found-awaits Calendar (leaves b) e = rw (book-laid b e)
 
 found-over : (r : Result) → OrderlyIn r → radioIn (laidOut (over r)) ≡ over r
 unfolding radioIn laidOut
@@ -100,6 +102,7 @@ found-table Depot a n c = refl
 found-table Stop a n c = refl
 found-table StopPoint a n c = refl
 found-table Block a n c = refl
+found-table Calendar a n c = refl
 
 found-course : (t : Table) (a n : ℕ) (c : Course) → lawfulCourse t n c ≡ true → OrderlyIn (cameTo c) → courseIn (laidOut (hears t a n c)) ≡ c
 unfolding laidOut

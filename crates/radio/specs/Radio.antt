@@ -16,7 +16,7 @@ use Rattle.cells.specs.declared.State.the-variants.{Fresh}
 use Rattle.lines.specs.Lines.{endsRow, quotingBehind, lineAfter, mostBytes, mostLine}
 use Rattle.tables.specs.Columns.{number}
 use Rattle.tables.specs.declared.Table.{Table}
-use Rattle.tables.specs.declared.Table.the-variants.{VehicleType, Depot, Stop, StopPoint, Block}
+use Rattle.tables.specs.declared.Table.the-variants.{VehicleType, Depot, Stop, StopPoint, Block, Calendar}
 use Rattle.book.specs.Book.{Book, emptyBy, entered}
 use Rattle.book.specs.Result.{Result, refused, leaves, unless, _▹_}
 use Rattle.header.specs.Header.{Header, header, headerCheck}
@@ -51,6 +51,7 @@ hearing e d =
     ▹ heard Stop (d .announced Stop) (d .sent Stop)
     ▹ heard StopPoint (d .announced StopPoint) (d .sent StopPoint)
     ▹ heard Block (d .announced Block) (d .sent Block)
+    ▹ heard Calendar (d .announced Calendar) (d .sent Calendar)
 
 -- "What is kept between parts" ------------------------------------------------------------------------------------------------
 
@@ -165,7 +166,8 @@ next VehicleType r = awaits Depot r
 next Depot r = awaits Stop r
 next Stop r = awaits StopPoint r
 next StopPoint r = awaits Block r
-next Block r = over r
+next Block r = awaits Calendar r
+next Calendar r = over r
 
 abbrev pub begun : Result → Course
 begun (refused p) = stopped p

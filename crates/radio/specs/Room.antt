@@ -16,7 +16,7 @@ use Rattle.lines.specs.Lines.{mostLine}
 use Rattle.rows.specs.Room.{sameRows}
 use Rattle.tables.specs.Parts.{partOf, tables, bookRows}
 use Rattle.tables.specs.declared.Table.{Table}
-use Rattle.tables.specs.declared.Table.the-variants.{Block}
+use Rattle.tables.specs.declared.Table.the-variants.{Calendar}
 use Rattle.book.specs.Book.{empty}
 use Rattle.book.specs.Room.{laid, bookOf}
 use Rattle.book.specs.Result.{Result, refused, leaves}
@@ -107,7 +107,7 @@ laidOut k = record { book = laidBook (standing k); numbers = laidNumbers k; line
 -- and found again -----------------------------------------------------------------------------------------------------------------
 
 abbrev pub tableAt : ℕ → Table
-tableAt i = getD tables i Block
+tableAt i = getD tables i Calendar
 
 -- the numbers by their places
 abbrev pub turnOf : List ℕ → ℕ

@@ -16,8 +16,8 @@ use Rattle.keeping.specs.Keeping.{lawfulBook}
 use Rattle.header.specs.Header.{member, headerCheck}
 use Rattle.radio.specs.Radio.{Course, stopped, going, Radio, awaits, hears, over, mostCounted, keptLine, none}
 
--- "Numbers of refusal": those of tables that are read, whole or by radio. 12 and 13 are a slip's, 14 is the writer's, 15, 16 and 22 are of what
--- is asked and lent
+-- "Numbers of refusal": those of tables that are read, whole or by radio. 12 and 13 are a slip's, 14 is the writer's, 15, 16, 22 and 23 are of
+-- what is asked and lent
 abbrev pub readingNumbers : List ℕ
 readingNumbers = 1 ∷ 2 ∷ 3 ∷ 4 ∷ 5 ∷ 6 ∷ 7 ∷ 8 ∷ 9 ∷ 10 ∷ 11 ∷ 17 ∷ 18 ∷ 19 ∷ 20 ∷ 21 ∷ []
 

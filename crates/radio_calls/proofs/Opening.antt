@@ -12,7 +12,7 @@ use Rattle.editions.specs.declared.Edition.{Edition}
 use Rattle.editions.specs.declared.Choice.{Choice}
 use Rattle.editions.specs.declared.Choice.the-variants.{Chosen, Unknown}
 use Rattle.tables.specs.declared.Table.{Table}
-use Rattle.tables.specs.declared.Table.the-variants.{VehicleType, Depot, Stop, StopPoint, Block}
+use Rattle.tables.specs.declared.Table.the-variants.{VehicleType, Depot, Stop, StopPoint, Block, Calendar}
 use Rattle.book.specs.Result.{Result, refused, leaves}
 use Rattle.radio.specs.Radio.{awaits, hears, announce, counted, begun}
 use Rattle.radio.specs.Room.{Slices, outcome, laidOut, tableAt, resultIn, fits, keepsRadio, radioCall, openBy, openCall, radioNumbers, allClosed, turnOf}
@@ -50,6 +50,8 @@ announced-laid StopPoint (refused p) a = refl
 announced-laid StopPoint (leaves b) a = refl
 announced-laid Block (refused p) a = refl
 announced-laid Block (leaves b) a = refl
+announced-laid Calendar (refused p) a = refl
+announced-laid Calendar (leaves b) a = refl
 
 pub announced : (s : Slices) → keepsRadio s ≡ true → (a : ℕ) → turnOf (s .numbers) < allClosed
     → outcome Accepted (slices (s .book) (numbersAnnounced (counted a) (s .numbers)) (s .lines)) ≡ radioCall (announce a) s

@@ -14,7 +14,7 @@ use Rattle.refusals.specs.declared.Place.{Place}
 use Rattle.refusals.specs.declared.Verdict.{Verdict}
 use Rattle.refusals.specs.declared.Verdict.the-variants.{Accepted, Refused}
 use Rattle.tables.specs.declared.Table.{Table}
-use Rattle.tables.specs.declared.Table.the-variants.{VehicleType, Depot, Stop, StopPoint, Block}
+use Rattle.tables.specs.declared.Table.the-variants.{VehicleType, Depot, Stop, StopPoint, Block, Calendar}
 use Rattle.book.specs.Result.{Result}
 use Rattle.radio.specs.Radio.{Radio, awaits, hears, over, Call, announce, part, close, counted, begun, closing, next, after, inTurn, answer, standing, partTaken, byteTaken, verdictOf}
 use Rattle.radio.specs.Room.{Slices, outcome, laidOut, tableAt, resultIn, courseIn, radioIn, keepsRadio, radioCall, firstHeard, allClosed, turnOf, announcedOf, comeOf, lastHeard}
@@ -189,3 +189,4 @@ module _ (s : Slices) (keeps : keepsRadio s ≡ true) (h : firstHeard ≤ turnOf
       stands Stop r = refl
       stands StopPoint r = refl
       stands Block r = refl
+      stands Calendar r = refl

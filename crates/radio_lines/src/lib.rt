@@ -25,7 +25,6 @@ use editions::Edition;
 use refusals::Check;
 use refusals::Place;
 use refusals::Verdict;
-use rows::ROWS;
 use rows::Row;
 use tables::Table;
 
@@ -46,7 +45,7 @@ pub fn too_long(t: Table, line: u64, book: &[Row]) -> Verdict
     if line == Place::HEADER_LINE {
         return Check::line_too_long().on(t.number(), line);
     }
-    if ROWS <= book::count_rows(book, t) {
+    if t.room() <= book::count_rows(book, t) {
         return Check::too_many_rows().on(t.number(), line);
     }
     Check::line_too_long().on(t.number(), line)

@@ -13,7 +13,7 @@ use Rattle.tables.specs.Columns.{number, numbered}
 use Rattle.tables.specs.Parts.{tables}
 use Rattle.tables.specs.declared.Named.{Named}
 use Rattle.tables.specs.declared.Named.the-variants.{Known, Unknown}
-use Rattle.tables.specs.declared.Table.the-variants.{VehicleType, Depot, Stop, StopPoint, Block}
+use Rattle.tables.specs.declared.Table.the-variants.{VehicleType, Depot, Stop, StopPoint, Block, Calendar}
 use Rattle.header.specs.Header.{member}
 use Rattle.radio.specs.Rule.{readingNumbers, lawfulFault}
 use Rattle.radio_rule.specs.Testing.{stretch, zeros, fault, faultPlace, faultKeeps}
@@ -43,18 +43,19 @@ known Unknown = false
 
 known-number : (n : ℕ) → known (numbered n) ≡ member n (map number tables)
 unfolding member
-known-number n = go (eqb n 1) (eqb n 2) (eqb n 3) (eqb n 4) (eqb n 6)
+known-number n = go (eqb n 1) (eqb n 2) (eqb n 3) (eqb n 4) (eqb n 6) (eqb n 7)
   where
-    go : (a b c d e : Bool) →
-        known (if a then Known VehicleType else if b then Known Depot else if c then Known Stop else if d then Known Block else if e then Known StopPoint else Unknown)
-        ≡ (a || (b || (c || (e || (d || false)))))
-    go true b c d e = refl
-    go false true c d e = refl
-    go false false true d e = refl
-    go false false false true true = refl
-    go false false false true false = refl
-    go false false false false true = refl
-    go false false false false false = refl
+    go : (a b c d e f : Bool) →
+        known (if a then Known VehicleType else if b then Known Depot else if c then Known Stop else if d then Known Block else if e then Known StopPoint else if f then Known Calendar else Unknown)
+        ≡ (a || (b || (c || (e || (d || (f || false))))))
+    go true b c d e f = refl
+    go false true c d e f = refl
+    go false false true d e f = refl
+    go false false false true true f = refl
+    go false false false true false f = refl
+    go false false false false true f = refl
+    go false false false false false true = refl
+    go false false false false false false = refl
 
 module _ (n : ℕ) (r : Named) (e : r ≡ numbered n) where
   pub names-some : {t : _} → r ≡ Known t → member n (map number tables) ≡ true

@@ -9,6 +9,7 @@ use lib.ListN.{length, getD, drop, replicate, drop-of-length-le}
 use borrow.Author.Tests.{lt-ltb, le-ltb, le-leb, lt-leb, eq-eqb, ne-eqb, leb-true, ltb-true, ltb-false, eqb-true, eqb-false}
 use Rattle.words.specs.Words.{if_then_else_}
 use Rattle.words.proofs.Lists.{drop-step, and-left, and-right}
+use Rattle.radio.specs.Room.{firstHeard, lastHeard}
 use Rattle.radio_rule.specs.Testing.{stretch, zeros, turn, announced, come, line, headLength, restLength, fault, faultKeeps, courseKeeps, heardKeeps, numbersKeep}
 use Rattle.radio_rule.proofs.Zeros.{zeros-true}
 
@@ -53,23 +54,23 @@ module _ (ns : List ℕ) where
       pub heard-stopped : (fault ns ≡ 0 → ⊥) → heardKeeps ns ≡ zeros (stretch 3 6 ns)
       heard-stopped n = rw (le-leb (announced ns) 65537 a, le-leb (come ns) 65537 b, ne-eqb (fault ns) 0 n)
 
-  pub numbers-turn : 10 < turn ns → numbersKeep ns ≡ false
+  pub numbers-turn : lastHeard < turn ns → numbersKeep ns ≡ false
   unfolding numbersKeep
-  numbers-turn h = rw (lt-leb (turn ns) 10 h)
+  numbers-turn h = rw (lt-leb (turn ns) lastHeard h)
 
-  module _ (a : turn ns ≤ 10) where
+  module _ (a : turn ns ≤ lastHeard) where
     pub numbers-fault : faultKeeps ns ≡ false → numbersKeep ns ≡ false
     unfolding numbersKeep
-    numbers-fault e = rw (le-leb (turn ns) 10 a, e)
+    numbers-fault e = rw (le-leb (turn ns) lastHeard a, e)
 
     module _ (e : faultKeeps ns ≡ true) where
-      pub numbers-between : turn ns < 6 → numbersKeep ns ≡ zeros (stretch 1 6 ns)
+      pub numbers-between : turn ns < firstHeard → numbersKeep ns ≡ zeros (stretch 1 6 ns)
       unfolding numbersKeep
-      numbers-between h = rw (le-leb (turn ns) 10 a, e, lt-ltb (turn ns) 6 h)
+      numbers-between h = rw (le-leb (turn ns) lastHeard a, e, lt-ltb (turn ns) firstHeard h)
 
-      pub numbers-heard : 6 ≤ turn ns → numbersKeep ns ≡ heardKeeps ns
+      pub numbers-heard : firstHeard ≤ turn ns → numbersKeep ns ≡ heardKeeps ns
       unfolding numbersKeep
-      numbers-heard h = rw (le-leb (turn ns) 10 a, e, le-ltb (turn ns) 6 h)
+      numbers-heard h = rw (le-leb (turn ns) lastHeard a, e, le-ltb (turn ns) firstHeard h)
 
 -- of a table that is heard, without a fault
 module _ (ns : List ℕ) where
@@ -131,23 +132,23 @@ heard ns e =
     record { announced = k .0; came = k .1; going = λ z. course ns (rw (eq-eqb (fault ns) 0 z) at (k .2)); stopped = λ n. rw (ne-eqb (fault ns) 0 n) at (k .2) }
 
 pub record Numbers (ns : List ℕ) : Type 0 where
-  pub turns : turn ns ≤ 10
+  pub turns : turn ns ≤ lastHeard
   pub faults : faultKeeps ns ≡ true
-  pub between : turn ns < 6 → zeros (stretch 1 6 ns) ≡ true
-  pub hears : 6 ≤ turn ns → Heard ns
+  pub between : turn ns < firstHeard → zeros (stretch 1 6 ns) ≡ true
+  pub hears : firstHeard ≤ turn ns → Heard ns
 
 pub numbers : (ns : List ℕ) → numbersKeep ns ≡ true → Numbers ns
 unfolding numbersKeep
 numbers ns e =
-    let f = if ltb (turn ns) 6 then zeros (stretch 1 6 ns) else heardKeeps ns in
-    let k = and-three (leb (turn ns) 10) (faultKeeps ns) f e in
-    record { turns = leb-true (turn ns) 10 (k .0); faults = k .1; between = λ h. rw (lt-ltb (turn ns) 6 h) at (k .2); hears = λ h. heard ns (rw (le-ltb (turn ns) 6 h) at (k .2)) }
+    let f = if ltb (turn ns) firstHeard then zeros (stretch 1 6 ns) else heardKeeps ns in
+    let k = and-three (leb (turn ns) lastHeard) (faultKeeps ns) f e in
+    record { turns = leb-true (turn ns) lastHeard (k .0); faults = k .1; between = λ h. rw (lt-ltb (turn ns) firstHeard h) at (k .2); hears = λ h. heard ns (rw (le-ltb (turn ns) firstHeard h) at (k .2)) }
 
 -- both lines have room, and there is a header line only where a table is heard
 pub record Lengths (ns : List ℕ) : Type 0 where
   pub head : headLength ns ≤ 2048
   pub rest : restLength ns ≤ 2049
-  pub table : 1 < line ns → 6 ≤ turn ns
+  pub table : 1 < line ns → firstHeard ≤ turn ns
 
 pub lengths : (ns : List ℕ) → length ns ≡ 11 → numbersKeep ns ≡ true → Lengths ns
 lengths ns l e = of-eleven (λ ms. Numbers ms → Lengths ms) all ns l (numbers ns e)
@@ -156,23 +157,23 @@ lengths ns l e = of-eleven (λ ms. Numbers ms → Lengths ms) all ns l (numbers 
     at i xs ys p = ap (λ (x : List ℕ). getD x i 0) p
 
     all : (a b c d f g h i j k m : ℕ) → Numbers (a ∷ b ∷ c ∷ d ∷ f ∷ g ∷ h ∷ i ∷ j ∷ k ∷ m ∷ []) → Lengths (a ∷ b ∷ c ∷ d ∷ f ∷ g ∷ h ∷ i ∷ j ∷ k ∷ m ∷ [])
-    all a b c d f g h i j k m n = go (ltb a 6) refl (eqb h 0) refl
+    all a b c d f g h i j k m n = go (ltb a firstHeard) refl (eqb h 0) refl
       where
         ms : List ℕ
         ms = a ∷ b ∷ c ∷ d ∷ f ∷ g ∷ h ∷ i ∷ j ∷ k ∷ m ∷ []
 
-        go : (q : Bool) → ltb a 6 ≡ q → (r : Bool) → eqb h 0 ≡ r → Lengths ms
+        go : (q : Bool) → ltb a firstHeard ≡ q → (r : Bool) → eqb h 0 ≡ r → Lengths ms
         go true p r o =
-            let z : (b ∷ c ∷ d ∷ f ∷ g ∷ []) ≡ replicate 5 0 = zeros-true (b ∷ c ∷ d ∷ f ∷ g ∷ []) 5 refl (n .between (ltb-true a 6 p)) in
+            let z : (b ∷ c ∷ d ∷ f ∷ g ∷ []) ≡ replicate 5 0 = zeros-true (b ∷ c ∷ d ∷ f ∷ g ∷ []) 5 refl (n .between (ltb-true a firstHeard p)) in
             let x : d ≡ 0 = at 2 (b ∷ c ∷ d ∷ f ∷ g ∷ []) (replicate 5 0) z in
             let y : f ≡ 0 = at 3 (b ∷ c ∷ d ∷ f ∷ g ∷ []) (replicate 5 0) z in
             let w : g ≡ 0 = at 4 (b ∷ c ∷ d ∷ f ∷ g ∷ []) (replicate 5 0) z in
             record { head = omega arith; rest = omega arith; table = λ s. absurd (omega arith) }
         go false p true o =
-            let u : Course ms = n .hears (ltb-false a 6 p) .going (eqb-true h 0 o) in
-            record { head = u .head; rest = u .rest; table = λ s. ltb-false a 6 p }
+            let u : Course ms = n .hears (ltb-false a firstHeard p) .going (eqb-true h 0 o) in
+            record { head = u .head; rest = u .rest; table = λ s. ltb-false a firstHeard p }
         go false p false o =
-            let z : (d ∷ f ∷ g ∷ []) ≡ replicate 3 0 = zeros-true (d ∷ f ∷ g ∷ []) 3 refl (n .hears (ltb-false a 6 p) .stopped (eqb-false h 0 o)) in
+            let z : (d ∷ f ∷ g ∷ []) ≡ replicate 3 0 = zeros-true (d ∷ f ∷ g ∷ []) 3 refl (n .hears (ltb-false a firstHeard p) .stopped (eqb-false h 0 o)) in
             let y : f ≡ 0 = at 1 (d ∷ f ∷ g ∷ []) (replicate 3 0) z in
             let w : g ≡ 0 = at 2 (d ∷ f ∷ g ∷ []) (replicate 3 0) z in
-            record { head = omega arith; rest = omega arith; table = λ s. ltb-false a 6 p }
+            record { head = omega arith; rest = omega arith; table = λ s. ltb-false a firstHeard p }

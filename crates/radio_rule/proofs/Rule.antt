@@ -28,7 +28,7 @@ use Rattle.refusals.specs.declared.Check.{Check}
 use Rattle.refusals.specs.declared.Check.the-variants.{Passes, Fails}
 use Rattle.radio.specs.Radio.{Course, stopped, going, Radio, awaits, hears, over, none, standing, cameTo}
 use Rattle.radio.specs.Rule.{lawfulFault, lawfulResult, lawfulHead, lawfulCourse, lawfulRadio}
-use Rattle.radio.specs.Room.{Slices, laidBook, laidFault, courseLines, laidNumbers, courseBytes, laidLines, laidOut, tableAt, faultIn, resultIn, courseIn, radioIn, fits, sameSlices, keepsRadio}
+use Rattle.radio.specs.Room.{Slices, allClosed, firstHeard, lastHeard, laidBook, laidFault, courseLines, laidNumbers, courseBytes, laidLines, laidOut, tableAt, faultIn, resultIn, courseIn, radioIn, fits, sameSlices, keepsRadio}
 use Rattle.radio_rule.specs.Lent.{slices}
 use Rattle.radio_rule.specs.Testing.{stretch, zeros, turn, announced, come, line, headLength, restLength, fault, faultKeeps, courseKeeps, numbersKeep, headerKeeps, linesKeep, bookKeeps}
 use Rattle.radio_rule.proofs.Zeros.{two, head-within, head-back, head-zeros, rest-zeros, head-long, rest-long, two-lines, zeros-true}
@@ -42,32 +42,33 @@ both-ways false false f g = refl
 
 -- turns -------------------------------------------------------------------------------------------------------------------------
 
-pub at-place : (i : ℕ) → i < 5 → partOf (tableAt i) ≡ i
+pub at-place : (i : ℕ) → i < allClosed → partOf (tableAt i) ≡ i
 at-place zero h = refl
 at-place (suc zero) h = refl
 at-place (suc (suc zero)) h = refl
 at-place (suc (suc (suc zero))) h = refl
 at-place (suc (suc (suc (suc zero)))) h = refl
-at-place (suc (suc (suc (suc (suc i))))) h = absurd (omega arith)
+at-place (suc (suc (suc (suc (suc zero))))) h = refl
+at-place (suc (suc (suc (suc (suc (suc i)))))) h = absurd (omega arith)
 
 -- what is laid out passes the tests ---------------------------------------------------------------------------------------------
 
 -- between tables
-between-keeps : (i : ℕ) (r : Result) → i < 6 → lawfulResult r ≡ true → numbersKeep (i ∷ replicate 5 0 ++ laidFault r) ≡ true
+between-keeps : (i : ℕ) (r : Result) → i < firstHeard → lawfulResult r ≡ true → numbersKeep (i ∷ replicate 5 0 ++ laidFault r) ≡ true
 unfolding numbersKeep zeros same
-between-keeps i (refused p) h e = rw (le-leb i 10 (omega arith), lt-ltb i 6 h, e)
-between-keeps i (leaves b) h e = rw (le-leb i 10 (omega arith), lt-ltb i 6 h)
+between-keeps i (refused p) h e = rw (le-leb i lastHeard (omega arith), lt-ltb i firstHeard h, e)
+between-keeps i (leaves b) h e = rw (le-leb i lastHeard (omega arith), lt-ltb i firstHeard h)
 
 module _ (t : Table) (a n : ℕ) where
   stopped-keeps : (ms : List ℕ) → faultKeeps (0 ∷ 0 ∷ 0 ∷ 0 ∷ 0 ∷ 0 ∷ ms) ≡ true → (getD ms 0 0 ≡ 0 → ⊥) → leb a 65537 ≡ true → leb n 65537 ≡ true
-      → numbersKeep ((6 + partOf t) ∷ a ∷ n ∷ 0 ∷ 0 ∷ 0 ∷ ms) ≡ true
+      → numbersKeep ((firstHeard + partOf t) ∷ a ∷ n ∷ 0 ∷ 0 ∷ 0 ∷ ms) ≡ true
   unfolding numbersKeep zeros same
-  stopped-keeps ms e m f g = rw (le-leb (6 + partOf t) 10 (omega (arith, part-below t)), e, le-ltb (6 + partOf t) 6 (omega arith), f, g, ne-eqb (getD ms 0 0) 0 m)
+  stopped-keeps ms e m f g = rw (le-leb (firstHeard + partOf t) lastHeard (omega (arith, part-below t)), e, le-ltb (firstHeard + partOf t) firstHeard (omega arith), f, g, ne-eqb (getD ms 0 0) 0 m)
 
   going-keeps : (i h r : ℕ) → leb a 65537 ≡ true → leb n 65537 ≡ true → courseKeeps (0 ∷ a ∷ n ∷ i ∷ h ∷ r ∷ replicate 5 0) ≡ true
-      → numbersKeep ((6 + partOf t) ∷ a ∷ n ∷ i ∷ h ∷ r ∷ replicate 5 0) ≡ true
+      → numbersKeep ((firstHeard + partOf t) ∷ a ∷ n ∷ i ∷ h ∷ r ∷ replicate 5 0) ≡ true
   unfolding numbersKeep zeros same
-  going-keeps i h r f g e = rw (le-leb (6 + partOf t) 10 (omega (arith, part-below t)), le-ltb (6 + partOf t) 6 (omega arith), f, g, e)
+  going-keeps i h r f g e = rw (le-leb (firstHeard + partOf t) lastHeard (omega (arith, part-below t)), le-ltb (firstHeard + partOf t) firstHeard (omega arith), f, g, e)
 
 -- a header line that is lawful is none on the first line
 first-head : (ed : Edition) (t : Table) (i : ℕ) (head : Bytes) → lawfulHead ed t i head ≡ true → (if eqb i 1 then eqb (length head) 0 else true) ≡ true
@@ -121,7 +122,7 @@ numbers-laid (hears t a n (going b i head rest)) e l =
     let g : Going (b .edition) t n i head rest = going-of t a n (b .edition) i head rest (lawfulBook b) (h .2) l in
     going-keeps t a n i (length head) (length rest) (h .0) (h .1)
     (rw (g .some, g .came, le-leb (length rest) 2049 (g .fit), le-leb (length head) 2048 (g .room), first-head (b .edition) t i head (g .top)))
-numbers-laid (over r) e l = between-keeps 5 r (omega arith) e
+numbers-laid (over r) e l = between-keeps allClosed r (omega arith) e
 
 -- two lines laid out
 lines-laid-as : (ed : Edition) (ns : List ℕ) (head rest : Bytes) → headLength ns ≡ length head → restLength ns ≡ length rest → length head ≤ 2048 → length rest ≤ 2049
@@ -137,8 +138,8 @@ lines-laid-as ed ns head rest e f h k g =
 lines-none : (ed : Edition) (i : ℕ) (r : Result) → linesKeep ed (i ∷ replicate 5 0 ++ laidFault r) (two 2048 2049 [] []) ≡ true
 lines-none ed i r = lines-laid-as ed (i ∷ replicate 5 0 ++ laidFault r) [] [] refl refl (omega arith) (omega arith) refl
 
-table-back : (t : Table) → tableAt ((6 + partOf t) - 6) ≡ t
-table-back t = let e : (6 + partOf t) - 6 ≡ partOf t = omega arith in ap tableAt e ∙ in-order t
+table-back : (t : Table) → tableAt ((firstHeard + partOf t) - firstHeard) ≡ t
+table-back t = let e : (firstHeard + partOf t) - firstHeard ≡ partOf t = omega arith in ap tableAt e ∙ in-order t
 
 -- a book that is left is of an edition
 abbrev Of : Edition → Result → Type 0
@@ -152,10 +153,10 @@ lines-laid ed (hears t a n (going b i head rest)) e l o =
     let h = heard-of t a n (going b i head rest) e in
     let g : Going (b .edition) t n i head rest = going-of t a n (b .edition) i head rest (lawfulBook b) (h .2) l in
     lines-laid-as ed (laidNumbers (hears t a n (going b i head rest))) head rest refl refl (g .room) (g .fit)
-    (ap (λ (s : Bytes). if ltb 1 i then passes (headerCheck ed (tableAt ((6 + partOf t) - 6)) s) else true) (head-back 2048 2049 head rest (g .room))
+    (ap (λ (s : Bytes). if ltb 1 i then passes (headerCheck ed (tableAt ((firstHeard + partOf t) - firstHeard)) s) else true) (head-back 2048 2049 head rest (g .room))
     ∙ ap (λ (u : Table). if ltb 1 i then passes (headerCheck ed u head) else true) (table-back t)
     ∙ later-head ed t i head (subst (λ (x : Edition). lawfulHead x t i head ≡ true) o (g .top)))
-lines-laid ed (over r) e l o = lines-none ed 5 r
+lines-laid ed (over r) e l o = lines-none ed allClosed r
 
 -- what is found again -----------------------------------------------------------------------------------------------------------
 
@@ -163,17 +164,17 @@ module _ (s : Slices) where
   abbrev ns : List ℕ
   ns = s .numbers
 
-  in-awaits : turn ns < 5 → radioIn s ≡ awaits (tableAt (turn ns)) (resultIn s)
+  in-awaits : turn ns < allClosed → radioIn s ≡ awaits (tableAt (turn ns)) (resultIn s)
   unfolding radioIn
-  in-awaits h = rw (lt-ltb (turn ns) 5 h)
+  in-awaits h = rw (lt-ltb (turn ns) allClosed h)
 
-  in-over : turn ns ≡ 5 → radioIn s ≡ over (resultIn s)
+  in-over : turn ns ≡ allClosed → radioIn s ≡ over (resultIn s)
   unfolding radioIn
-  in-over e = rw (le-ltb (turn ns) 5 (omega arith), eq-eqb (turn ns) 5 e)
+  in-over e = rw (le-ltb (turn ns) allClosed (omega arith), eq-eqb (turn ns) allClosed e)
 
-  in-hears : 6 ≤ turn ns → radioIn s ≡ hears (tableAt (turn ns - 6)) (announced ns) (come ns) (courseIn s)
+  in-hears : firstHeard ≤ turn ns → radioIn s ≡ hears (tableAt (turn ns - firstHeard)) (announced ns) (come ns) (courseIn s)
   unfolding radioIn
-  in-hears h = rw (le-ltb (turn ns) 5 (omega arith), ne-eqb (turn ns) 5 (λ (z : turn ns ≡ 5). omega arith))
+  in-hears h = rw (le-ltb (turn ns) allClosed (omega arith), ne-eqb (turn ns) allClosed (λ (z : turn ns ≡ allClosed). omega arith))
 
   course-in : cameTo (courseIn s) ≡ resultIn s
   course-in = go (eqb (fault ns) 0)
@@ -185,9 +186,9 @@ module _ (s : Slices) where
 
   standing-in : standing (radioIn s) ≡ resultIn s
   unfolding radioIn
-  standing-in = go (ltb (turn ns) 5) (eqb (turn ns) 5)
+  standing-in = go (ltb (turn ns) allClosed) (eqb (turn ns) allClosed)
     where
-      go : (p q : Bool) → standing (if p then awaits (tableAt (turn ns)) (resultIn s) else if q then over (resultIn s) else hears (tableAt (turn ns - 6)) (announced ns) (come ns) (courseIn s)) ≡ resultIn s
+      go : (p q : Bool) → standing (if p then awaits (tableAt (turn ns)) (resultIn s) else if q then over (resultIn s) else hears (tableAt (turn ns - firstHeard)) (announced ns) (come ns) (courseIn s)) ≡ resultIn s
       go true q = refl
       go false true = refl
       go false false = course-in
@@ -346,33 +347,33 @@ module _ (s : Slices) (fit : fits s ≡ true) (nums : numbersKeep (s .numbers) �
     lawful-result = and-left (lawfulResult (resultIn s)) (sameRows (s .book) (laidBook (resultIn s))) result-lawful
 
     -- between tables
-    module _ (h : turn ms < 6) where
+    module _ (h : turn ms < firstHeard) where
       numbers-back : ms ≡ turn ms ∷ replicate 5 0 ++ laidFault (resultIn s)
       numbers-back = between-back (laidFault (resultIn s)) ms (sizes .numbers) (shown .between h) faults
 
       empty-lines : s .lines ≡ two 2048 2049 [] []
       empty-lines = no-lines (ap headLength numbers-back) (ap restLength numbers-back)
 
-      awaits-keeps : turn ms < 5 → keepsRadio s ≡ true
+      awaits-keeps : turn ms < allClosed → keepsRadio s ≡ true
       unfolding lawfulRadio
       awaits-keeps g =
           keeps-as (awaits (tableAt (turn ms)) (resultIn s)) (in-awaits s g) lawful-result
           (numbers-back ∙ ap (λ (x : ℕ). x ∷ replicate 5 0 ++ laidFault (resultIn s)) (sym (at-place (turn ms) g))) empty-lines
 
-      over-keeps : turn ms ≡ 5 → keepsRadio s ≡ true
+      over-keeps : turn ms ≡ allClosed → keepsRadio s ≡ true
       unfolding lawfulRadio
       over-keeps g = keeps-as (over (resultIn s)) (in-over s g) lawful-result (numbers-back ∙ ap (λ (x : ℕ). x ∷ replicate 5 0 ++ laidFault (resultIn s)) g) empty-lines
 
     -- a table that is heard
-    module _ (h : 6 ≤ turn ms) where
+    module _ (h : firstHeard ≤ turn ms) where
       abbrev t : Table
-      t = tableAt (turn ms - 6)
+      t = tableAt (turn ms - firstHeard)
 
       told : Heard ms
       told = shown .hears h
 
-      turn-back : turn ms ≡ 6 + partOf t
-      turn-back = let z : turn ms ≤ 10 = shown .turns in let e : partOf t ≡ turn ms - 6 = at-place (turn ms - 6) (omega arith) in omega arith
+      turn-back : turn ms ≡ firstHeard + partOf t
+      turn-back = let z : turn ms ≤ lastHeard = shown .turns in let e : partOf t ≡ turn ms - firstHeard = at-place (turn ms - firstHeard) (omega arith) in omega arith
 
       -- a course that is found and laid out
       heard-keeps : (c : Course) → courseIn s ≡ c → lawfulCourse t (come ms) c ≡ true → stretch 3 6 ms ≡ courseLines c → s .lines ≡ courseBytes c → keepsRadio s ≡ true
@@ -423,17 +424,17 @@ module _ (s : Slices) (fit : fits s ≡ true) (nums : numbersKeep (s .numbers) �
 tests-keep : (s : Slices) → fits s ≡ true → tested s ≡ true → keepsRadio s ≡ true
 tests-keep s fit e =
     let k = and-three (numbersKeep (s .numbers)) (linesKeep (bookOf (s .book) .edition) (s .numbers) (s .lines)) (bookKeeps (s .numbers) (s .book)) e in
-    go (k .0) (k .1) (k .2) (ltb (turn (s .numbers)) 5) refl (ltb (turn (s .numbers)) 6) refl (eqb (fault (s .numbers)) 0) refl
+    go (k .0) (k .1) (k .2) (ltb (turn (s .numbers)) allClosed) refl (ltb (turn (s .numbers)) firstHeard) refl (eqb (fault (s .numbers)) 0) refl
   where
     go : numbersKeep (s .numbers) ≡ true → linesKeep (bookOf (s .book) .edition) (s .numbers) (s .lines) ≡ true → bookKeeps (s .numbers) (s .book) ≡ true
-        → (p : Bool) → ltb (turn (s .numbers)) 5 ≡ p → (q : Bool) → ltb (turn (s .numbers)) 6 ≡ q → (r : Bool) → eqb (fault (s .numbers)) 0 ≡ r → keepsRadio s ≡ true
-    go n l b true p q o r m = let h : turn (s .numbers) < 5 = ltb-true (turn (s .numbers)) 5 p in awaits-keeps s fit n b l (omega arith) h
+        → (p : Bool) → ltb (turn (s .numbers)) allClosed ≡ p → (q : Bool) → ltb (turn (s .numbers)) firstHeard ≡ q → (r : Bool) → eqb (fault (s .numbers)) 0 ≡ r → keepsRadio s ≡ true
+    go n l b true p q o r m = let h : turn (s .numbers) < allClosed = ltb-true (turn (s .numbers)) allClosed p in awaits-keeps s fit n b l (omega arith) h
     go n l b false p true o r m =
-        let h : 5 ≤ turn (s .numbers) = ltb-false (turn (s .numbers)) 5 p in
-        let g : turn (s .numbers) < 6 = ltb-true (turn (s .numbers)) 6 o in
+        let h : allClosed ≤ turn (s .numbers) = ltb-false (turn (s .numbers)) allClosed p in
+        let g : turn (s .numbers) < firstHeard = ltb-true (turn (s .numbers)) firstHeard o in
         over-keeps s fit n b l g (omega arith)
-    go n l b false p false o true m = going-back s fit n b l (ltb-false (turn (s .numbers)) 6 o) (eqb-true (fault (s .numbers)) 0 m)
-    go n l b false p false o false m = stopped-back s fit n b l (ltb-false (turn (s .numbers)) 6 o) (eqb-false (fault (s .numbers)) 0 m)
+    go n l b false p false o true m = going-back s fit n b l (ltb-false (turn (s .numbers)) firstHeard o) (eqb-true (fault (s .numbers)) 0 m)
+    go n l b false p false o false m = stopped-back s fit n b l (ltb-false (turn (s .numbers)) firstHeard o) (eqb-false (fault (s .numbers)) 0 m)
 
 -- the rule is the tests
 pub rule-tested : (s : Slices) → fits s ≡ true → keepsRadio s ≡ tested s
@@ -445,7 +446,7 @@ module _ (ed : Edition) (k : List ℕ) (l : Bytes) where
   pub header-none : line k ≤ 1 → headerKeeps ed k l ≡ true
   header-none h = rw (le-ltb 1 (line k) h)
 
-  pub header-some : 1 < line k → (t : Table) → t ≡ tableAt (turn k - 6) → (g : Heading) → g ≡ heading ed t (stretch 0 (headLength k) l) → headerKeeps ed k l ≡ passes (g .check)
+  pub header-some : 1 < line k → (t : Table) → t ≡ tableAt (turn k - firstHeard) → (g : Heading) → g ≡ heading ed t (stretch 0 (headLength k) l) → headerKeeps ed k l ≡ passes (g .check)
   header-some h t e g f =
       let z : headLength k - 0 ≡ headLength k = omega arith in
       let c : g .check ≡ headerCheck ed t (take (headLength k) l) =

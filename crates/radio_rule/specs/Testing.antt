@@ -17,7 +17,7 @@ use Rattle.keeping.specs.Keeping.{keepsRule}
 use Rattle.header.specs.Header.{headerCheck}
 use Rattle.radio.specs.Radio.{mostCounted, keptLine}
 use Rattle.radio.specs.Rule.{lawfulFault}
-use Rattle.radio.specs.Room.{radioNumbers, radioBytes, tableAt}
+use Rattle.radio.specs.Room.{radioNumbers, radioBytes, firstHeard, lastHeard, tableAt}
 
 -- from place a to before place e
 abbrev pub stretch : ℕ → ℕ → List ℕ → List ℕ
@@ -76,13 +76,13 @@ heardKeeps ns =
 
 -- a turn that there is, the fault, and what is kept of a table that is heard
 unfoldable pub numbersKeep : List ℕ → Bool
-numbersKeep ns = leb (turn ns) 10 && faultKeeps ns && (if ltb (turn ns) 6 then zeros (stretch 1 6 ns) else heardKeeps ns)
+numbersKeep ns = leb (turn ns) lastHeard && faultKeeps ns && (if ltb (turn ns) firstHeard then zeros (stretch 1 6 ns) else heardKeeps ns)
 
 -- the lines ---------------------------------------------------------------------------------------------------------------------
 
 -- there is a header line where the unfinished line is not the first, by the edition of the book that is lent
 abbrev pub headerKeeps : Edition → List ℕ → Bytes → Bool
-headerKeeps e ns l = if ltb 1 (line ns) then passes (headerCheck e (tableAt (turn ns - 6)) (take (headLength ns) l)) else true
+headerKeeps e ns l = if ltb 1 (line ns) then passes (headerCheck e (tableAt (turn ns - firstHeard)) (take (headLength ns) l)) else true
 
 -- zeros behind each line, and the header line
 unfoldable pub linesKeep : Edition → List ℕ → Bytes → Bool

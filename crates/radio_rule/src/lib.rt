@@ -57,11 +57,11 @@ pub const FAULT_COLUMN: usize = 10;
 pub const KEPT: usize = 11;
 
 // Turns: a table to be announced, in reading order, then none, then a table that is heard, in reading order.
-pub const OVER: u64 = 5;
+pub const OVER: u64 = 6;
 
-pub const HEARD: u64 = 6;
+pub const HEARD: u64 = 7;
 
-pub const LAST_TURN: u64 = 10;
+pub const LAST_TURN: u64 = 12;
 
 // Lengths are counted to here, which stands for all that are longer.
 pub const MOST_COUNTED: u64 = 65537;
@@ -152,7 +152,7 @@ fn names_table(number: u64) -> bool
     }
 }
 
-// Whether the fault is one of a table that is read: a call's own 15, 16 and 22 are none.
+// Whether the fault is one of a table that is read: a call's own 15, 16, 22 and 23 are none.
 fn lawful_fault(kept: &[u64]) -> bool
     requires { ⌜ length (now kept) ≡ radioNumbers ⌝ }
     ensures { λ r. ⌜ r ≡ lawfulFault (faultPlace (now (kept .entry))) ⌝ }

@@ -29,7 +29,8 @@ settled (suc zero) h r = refl
 settled (suc (suc zero)) h r = refl
 settled (suc (suc (suc zero))) h r = refl
 settled (suc (suc (suc (suc zero)))) h r = refl
-settled (suc (suc (suc (suc (suc i))))) h r = absurd (omega arith)
+settled (suc (suc (suc (suc (suc zero))))) h r = refl
+settled (suc (suc (suc (suc (suc (suc i)))))) h r = absurd (omega arith)
 
 module _ (turn : ℕ) (heard : firstHeard ≤ turn) (last : turn ≤ lastHeard) where
   settled-turn : (r : Result) → slices (laidBook r) (settledNumbers (turn - allClosed) r) (twoLines [] []) ≡ laidOut (next (tableAt (turn - firstHeard)) r)

@@ -28,7 +28,7 @@ columnTwice column = Fails 3 column
 abbrev pub tooManyCells : Check
 tooManyCells = Fails 4 0
 
--- "more than 512 rows"
+-- "more than 512 rows"; of the calendar "row 801 is 5"
 abbrev pub tooManyRows : Check
 tooManyRows = Fails 5 0
 
@@ -92,13 +92,17 @@ cellEmpty column = Fails 19 column
 abbrev pub cellTooLong : ℕ → Check
 cellTooLong column = Fails 20 column
 
--- "21 outside the named range"
+-- "21 outside the named range", and "a day that is no date of the years 1600 to 9999"
 abbrev pub outOfRange : ℕ → Check
 outOfRange column = Fails 21 column
 
 -- "an unknown edition is 22"
 abbrev pub unknownEdition : Check
 unknownEdition = Fails 22 0
+
+-- "a span end that is no such date is 23"
+abbrev pub noDate : Check
+noDate = Fails 23 0
 
 -- the order of checks -------------------------------------------------------------------------------------------------------
 
@@ -142,7 +146,7 @@ inText table c = placed table 0 c
 abbrev pub inHeader : ℕ → Check → Verdict
 inHeader table c = placed table 1 c
 
--- 14, 15, 16, 22: "0, 0", and the table number is 0 too
+-- 14, 15, 16, 22, 23: "0, 0", and the table number is 0 too
 abbrev pub nowhere : Check → Verdict
 nowhere c = placed 0 0 c
 

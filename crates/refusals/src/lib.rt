@@ -1,6 +1,6 @@
 // What is answered: a verdict with its place, and what a cell holds.
 ghost use mathlib.Core.Path.{_≡_};
-ghost use Rattle.refusals.specs.Verdicts.{place, placed, _⊳_, textTooLong, columnMissing, columnTwice, tooManyCells, tooManyRows, quoteFault, cellCount, keyStands, noRow, endsEarly, unknownLine, noBlock, outputShort, notThere, badLoan, lineTooLong, lengthDiffers, unknownEdition};
+ghost use Rattle.refusals.specs.Verdicts.{place, placed, _⊳_, textTooLong, columnMissing, columnTwice, tooManyCells, tooManyRows, quoteFault, cellCount, keyStands, noRow, endsEarly, unknownLine, noBlock, outputShort, notThere, badLoan, lineTooLong, lengthDiffers, unknownEdition, noDate};
 
 // Where something is refused: the number of refusal, the table, the line, and the column or the cell, each 0 where it is not named.
 pub struct Place {
@@ -76,6 +76,8 @@ impl Place {
 
     pub const UNKNOWN_EDITION: u64 = 22;
 
+    pub const NO_DATE: u64 = 23;
+
     // The tables' numbers; a slip has one in places only.
     pub const VEHICLE_TYPE: u64 = 1;
 
@@ -88,6 +90,8 @@ impl Place {
     pub const SLIP: u64 = 5;
 
     pub const STOP_POINT: u64 = 6;
+
+    pub const DAY_TYPE_CALENDAR: u64 = 7;
 
     // The lines of a place that names no row.
     pub const NO_LINE: u64 = 0;
@@ -222,6 +226,12 @@ impl Check {
         ensures { λ r. ⌜ r ≡ unknownEdition ⌝ }
     {
         Check::fails(Place::UNKNOWN_EDITION, 0)
+    }
+
+    pub fn no_date() -> Check
+        ensures { λ r. ⌜ r ≡ noDate ⌝ }
+    {
+        Check::fails(Place::NO_DATE, 0)
     }
 
     // The verdict of a check that was made on this line of this table.

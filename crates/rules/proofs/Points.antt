@@ -17,7 +17,7 @@ use Rattle.rows.proofs.Changes.{stands-key, stands-inserted, other-stands-inser
 use Rattle.editions.specs.declared.Edition.{Edition}
 use Rattle.editions.specs.declared.Edition.the-variants.{Dino21}
 use Rattle.tables.specs.Columns.{ref, references}
-use Rattle.tables.specs.declared.Table.the-variants.{Stop, StopPoint, VehicleType, Depot, Block}
+use Rattle.tables.specs.declared.Table.the-variants.{Stop, StopPoint, VehicleType, Depot, Block, Calendar}
 use Rattle.tables.specs.declared.Table.{Table}
 use Rattle.book.specs.Book.{Book, empty, emptyBy, entered}
 use Rattle.rules.specs.Rules.{finds, unknownOf, unknown, named}
@@ -81,6 +81,7 @@ referable Depot b e = tt
 referable Stop b e = tt
 referable StopPoint b e = tt
 referable Block b e = e
+referable Calendar b e = tt
 
 -- a row that enters leaves every point its stop -----------------------------------------------------------------------------------
 
@@ -119,3 +120,4 @@ entered-named Stop row b u e =
     (λ x p. point-named x (entered Stop row b) (stands-still 2 (named Stop 2 x) row (b .stops) (point-names x b p))) (b .points) e
 entered-named StopPoint row b u e = all-inserted (λ x. passes (unknown StopPoint x b)) 3 row (ap passes u) (b .points) e
 entered-named Block row b u e = e
+entered-named Calendar row b u e = e

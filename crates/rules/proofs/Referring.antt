@@ -15,7 +15,7 @@ use Rattle.refusals.specs.declared.Check.the-variants.{Passes, Fails}
 use Rattle.rows.specs.Rows.{wide, orderFrom, sameKey, stands, found, column}
 use Rattle.tables.specs.Columns.{references, ref, keyWidth}
 use Rattle.tables.specs.declared.Table.{Table}
-use Rattle.tables.specs.declared.Table.the-variants.{VehicleType, Depot, Stop, StopPoint, Block}
+use Rattle.tables.specs.declared.Table.the-variants.{VehicleType, Depot, Stop, StopPoint, Block, Calendar}
 use Rattle.tables.specs.declared.Reference.{Reference}
 use Rattle.tables.specs.Parts.{partOf}
 use Rattle.book.specs.Book.{Book, knows, rows, with-rows}
@@ -58,6 +58,7 @@ referring Block (suc (suc (suc zero))) h = (lit≤ tt, lit≤ tt)
 referring Block (suc (suc (suc (suc zero)))) h = (lit≤ tt, lit≤ tt)
 referring Block (suc (suc (suc (suc (suc zero))))) h = (lit≤ tt, lit≤ tt)
 referring Block (suc (suc (suc (suc (suc (suc i)))))) h = absurd (omega arith)
+referring Calendar i h = absurd (omega arith)
 
 -- only the key of a stop point has three numbers
 pub named-pair : (t : Table) (k : ℕ) (row : Row) → (t ≡ StopPoint → ⊥) → named t k row ≡ column 1 row ∷ column k row ∷ []
@@ -66,6 +67,7 @@ named-pair Depot k row n = refl
 named-pair Stop k row n = refl
 named-pair StopPoint k row n = absurd (n refl)
 named-pair Block k row n = refl
+named-pair Calendar k row n = refl
 
 -- the references one by one
 module _ (t : Table) (row : Row) (b : Book) (i : ℕ) where
@@ -117,6 +119,7 @@ refers-back Depot = refl
 refers-back Stop = refl
 refers-back StopPoint = refl
 refers-back Block = refl
+refers-back Calendar = refl
 
 known-alike : (n : ℕ) (b c : Book) → ((u : Table) → partOf u < n → rows u b ≡ rows u c) → (xs : List Reference) → every (λ x. ltb (partOf (x .to)) n) xs ≡ true →
     (row : Row) → unknownOf xs row b ≡ unknownOf xs row c

@@ -9,7 +9,7 @@ use borrow.Author.Tests.{ltb-true, lt-ltb, le-ltb}
 use Rattle.words.specs.Words.{Row, if_then_else_}
 use Rattle.words.proofs.Lists.{and-left, and-right}
 use Rattle.tables.specs.declared.Table.{Table}
-use Rattle.tables.specs.declared.Table.the-variants.{VehicleType, Depot, Stop, StopPoint, Block}
+use Rattle.tables.specs.declared.Table.the-variants.{VehicleType, Depot, Stop, StopPoint, Block, Calendar}
 use Rattle.rules.specs.Rules.{day, withinDay, endsLower, overnight, timeFault, seconds}
 
 -- only a block has times
@@ -19,6 +19,7 @@ no-times Depot row n = refl
 no-times Stop row n = refl
 no-times StopPoint row n = refl
 no-times Block row n = absurd (n refl)
+no-times Calendar row n = refl
 
 module _ (row : Row) where
   abbrev begins : ℕ

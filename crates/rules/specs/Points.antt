@@ -4,7 +4,7 @@ use mathlib.Core.Bool.{Bool, true}
 use mathlib.Core.Path.{_≡_}
 use Rattle.words.specs.Words.{all}
 use Rattle.refusals.specs.Verdicts.{passes}
-use Rattle.tables.specs.declared.Table.the-variants.{StopPoint, VehicleType, Depot, Stop, Block}
+use Rattle.tables.specs.declared.Table.the-variants.{StopPoint, VehicleType, Depot, Stop, Block, Calendar}
 use Rattle.tables.specs.declared.Table.{Table}
 use Rattle.book.specs.Book.{Book}
 use Rattle.book.specs.Result.{Result, refused, leaves}
@@ -21,6 +21,7 @@ Referable Depot b = Unit {0}
 Referable Stop b = Unit {0}
 Referable StopPoint b = Unit {0}
 Referable Block b = pointsNamed b ≡ true
+Referable Calendar b = Unit {0}
 
 -- a book that is left has no stop point without its stop
 abbrev pub NamedIn : Result → Type 0

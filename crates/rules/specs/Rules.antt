@@ -9,7 +9,7 @@ use Rattle.refusals.specs.declared.Check.{Check}
 use Rattle.refusals.specs.declared.Check.the-variants.{Passes}
 use Rattle.rows.specs.Rows.{column}
 use Rattle.tables.specs.declared.Table.{Table}
-use Rattle.tables.specs.declared.Table.the-variants.{VehicleType, Depot, Stop, StopPoint, Block}
+use Rattle.tables.specs.declared.Table.the-variants.{VehicleType, Depot, Stop, StopPoint, Block, Calendar}
 use Rattle.tables.specs.declared.Reference.{Reference}
 use Rattle.tables.specs.Columns.{references}
 use Rattle.book.specs.Book.{Book, knows}
@@ -37,6 +37,7 @@ timeFault Depot row = false
 timeFault Stop row = false
 timeFault StopPoint row = false
 timeFault Block row = endsLower row && not (withinDay row)
+timeFault Calendar row = false
 
 -- the key that column k names in a table: "each together with VERSION"; of a stop point its stop's number stands one column before
 abbrev pub named : Table → ℕ → Row → Row
@@ -45,6 +46,7 @@ named Depot k row = column 1 row ∷ column k row ∷ []
 named Stop k row = column 1 row ∷ column k row ∷ []
 named StopPoint k row = column 1 row ∷ column (k - 1) row ∷ column k row ∷ []
 named Block k row = column 1 row ∷ column k row ∷ []
+named Calendar k row = column 1 row ∷ column k row ∷ []
 
 -- whether a row's reference finds its row
 abbrev pub finds : Reference → Row → Book → Bool

@@ -78,6 +78,12 @@ fn good(edition: Edition, book: &[Row]) {
         b"vehicle block",
         b"vehicle blocks",
     );
+    say(b", ");
+    counted(
+        row_count(book, Table::Calendar),
+        b"calendar day",
+        b"calendar days",
+    );
     say(b"\n");
 }
 
@@ -88,6 +94,7 @@ fn table_name(table: u64) {
         Place::STOP => say(b"stop"),
         Place::VEHICLE_BLOCK => say(b"vehicle_block"),
         Place::STOP_POINT => say(b"stop_point"),
+        Place::DAY_TYPE_CALENDAR => say(b"day_type_calendar"),
         _ => say(b"the book"),
     }
 }
@@ -130,10 +137,25 @@ fn too_long(rules: Rules) {
 }
 
 fn out_of_range(rules: Rules) {
+    if rules.date {
+        say(b"this day is no date, YYYYMMDD, of the years 1600 to 9999");
+        return;
+    }
     say(b"this number is not in its column's range, ");
     number(rules.low);
     say(b" to ");
     number(rules.high);
+}
+
+// The rows that a table has room for.
+fn too_many_rows(table: u64) {
+    say(b"the table has more than ");
+    let named = Table::numbered(table);
+    match named {
+        Named::Known(t) => number(t.room() as u64),
+        Named::Unknown => number(Table::Block.room() as u64),
+    }
+    say(b" rows; this is the first too many");
 }
 
 // What each number of refusal means, for a person.
@@ -144,7 +166,7 @@ fn meaning(edition: Edition, p: Place) {
         2 => say(b"this column is required and the header lacks it"),
         3 => say(b"the header has this column twice"),
         4 => say(b"the header has more than 32 cells"),
-        5 => say(b"the table has more than 512 rows; this is the first too many"),
+        5 => too_many_rows(p.table),
         6 => say(b"this cell is badly quoted, or holds a byte that no cell may hold"),
         7 => say(b"this row has more or fewer cells than the header"),
         8 => say(b"this cell is not digits"),
@@ -171,6 +193,10 @@ fn column_name(table: u64, column: u64) {
         Place::STOP => say(fault_mark::cell_numbered(&column_names::STOP_NAMES, column)),
         Place::STOP_POINT => say(fault_mark::cell_numbered(
             &column_names::STOP_POINT_NAMES,
+            column,
+        )),
+        Place::DAY_TYPE_CALENDAR => say(fault_mark::cell_numbered(
+            &column_names::CALENDAR_NAMES,
             column,
         )),
         _ => say(fault_mark::cell_numbered(&column_names::BLOCK_NAMES, column)),
@@ -293,6 +319,7 @@ fn fault(
     stops: &[u8],
     points: &[u8],
     blocks: &[u8],
+    days: &[u8],
 ) {
     say(b"fault");
     by(edition);
@@ -308,6 +335,7 @@ fn fault(
         Place::DEPOT => offence(edition, depots, p),
         Place::STOP => offence(edition, stops, p),
         Place::STOP_POINT => offence(edition, points, p),
+        Place::DAY_TYPE_CALENDAR => offence(edition, days, p),
         _ => offence(edition, blocks, p),
     }
 }
@@ -321,12 +349,22 @@ fn answer(
     stops: &[u8],
     points: &[u8],
     blocks: &[u8],
+    days: &[u8],
 ) {
     let mut book = [NO_ROW; BOOK_ROWS];
-    let verdict = delivery::read(number, types, depots, stops, points, blocks, &mut book);
+    let verdict = delivery::read(
+        number,
+        types,
+        depots,
+        stops,
+        points,
+        blocks,
+        days,
+        &mut book,
+    );
     match verdict {
         Verdict::Accepted => good(edition, &book),
-        Verdict::Refused(p) => fault(edition, p, types, depots, stops, points, blocks),
+        Verdict::Refused(p) => fault(edition, p, types, depots, stops, points, blocks, days),
     }
 }
 
@@ -341,6 +379,7 @@ fn morning(number: u64, edition: Edition) {
         files::text(&room, files::STOP, n.stops),
         files::text(&room, files::STOP_POINT, n.points),
         files::text(&room, files::VEHICLE_BLOCK, n.blocks),
+        files::text(&room, files::DAY_TYPE_CALENDAR, n.days),
     );
 }
 

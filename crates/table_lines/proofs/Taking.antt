@@ -21,7 +21,6 @@ use Rattle.editions.specs.declared.Edition.{Edition}
 use Rattle.tables.specs.declared.Table.{Table}
 use Rattle.tables.specs.Parts.{room}
 use Rattle.tables.specs.Columns.{number}
-use Rattle.tables.proofs.Parts.{room-alike}
 use Rattle.values.specs.declared.Judged.{Judged}
 use Rattle.book.specs.Book.{Book, entered}
 use Rattle.book.specs.Room.{bookOf}
@@ -42,14 +41,14 @@ pub refused-shelf : {A : Type 0} (n k : ℕ) (c : Check) → c ≡ Fails n k →
 refused-shelf n k c f p = let z : _≡_ {A = ℕ} 0 1 = cc in absurd (omega arith)
 
 module _ (t : Table) (h : Header) (line : Bytes) (xs slots : List Row) (order : List ℕ) (n : ℕ) (on : OnShelf t xs slots order n) where
-  pub line-full : n ≡ 512 → (d : Book) (c : Check) → c ≡ tooManyRows → Taken t h line (shelfBook t xs slots order n) d c
+  pub line-full : n ≡ room t → (d : Book) (c : Check) → c ≡ tooManyRows → Taken t h line (shelfBook t xs slots order n) d c
   line-full e d c f =
-      record { is = f ∙ sym (judged-full t h line (shelfBook t xs slots order n) (shelf-full t xs slots order n on (e ∙ sym (room-alike t)))); enters = refused-shelf _ _ c f }
+      record { is = f ∙ sym (judged-full t h line (shelfBook t xs slots order n) (shelf-full t xs slots order n on e)); enters = refused-shelf _ _ c f }
 
   -- where the shelf has room
-  module _ (less : n ≡ 512 → ⊥) where
+  module _ (less : n ≡ room t → ⊥) where
     pub line-room : n < room t
-    line-room = omega (arith, shelf-most t xs slots order n on, less, room-alike t)
+    line-room = omega (arith, shelf-most t xs slots order n on, less)
 
     module _ (j : Judged) (is : j ≡ read (bookOf xs .edition) t h line) where
       pub line-faulty : (d : Book) (m k : ℕ) → j .check ≡ Fails m k → Taken t h line (shelfBook t xs slots order n) d (Fails m k)

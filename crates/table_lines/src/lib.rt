@@ -9,7 +9,6 @@ use header::BOUNDS;
 use header::Places;
 use refusals::Check;
 use refusals::Verdict;
-use rows::ROWS;
 use rows::Row;
 use tables::Columns;
 use tables::Table;
@@ -40,7 +39,7 @@ pub fn take_row(
     requires { ⌜ OnShelf t (now book) (now slots) (now order) n × ReadBy (bookOf (now book) .edition) t read ⌝ }
     ensures { λ r. ⌜ RowTaken t read (now (book .entry)) (now (slots .entry)) (now (slots .exit)) (now (order .entry)) (now (order .exit)) n r ⌝ }
 {
-    if n == ROWS {
+    if n == t.room() {
         return Check::too_many_rows();
     }
     let check = read.check;

@@ -6,7 +6,7 @@ use Prim.Native.Nat.{ℕ, suc, _+_, _-_, _≤_, _<_, _^_}
 use native.Mathlib.Omega.{arith}
 use native.Mathlib.Numerals.{add-one}
 use lib.ListN.{length, take, drop, length-take, length-drop}
-use lib.Seq.{take-all}
+use lib.Seq.{take-all, length-take-le}
 use Rattle.words.specs.Words.{Row, Bytes}
 use Rattle.refusals.specs.Verdicts.{placed}
 use Rattle.refusals.specs.declared.Check.{Check}
@@ -39,6 +39,10 @@ use Rattle.table_reading.specs.Reading.{tableRead}
 use Rattle.table_reading.specs.Taking.{RowsTaken, LineTaken}
 use Rattle.table_reading.proofs.Pointing.{rows-left, line-left}
 use Rattle.table_reading.specs.declared.Taken.{Taken as Reached}
+
+-- the first part of a longer shelf
+pub prefix-long : {A : Type 0} (n m : ℕ) (xs : List A) → length xs ≡ m → n ≤ m → n ≡ length (take n xs)
+prefix-long n m xs e h = sym (length-take-le n xs (omega arith))
 
 -- the rows on the shelf, laid out where they are accepted
 pub laid-accepted : (t : Table) (xs slots : List Row) (order : List ℕ) (n : ℕ) → OnShelf t xs slots order n → (ys : List Row) → ys ≡ laid (shelfBook t xs slots order n)

@@ -12,7 +12,7 @@ use Rattle.words.proofs.Lists.{every, every-at, and-left, and-right}
 use Rattle.editions.specs.declared.Edition.{Edition}
 use Rattle.editions.specs.declared.Edition.the-variants.{Dino21, Dino23}
 use Rattle.tables.specs.declared.Table.{Table}
-use Rattle.tables.specs.declared.Table.the-variants.{VehicleType, Depot, Stop, StopPoint, Block}
+use Rattle.tables.specs.declared.Table.the-variants.{VehicleType, Depot, Stop, StopPoint, Block, Calendar}
 use Rattle.tables.specs.Parts.{partOf}
 use Rattle.tables.specs.Columns.{references, ref, columnsOf, keyWidth, keptWidth, columnAt, version, Column, noColumn}
 use Rattle.tables.specs.declared.Sort.{Sort}
@@ -20,12 +20,13 @@ use Rattle.tables.specs.declared.Sort.the-variants.{Decimal, Text}
 
 -- the code's tables -----------------------------------------------------------------------------------------------------------
 
-pub part-below : (t : Table) → partOf t < 5
+pub part-below : (t : Table) → partOf t < 6
 part-below VehicleType = lit≤ tt
 part-below Depot = lit≤ tt
 part-below Stop = lit≤ tt
 part-below StopPoint = lit≤ tt
 part-below Block = lit≤ tt
+part-below Calendar = lit≤ tt
 
 -- only stop points and blocks have references
 pub reference-of-point : (t : Table) (i : ℕ) → (t ≡ Block → ⊥) → i < length (references t) → getD (references StopPoint) 0 (ref 0 VehicleType) ≡ getD (references t) i (ref 0 VehicleType)
@@ -35,6 +36,7 @@ reference-of-point Stop i n h = absurd (omega arith)
 reference-of-point StopPoint zero n h = refl
 reference-of-point StopPoint (suc i) n h = absurd (omega arith)
 reference-of-point Block i n h = absurd (n refl)
+reference-of-point Calendar i n h = absurd (omega arith)
 
 -- bounds ----------------------------------------------------------------------------------------------------------------------
 
@@ -50,6 +52,8 @@ columns-few Dino21 StopPoint = lit≤ tt
 columns-few Dino23 StopPoint = lit≤ tt
 columns-few Dino21 Block = lit≤ tt
 columns-few Dino23 Block = lit≤ tt
+columns-few Dino21 Calendar = lit≤ tt
+columns-few Dino23 Calendar = lit≤ tt
 
 pub keys-some : (t : Table) → 1 ≤ keyWidth t
 keys-some VehicleType = lit≤ tt
@@ -57,6 +61,7 @@ keys-some Depot = lit≤ tt
 keys-some Stop = lit≤ tt
 keys-some StopPoint = lit≤ tt
 keys-some Block = lit≤ tt
+keys-some Calendar = lit≤ tt
 
 pub keys-kept : (t : Table) → keyWidth t ≤ keptWidth t
 keys-kept VehicleType = lit≤ tt
@@ -64,6 +69,7 @@ keys-kept Depot = lit≤ tt
 keys-kept Stop = lit≤ tt
 keys-kept StopPoint = lit≤ tt
 keys-kept Block = lit≤ tt
+keys-kept Calendar = lit≤ tt
 
 pub kept-columns : (e : Edition) (t : Table) → keptWidth t ≤ length (columnsOf e t)
 unfolding columnsOf
@@ -77,6 +83,8 @@ kept-columns Dino21 StopPoint = lit≤ tt
 kept-columns Dino23 StopPoint = lit≤ tt
 kept-columns Dino21 Block = lit≤ tt
 kept-columns Dino23 Block = lit≤ tt
+kept-columns Dino21 Calendar = lit≤ tt
+kept-columns Dino23 Calendar = lit≤ tt
 
 pub kept-few : (t : Table) → keptWidth t ≤ 11
 kept-few VehicleType = lit≤ tt
@@ -84,6 +92,7 @@ kept-few Depot = lit≤ tt
 kept-few Stop = lit≤ tt
 kept-few StopPoint = lit≤ tt
 kept-few Block = lit≤ tt
+kept-few Calendar = lit≤ tt
 
 -- the columns' rules ------------------------------------------------------------------------------------------------------------
 
@@ -95,6 +104,7 @@ first-version e Depot = refl
 first-version e Stop = refl
 first-version e StopPoint = refl
 first-version e Block = refl
+first-version e Calendar = refl
 
 pub version-low : (e : Edition) (t : Table) → columnAt e t 0 .rules .low ≡ 1
 version-low e t = ap (λ (x : Column). x .rules .low) (first-version e t)
@@ -116,6 +126,8 @@ all-narrow Dino21 StopPoint = refl
 all-narrow Dino23 StopPoint = refl
 all-narrow Dino21 Block = refl
 all-narrow Dino23 Block = refl
+all-narrow Dino21 Calendar = refl
+all-narrow Dino23 Calendar = refl
 
 pub decimal-width : (e : Edition) (t : Table) (i : ℕ) → columnAt e t i .rules .sort ≡ Decimal → columnAt e t i .rules .width ≤ 9
 decimal-width e t i d =
@@ -146,6 +158,8 @@ all-asked Dino21 StopPoint = refl
 all-asked Dino23 StopPoint = refl
 all-asked Dino21 Block = refl
 all-asked Dino23 Block = refl
+all-asked Dino21 Calendar = refl
+all-asked Dino23 Calendar = refl
 
 kept-asked : (e : Edition) (t : Table) (i : ℕ) → i < keptWidth t → asked (columnAt e t i) ≡ true
 kept-asked e t i h =

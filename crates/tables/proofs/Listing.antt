@@ -10,31 +10,39 @@ use Rattle.words.specs.Words.{if_then_else_}
 use Rattle.tables.specs.declared.Sort.the-variants.{Decimal, Text}
 use Rattle.tables.specs.declared.Rules.{Rules}
 use Rattle.tables.specs.declared.Sort.{Sort}
-use Rattle.tables.specs.Listing.{six, listing, listed, chosen}
+use Rattle.tables.specs.Listing.{seven, listing, listed, chosen}
 use Rattle.tables.specs.Columns.{Column, noColumn, columnsOf, columnAt}
 use Rattle.editions.specs.declared.Edition.{Edition}
 use Rattle.editions.specs.declared.Edition.the-variants.{Dino21, Dino23}
 use Rattle.tables.specs.declared.Table.{Table}
 
--- a column read back from its six numbers
+-- a column read back from its seven numbers
 abbrev pub rulesOf : List ℕ → Rules
 rulesOf ns =
-    record { sort = if eqb (getD ns 0 0) 0 then Decimal else Text; width = getD ns 1 0; low = getD ns 2 0; high = getD ns 3 0; key = eqb (getD ns 4 0) 1; required = eqb (getD ns 5 0) 1 }
+    record { sort = if eqb (getD ns 0 0) 0 then Decimal else Text; width = getD ns 1 0; low = getD ns 2 0; high = getD ns 3 0; key = eqb (getD ns 4 0) 1; required = eqb (getD ns 5 0) 1; date = eqb (getD ns 6 0) 1 }
 
-six-back : (x : Rules) → rulesOf (six x) ≡ x
-six-back x = go (x .sort) (x .width) (x .low) (x .high) (x .key) (x .required)
+seven-back : (x : Rules) → rulesOf (seven x) ≡ x
+seven-back x = go (x .sort) (x .width) (x .low) (x .high) (x .key) (x .required) (x .date)
   where
-    go : (s : Sort) (w l h : ℕ) (k q : Bool) → rulesOf (six (record { sort = s; width = w; low = l; high = h; key = k; required = q })) ≡ record { sort = s; width = w; low = l; high = h; key = k; required = q }
-    go Decimal w l h true true = refl
-    go Decimal w l h true false = refl
-    go Decimal w l h false true = refl
-    go Decimal w l h false false = refl
-    go Text w l h true true = refl
-    go Text w l h true false = refl
-    go Text w l h false true = refl
-    go Text w l h false false = refl
+    go : (s : Sort) (w l h : ℕ) (k q d : Bool) → rulesOf (seven (record { sort = s; width = w; low = l; high = h; key = k; required = q; date = d })) ≡ record { sort = s; width = w; low = l; high = h; key = k; required = q; date = d }
+    go Decimal w l h true true true = refl
+    go Decimal w l h true true false = refl
+    go Decimal w l h true false true = refl
+    go Decimal w l h true false false = refl
+    go Decimal w l h false true true = refl
+    go Decimal w l h false true false = refl
+    go Decimal w l h false false true = refl
+    go Decimal w l h false false false = refl
+    go Text w l h true true true = refl
+    go Text w l h true true false = refl
+    go Text w l h true false true = refl
+    go Text w l h true false false = refl
+    go Text w l h false true true = refl
+    go Text w l h false true false = refl
+    go Text w l h false false true = refl
+    go Text w l h false false false = refl
 
-listing-at : (n : ℕ) (xs : List Column) (i : ℕ) → i < n → getD (listing n xs) i [] ≡ six (getD xs i noColumn .rules)
+listing-at : (n : ℕ) (xs : List Column) (i : ℕ) → i < n → getD (listing n xs) i [] ≡ seven (getD xs i noColumn .rules)
 unfolding listing
 listing-at zero xs i h = absurd (omega (arith, h))
 listing-at (suc n) [] zero h = refl
@@ -46,7 +54,7 @@ listing-at (suc n) (x ∷ xs) (suc i) h = listing-at n xs i (omega (arith, h))
 pub listed-back : (e : Edition) (t : Table) (ns : List (List ℕ)) (i : ℕ) → i < 12 → ns ≡ listed e t → rulesOf (getD ns i []) ≡ columnAt e t i .rules
 unfolding listed
 listed-back e t ns i h q =
-    ap (λ (l : List (List ℕ)). rulesOf (getD l i [])) q ∙ (ap rulesOf (listing-at 12 (columnsOf e t) i h) ∙ six-back (columnAt e t i .rules))
+    ap (λ (l : List (List ℕ)). rulesOf (getD l i [])) q ∙ (ap rulesOf (listing-at 12 (columnsOf e t) i h) ∙ seven-back (columnAt e t i .rules))
 
 -- what differs by edition
 pub chosen-listed : (e : Edition) (t : Table) → chosen e (listed Dino21 t) (listed Dino23 t) ≡ listed e t

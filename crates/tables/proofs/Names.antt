@@ -12,7 +12,7 @@ use Rattle.tables.specs.Columns.{Column, columnFrom, columnsOf, columnNu
 use Rattle.editions.specs.declared.Edition.{Edition}
 use Rattle.editions.specs.declared.Edition.the-variants.{Dino21, Dino23}
 use Rattle.tables.specs.declared.Table.{Table}
-use Rattle.tables.specs.declared.Table.the-variants.{VehicleType, Depot, Stop, StopPoint, Block}
+use Rattle.tables.specs.declared.Table.the-variants.{VehicleType, Depot, Stop, StopPoint, Block, Calendar}
 
 -- a column's number is at most the count of columns
 number-from : (k : ℕ) (xs : List Column) (name : Bytes) → columnFrom (suc k) xs name ≤ k + length xs
@@ -48,3 +48,5 @@ all-unquoted Dino21 StopPoint = refl
 all-unquoted Dino23 StopPoint = refl
 all-unquoted Dino21 Block = refl
 all-unquoted Dino23 Block = refl
+all-unquoted Dino21 Calendar = refl
+all-unquoted Dino23 Calendar = refl

@@ -1,18 +1,19 @@
 -- The tables of columns.
-use mathlib.Core.Bool.{false, true, _||_, Bool, _&&_}
+use mathlib.Core.Bool.{false, true, _||_, Bool, _&&_, not}
 use mathlib.Core.List.{List, [], _∷_}
 use Prim.Native.Nat.{ℕ, _-_, _^_, suc}
 use Prim.Native.String.{String}
 use lib.Dec.{eqb, leb}
 use lib.ListN.{getD}
 use Rattle.words.specs.Words.{Bytes, bytes, if_then_else_, same}
+use Rattle.dates.specs.Calendar.{isDate}
 use Rattle.rows.specs.Rows.{rowNumbers}
 use Rattle.tables.specs.declared.Rules.{Rules}
 use Rattle.tables.specs.declared.Sort.the-variants.{Decimal, Text}
 use Rattle.editions.specs.declared.Edition.{Edition}
 use Rattle.editions.specs.declared.Edition.the-variants.{Dino21, Dino23}
 use Rattle.tables.specs.declared.Table.{Table}
-use Rattle.tables.specs.declared.Table.the-variants.{VehicleType, Depot, Stop, StopPoint, Block}
+use Rattle.tables.specs.declared.Table.the-variants.{VehicleType, Depot, Stop, StopPoint, Block, Calendar}
 use Rattle.tables.specs.declared.Named.{Named}
 use Rattle.tables.specs.declared.Named.the-variants.{Known, Unknown}
 use Rattle.tables.specs.declared.Reference.{Reference}
@@ -25,22 +26,26 @@ pub record Column : Type 0 where
 
 -- "dN: decimal of N digits". "A d column with no range named takes every number of its width, zero too."
 abbrev pub d : ℕ → String → Column
-d n name = record { name = bytes name; other = bytes name; rules = record { sort = Decimal; width = n; low = 0; high = 10 ^ n - 1; key = false; required = false } }
+d n name = record { name = bytes name; other = bytes name; rules = record { sort = Decimal; width = n; low = 0; high = 10 ^ n - 1; key = false; required = false; date = false } }
 
 -- "cN: text of N bytes"
 abbrev pub c : ℕ → String → Column
-c n name = record { name = bytes name; other = bytes name; rules = record { sort = Text; width = n; low = 0; high = 0; key = false; required = false } }
+c n name = record { name = bytes name; other = bytes name; rules = record { sort = Text; width = n; low = 0; high = 0; key = false; required = false; date = false } }
 
 -- "K: key"; every key column is required
 abbrev pub K : Column → Column
-K x = record { name = x .name; other = x .other; rules = record { sort = x .rules .sort; width = x .rules .width; low = x .rules .low; high = x .rules .high; key = true; required = true } }
+K x = record { name = x .name; other = x .other; rules = record { sort = x .rules .sort; width = x .rules .width; low = x .rules .low; high = x .rules .high; key = true; required = true; date = x .rules .date } }
 
 -- "r: required"
 abbrev pub r : Column → Column
-r x = record { name = x .name; other = x .other; rules = record { sort = x .rules .sort; width = x .rules .width; low = x .rules .low; high = x .rules .high; key = x .rules .key; required = true } }
+r x = record { name = x .name; other = x .other; rules = record { sort = x .rules .sort; width = x .rules .width; low = x .rules .low; high = x .rules .high; key = x .rules .key; required = true; date = x .rules .date } }
 
 abbrev pub range : ℕ → ℕ → Column → Column
-range l h x = record { name = x .name; other = x .other; rules = record { sort = x .rules .sort; width = x .rules .width; low = l; high = h; key = x .rules .key; required = x .rules .required } }
+range l h x = record { name = x .name; other = x .other; rules = record { sort = x .rules .sort; width = x .rules .width; low = l; high = h; key = x .rules .key; required = x .rules .required; date = x .rules .date } }
+
+-- "day (d8, YYYYMMDD, Gregorian)": its numbers are dates
+abbrev pub date : Column → Column
+date x = record { name = x .name; other = x .other; rules = record { sort = x .rules .sort; width = x .rules .width; low = x .rules .low; high = x .rules .high; key = x .rules .key; required = x .rules .required; date = true } }
 
 -- "Two other spellings are read as the same column"
 abbrev pub also : String → Column → Column
@@ -115,14 +120,19 @@ columnsOf e Block =
     blockStop e "ARR_STOP_NR" ∷
     r (d 2 "ARR_STOPPING_POINT_NR") ∷
     r (d 6 "END_OF_BLOCK") ∷ []
+columnsOf e Calendar =
+    version ∷
+    K (date (d 8 "DAY")) ∷
+    r (d 9 "DAY_TYPE_NR") ∷ []
 
--- "with these numbers: 1 vehicle_type, 2 depot, 3 stop, 4 vehicle_block", and stop_point "takes number 6"; 5 is the slip's
+-- "with these numbers: 1 vehicle_type, 2 depot, 3 stop, 4 vehicle_block", and stop_point "takes number 6"; 5 is the slip's, and day_type_calendar is "table 7"
 abbrev pub number : Table → ℕ
 number VehicleType = 1
 number Depot = 2
 number Stop = 3
 number StopPoint = 6
 number Block = 4
+number Calendar = 7
 
 -- the table of a number
 abbrev pub numbered : ℕ → Named
@@ -132,6 +142,7 @@ numbered n =
     else if eqb n 3 then Known Stop
     else if eqb n 4 then Known Block
     else if eqb n 6 then Known StopPoint
+    else if eqb n 7 then Known Calendar
     else Unknown
 
 -- how many columns are keys, which come first
@@ -141,14 +152,17 @@ keyWidth Depot = 2
 keyWidth Stop = 2
 keyWidth StopPoint = 3
 keyWidth Block = 4
+keyWidth Calendar = 2
 
--- "The book holds the keys of tables 1 to 3 and the 11 numbers of each block", and the keys of stop points: how many of a row's numbers it keeps
+-- "The book holds the keys of tables 1 to 3 and the 11 numbers of each block", the keys of stop points, and all three numbers of a day: how many of
+-- a row's numbers it keeps
 abbrev pub keptWidth : Table → ℕ
 keptWidth VehicleType = keyWidth VehicleType
 keptWidth Depot = keyWidth Depot
 keptWidth Stop = keyWidth Stop
 keptWidth StopPoint = keyWidth StopPoint
 keptWidth Block = rowNumbers
+keptWidth Calendar = 3
 
 -- a column and the table in which its number stands, "each together with VERSION"
 abbrev pub ref : ℕ → Table → Reference
@@ -162,6 +176,7 @@ references Depot = []
 references Stop = []
 references StopPoint = ref 2 Stop ∷ []
 references Block = ref 3 Depot ∷ ref 5 VehicleType ∷ ref 6 Stop ∷ ref 7 StopPoint ∷ ref 9 Stop ∷ ref 10 StopPoint ∷ []
+references Calendar = []
 
 -- names --------------------------------------------------------------------------------------------------------------------
 
@@ -176,8 +191,9 @@ columnNumber e t name = columnFrom 1 (columnsOf e t) name
 
 -- contents -----------------------------------------------------------------------------------------------------------------
 
+-- the numbers of a column: those of its range, and where they are days "a date of the years 1600 to 9999"
 abbrev pub inRange : Rules → ℕ → Bool
-inRange x n = leb (x .low) n && leb n (x .high)
+inRange x n = leb (x .low) n && leb n (x .high) && (not (x .date) || isDate n)
 
 -- asked by number ----------------------------------------------------------------------------------------------------------
 

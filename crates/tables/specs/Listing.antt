@@ -21,15 +21,16 @@ abbrev pub flag : Bool → ℕ
 flag false = 0
 flag true = 1
 
--- a column as six numbers: its sort, its width, the lowest and the highest number it takes, whether it is a key, whether it is required
-abbrev pub six : Rules → List ℕ
-six x = sortNumber (x .sort) ∷ x .width ∷ x .low ∷ x .high ∷ flag (x .key) ∷ flag (x .required) ∷ []
+-- a column as seven numbers: its sort, its width, the lowest and the highest number it takes, whether it is a key, whether it is required, and
+-- whether its numbers are dates
+abbrev pub seven : Rules → List ℕ
+seven x = sortNumber (x .sort) ∷ x .width ∷ x .low ∷ x .high ∷ flag (x .key) ∷ flag (x .required) ∷ flag (x .date) ∷ []
 
 -- the columns one behind the other, with room for n
 unfoldable pub listing : ℕ → List Column → List (List ℕ)
 listing zero xs = []
-listing (suc n) [] = six (noColumn .rules) ∷ listing n []
-listing (suc n) (x ∷ xs) = six (x .rules) ∷ listing n xs
+listing (suc n) [] = seven (noColumn .rules) ∷ listing n []
+listing (suc n) (x ∷ xs) = seven (x .rules) ∷ listing n xs
 
 -- no table has more columns than this
 abbrev pub columnRoom : ℕ

@@ -4,7 +4,7 @@ use Prim.Native.Nat.{ℕ, _+_, suc}
 use lib.ListN.{take}
 use Rattle.rows.specs.Room.{mostRows}
 use Rattle.tables.specs.declared.Table.{Table}
-use Rattle.tables.specs.declared.Table.the-variants.{VehicleType, Depot, Stop, StopPoint, Block}
+use Rattle.tables.specs.declared.Table.the-variants.{VehicleType, Depot, Stop, StopPoint, Block, Calendar}
 
 -- which part of the book is the table's, counted from 0
 abbrev pub partOf : Table → ℕ
@@ -13,18 +13,24 @@ partOf Depot = 1
 partOf Stop = 2
 partOf StopPoint = 3
 partOf Block = 4
+partOf Calendar = 5
 
--- the tables in the order of reading, which is that of their parts of the book
+-- the tables in the order of reading, which is that of their parts of the book; the calendar is "read last"
 abbrev pub tables : List Table
-tables = VehicleType ∷ Depot ∷ Stop ∷ StopPoint ∷ Block ∷ []
+tables = VehicleType ∷ Depot ∷ Stop ∷ StopPoint ∷ Block ∷ Calendar ∷ []
 
--- "There are at most 512 rows in each table."
+-- of the calendar "at most 800 rows"
+abbrev pub mostDays : ℕ
+mostDays = 800
+
+-- "There are at most 512 rows in each table.", but for the calendar
 abbrev pub room : Table → ℕ
 room VehicleType = mostRows
 room Depot = mostRows
 room Stop = mostRows
 room StopPoint = mostRows
 room Block = mostRows
+room Calendar = mostDays
 
 -- what some tables have room for together
 abbrev pub rooms : List Table → ℕ

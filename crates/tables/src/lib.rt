@@ -12,8 +12,8 @@ use refusals::Place;
 use rows::NUMBERS;
 use rows::ROWS;
 
-// A column as six numbers.
-pub type Column = [u64; 6];
+// A column as seven numbers.
+pub type Column = [u64; 7];
 
 // How many columns a table has room for. The columns are handed out once for a table, and lent on.
 pub const COLUMN_ROOM: usize = 12;
@@ -26,6 +26,7 @@ pub enum Table {
     Stop,
     StopPoint,
     Block,
+    Calendar,
 }
 
 // What a number asks for: a table, or none.
@@ -48,6 +49,7 @@ pub struct Rules {
     pub high: u64,
     pub key: bool,
     pub required: bool,
+    pub date: bool,
 }
 
 // What a table is counted by: its number in places, how many columns it has by 2.1 and by 2.3, how many of them are its key, how many numbers of a row the book
@@ -69,49 +71,49 @@ pub struct Reference {
 }
 
 // The columns of the tables. Each line is a column: its sort (0 decimal, 1 text), its width, the lowest and the highest number it takes, then 1 for a
-// key and 1 for a required column.
-pub const VERSION: Column = [0, 2, 1, 99, 1, 1];
+// key, 1 for a required column, and 1 for one whose numbers are dates.
+pub const VERSION: Column = [0, 2, 1, 99, 1, 1, 0];
 
 // Of a stop and of a stop point.
-pub const STOP_NR: Column = [0, 5, 1, 99999, 1, 1];
+pub const STOP_NR: Column = [0, 5, 1, 99999, 1, 1, 0];
 
 // Behind a table's last column.
-const NO_COLUMN: Column = [1, 0, 0, 0, 0, 0];
+const NO_COLUMN: Column = [1, 0, 0, 0, 0, 0, 0];
 
 const VEHICLE_TYPE_COLUMNS: Columns = [
     VERSION,
-    [0, 8, 0, 99999999, 1, 1], // VEH_TYPE_NR
-    [0, 3, 0, 999, 0, 0], // VEH_TYPE_SEATS
-    [0, 3, 0, 999, 0, 0], // VEH_TYPE_STRAPS
-    [0, 3, 0, 999, 0, 0], // PLACES_FOR_DISABLED_PERSONS
-    [1, 40, 0, 0, 0, 0], // VEH_TYPE_TEXT
-    [1, 4, 0, 0, 0, 0], // STR_VEH_TYPE
-    [0, 4, 0, 9999, 0, 0], // VEH_TYPE_DOOR_WIDTH
-    [0, 4, 0, 9999, 0, 0], // VEH_TYPE_WIDTH
-    [0, 4, 0, 9999, 0, 0], // VEH_TYPE_HEIGHT
-    [0, 1, 0, 2, 0, 0], // VEH_TYPE_ACCESS_EQUIP
+    [0, 8, 0, 99999999, 1, 1, 0], // VEH_TYPE_NR
+    [0, 3, 0, 999, 0, 0, 0], // VEH_TYPE_SEATS
+    [0, 3, 0, 999, 0, 0, 0], // VEH_TYPE_STRAPS
+    [0, 3, 0, 999, 0, 0, 0], // PLACES_FOR_DISABLED_PERSONS
+    [1, 40, 0, 0, 0, 0, 0], // VEH_TYPE_TEXT
+    [1, 4, 0, 0, 0, 0, 0], // STR_VEH_TYPE
+    [0, 4, 0, 9999, 0, 0, 0], // VEH_TYPE_DOOR_WIDTH
+    [0, 4, 0, 9999, 0, 0, 0], // VEH_TYPE_WIDTH
+    [0, 4, 0, 9999, 0, 0, 0], // VEH_TYPE_HEIGHT
+    [0, 1, 0, 2, 0, 0, 0], // VEH_TYPE_ACCESS_EQUIP
     NO_COLUMN,
 ];
 
 // By 2.3 "VEH_TYPE_ACCESS_EQUIP is a set of flags 1 lift, 2 ramp, 4 multi-purpose space, so 0 to 7; VEH_DELFI_TYPE c10 is an optional column 12".
 const VEHICLE_TYPE_COLUMNS_23: Columns = [
     VERSION,
-    [0, 8, 0, 99999999, 1, 1], // VEH_TYPE_NR
-    [0, 3, 0, 999, 0, 0], // VEH_TYPE_SEATS
-    [0, 3, 0, 999, 0, 0], // VEH_TYPE_STRAPS
-    [0, 3, 0, 999, 0, 0], // PLACES_FOR_DISABLED_PERSONS
-    [1, 40, 0, 0, 0, 0], // VEH_TYPE_TEXT
-    [1, 4, 0, 0, 0, 0], // STR_VEH_TYPE
-    [0, 4, 0, 9999, 0, 0], // VEH_TYPE_DOOR_WIDTH
-    [0, 4, 0, 9999, 0, 0], // VEH_TYPE_WIDTH
-    [0, 4, 0, 9999, 0, 0], // VEH_TYPE_HEIGHT
-    [0, 1, 0, 7, 0, 0], // VEH_TYPE_ACCESS_EQUIP
-    [1, 10, 0, 0, 0, 0], // VEH_DELFI_TYPE
+    [0, 8, 0, 99999999, 1, 1, 0], // VEH_TYPE_NR
+    [0, 3, 0, 999, 0, 0, 0], // VEH_TYPE_SEATS
+    [0, 3, 0, 999, 0, 0, 0], // VEH_TYPE_STRAPS
+    [0, 3, 0, 999, 0, 0, 0], // PLACES_FOR_DISABLED_PERSONS
+    [1, 40, 0, 0, 0, 0, 0], // VEH_TYPE_TEXT
+    [1, 4, 0, 0, 0, 0, 0], // STR_VEH_TYPE
+    [0, 4, 0, 9999, 0, 0, 0], // VEH_TYPE_DOOR_WIDTH
+    [0, 4, 0, 9999, 0, 0, 0], // VEH_TYPE_WIDTH
+    [0, 4, 0, 9999, 0, 0, 0], // VEH_TYPE_HEIGHT
+    [0, 1, 0, 7, 0, 0, 0], // VEH_TYPE_ACCESS_EQUIP
+    [1, 10, 0, 0, 0, 0, 0], // VEH_DELFI_TYPE
 ];
 
 const DEPOT_COLUMNS: Columns = [
     VERSION,
-    [0, 5, 0, 99999, 1, 1], // DEPOT_NR
+    [0, 5, 0, 99999, 1, 1, 0], // DEPOT_NR
     NO_COLUMN,
     NO_COLUMN,
     NO_COLUMN,
@@ -127,7 +129,7 @@ const DEPOT_COLUMNS: Columns = [
 const STOP_COLUMNS: Columns = [
     VERSION,
     STOP_NR,
-    [1, 50, 0, 0, 0, 1], // STOP_NAME
+    [1, 50, 0, 0, 0, 1, 0], // STOP_NAME
     NO_COLUMN,
     NO_COLUMN,
     NO_COLUMN,
@@ -143,7 +145,7 @@ const STOP_COLUMNS: Columns = [
 const STOP_COLUMNS_23: Columns = [
     VERSION,
     STOP_NR,
-    [1, 255, 0, 0, 0, 1], // STOP_NAME
+    [1, 255, 0, 0, 0, 1, 0], // STOP_NAME
     NO_COLUMN,
     NO_COLUMN,
     NO_COLUMN,
@@ -158,7 +160,7 @@ const STOP_COLUMNS_23: Columns = [
 const STOP_POINT_COLUMNS: Columns = [
     VERSION,
     STOP_NR,
-    [0, 2, 0, 99, 1, 1], // STOPPING_POINT_NR
+    [0, 2, 0, 99, 1, 1, 0], // STOPPING_POINT_NR
     NO_COLUMN,
     NO_COLUMN,
     NO_COLUMN,
@@ -172,32 +174,47 @@ const STOP_POINT_COLUMNS: Columns = [
 
 const BLOCK_COLUMNS: Columns = [
     VERSION,
-    [0, 9, 0, 999999999, 1, 1], // DAY_TYPE_NR
-    [0, 5, 0, 99999, 1, 1], // DEPOT_NR
-    [0, 8, 0, 99999999, 1, 1], // BLOCK_NR
-    [0, 2, 0, 99, 0, 1], // VEH_TYP_NR
-    [0, 6, 0, 999999, 0, 1], // DEP_STOP_NR
-    [0, 2, 0, 99, 0, 1], // DEP_STOPPING_POINT_NR
-    [0, 6, 0, 999999, 0, 1], // BEGIN_OF_BLOCK
-    [0, 6, 0, 999999, 0, 1], // ARR_STOP_NR
-    [0, 2, 0, 99, 0, 1], // ARR_STOPPING_POINT_NR
-    [0, 6, 0, 999999, 0, 1], // END_OF_BLOCK
+    [0, 9, 0, 999999999, 1, 1, 0], // DAY_TYPE_NR
+    [0, 5, 0, 99999, 1, 1, 0], // DEPOT_NR
+    [0, 8, 0, 99999999, 1, 1, 0], // BLOCK_NR
+    [0, 2, 0, 99, 0, 1, 0], // VEH_TYP_NR
+    [0, 6, 0, 999999, 0, 1, 0], // DEP_STOP_NR
+    [0, 2, 0, 99, 0, 1, 0], // DEP_STOPPING_POINT_NR
+    [0, 6, 0, 999999, 0, 1, 0], // BEGIN_OF_BLOCK
+    [0, 6, 0, 999999, 0, 1, 0], // ARR_STOP_NR
+    [0, 2, 0, 99, 0, 1, 0], // ARR_STOPPING_POINT_NR
+    [0, 6, 0, 999999, 0, 1, 0], // END_OF_BLOCK
     NO_COLUMN,
 ];
 
 // By 2.3 "a block's two stop numbers are d5, 1 to 99999".
 const BLOCK_COLUMNS_23: Columns = [
     VERSION,
-    [0, 9, 0, 999999999, 1, 1], // DAY_TYPE_NR
-    [0, 5, 0, 99999, 1, 1], // DEPOT_NR
-    [0, 8, 0, 99999999, 1, 1], // BLOCK_NR
-    [0, 2, 0, 99, 0, 1], // VEH_TYP_NR
-    [0, 5, 1, 99999, 0, 1], // DEP_STOP_NR
-    [0, 2, 0, 99, 0, 1], // DEP_STOPPING_POINT_NR
-    [0, 6, 0, 999999, 0, 1], // BEGIN_OF_BLOCK
-    [0, 5, 1, 99999, 0, 1], // ARR_STOP_NR
-    [0, 2, 0, 99, 0, 1], // ARR_STOPPING_POINT_NR
-    [0, 6, 0, 999999, 0, 1], // END_OF_BLOCK
+    [0, 9, 0, 999999999, 1, 1, 0], // DAY_TYPE_NR
+    [0, 5, 0, 99999, 1, 1, 0], // DEPOT_NR
+    [0, 8, 0, 99999999, 1, 1, 0], // BLOCK_NR
+    [0, 2, 0, 99, 0, 1, 0], // VEH_TYP_NR
+    [0, 5, 1, 99999, 0, 1, 0], // DEP_STOP_NR
+    [0, 2, 0, 99, 0, 1, 0], // DEP_STOPPING_POINT_NR
+    [0, 6, 0, 999999, 0, 1, 0], // BEGIN_OF_BLOCK
+    [0, 5, 1, 99999, 0, 1, 0], // ARR_STOP_NR
+    [0, 2, 0, 99, 0, 1, 0], // ARR_STOPPING_POINT_NR
+    [0, 6, 0, 999999, 0, 1, 0], // END_OF_BLOCK
+    NO_COLUMN,
+];
+
+const CALENDAR_COLUMNS: Columns = [
+    VERSION,
+    [0, 8, 0, 99999999, 1, 1, 1], // DAY
+    [0, 9, 0, 999999999, 0, 1, 0], // DAY_TYPE_NR
+    NO_COLUMN,
+    NO_COLUMN,
+    NO_COLUMN,
+    NO_COLUMN,
+    NO_COLUMN,
+    NO_COLUMN,
+    NO_COLUMN,
+    NO_COLUMN,
     NO_COLUMN,
 ];
 
@@ -237,8 +254,11 @@ const ARRIVAL_POINT: Reference = Reference {
     to: Table::StopPoint,
 };
 
+// How many rows a calendar has room for: no table has room for more.
+pub const DAYS: usize = 800;
+
 // Where the row of marks stands in a lent book: behind the rooms of all tables.
-pub const MARKS: usize = Table::COUNT * ROWS;
+pub const MARKS: usize = 5 * ROWS + DAYS;
 
 // How many rows a lent book has: the rooms of all tables, and the row of marks.
 pub const BOOK_ROWS: usize = MARKS + 1;
@@ -256,6 +276,7 @@ pub fn rules_at(columns: &Columns, i: usize) -> Rules
         high: column[3],
         key: column[4] == 1,
         required: column[5] == 1,
+        date: column[6] == 1,
     }
 }
 
@@ -274,7 +295,7 @@ fn block_reference(i: usize) -> Reference
 }
 
 impl Table {
-    // How many numbers a key has: VERSION and the number of a type, depot or stop; of a stop point its stop's too; of a block four.
+    // How many numbers a key has: VERSION and the number of a type, depot or stop, or a day; of a stop point its stop's too; of a block four.
     pub const PAIR_KEY: usize = 2;
 
     pub const POINT_KEY: usize = 3;
@@ -326,6 +347,15 @@ impl Table {
         references: 6,
     };
 
+    pub const CALENDAR: TableFigures = TableFigures {
+        number: Place::DAY_TYPE_CALENDAR,
+        columns21: 3,
+        columns23: 3,
+        keys: Table::PAIR_KEY,
+        kept: 3,
+        references: 0,
+    };
+
     // The constructor by number.
     pub fn numbered(n: u64) -> Named
         ensures { λ r. ⌜ r ≡ numbered n ⌝ }
@@ -336,6 +366,7 @@ impl Table {
             Place::STOP => Named::Known(Table::Stop),
             Place::VEHICLE_BLOCK => Named::Known(Table::Block),
             Place::STOP_POINT => Named::Known(Table::StopPoint),
+            Place::DAY_TYPE_CALENDAR => Named::Known(Table::Calendar),
             _ => Named::Unknown,
         }
     }
@@ -349,6 +380,7 @@ impl Table {
             Table::Stop => Table::STOP,
             Table::StopPoint => Table::STOP_POINT,
             Table::Block => Table::BLOCK,
+            Table::Calendar => Table::CALENDAR,
         }
     }
 
@@ -396,6 +428,7 @@ impl Table {
             Table::Stop => choose(edition, STOP_COLUMNS, STOP_COLUMNS_23),
             Table::StopPoint => STOP_POINT_COLUMNS,
             Table::Block => choose(edition, BLOCK_COLUMNS, BLOCK_COLUMNS_23),
+            Table::Calendar => CALENDAR_COLUMNS,
         }
     }
 
@@ -431,12 +464,12 @@ impl Sort {
 
 impl Table {
     // How many tables there are.
-    pub const COUNT: usize = 5;
+    pub const COUNT: usize = 6;
 
     // How many rows each table has room for, and where its part of the book begins: behind the rooms of the tables before it.
-    pub const ROOM: [usize; Table::COUNT] = [ROWS, ROWS, ROWS, ROWS, ROWS];
+    pub const ROOM: [usize; Table::COUNT] = [ROWS, ROWS, ROWS, ROWS, ROWS, DAYS];
 
-    pub const BEGIN: [usize; Table::COUNT] = [0, ROWS, 2 * ROWS, 3 * ROWS, 4 * ROWS];
+    pub const BEGIN: [usize; Table::COUNT] = [0, ROWS, 2 * ROWS, 3 * ROWS, 4 * ROWS, 5 * ROWS];
 
     pub fn room(self) -> usize
         ensures { λ r. ⌜ r ≡ room self ⌝ }
@@ -447,6 +480,7 @@ impl Table {
             Table::Stop => Table::ROOM[2],
             Table::StopPoint => Table::ROOM[3],
             Table::Block => Table::ROOM[4],
+            Table::Calendar => Table::ROOM[5],
         }
     }
 
@@ -459,19 +493,21 @@ impl Table {
             Table::Stop => Table::BEGIN[2],
             Table::StopPoint => Table::BEGIN[3],
             Table::Block => Table::BEGIN[4],
+            Table::Calendar => Table::BEGIN[5],
         }
     }
 
     // The table at place i of the order of reading, counted from 0; past the last one it is the last.
     pub fn in_order(i: usize) -> Table
-        ensures { λ r. ⌜ r ≡ getD tables i Table.Block ⌝ }
+        ensures { λ r. ⌜ r ≡ getD tables i Table.Calendar ⌝ }
     {
         match i {
             0 => Table::VehicleType,
             1 => Table::Depot,
             2 => Table::Stop,
             3 => Table::StopPoint,
-            _ => Table::Block,
+            4 => Table::Block,
+            _ => Table::Calendar,
         }
     }
 }

@@ -1,13 +1,12 @@
 -- What content is to a column: by its length, by what it is read as, and what content that keeps to the rules tells. Assumes nothing.
 use mathlib.Core.Path.{_≡_, refl, sym, _∙_}
-use mathlib.Core.Bool.{Bool, true, false, _&&_, not}
+use mathlib.Core.Bool.{Bool, true, false, not}
 use Prim.Native.Nat.{ℕ, _<_, _≤_}
 use native.Mathlib.Omega.{arith}
-use lib.Dec.{eqb, leb, ltb}
+use lib.Dec.{eqb, ltb}
 use lib.ListN.{length}
-use borrow.Author.Tests.{lt-leb, le-leb, eqb-false, ltb-false, leb-true}
+use borrow.Author.Tests.{le-leb, eqb-false, ltb-false}
 use Rattle.words.specs.Words.{Bytes, if_then_else_}
-use Rattle.words.proofs.Lists.{and-left}
 use Rattle.refusals.specs.Verdicts.{_when_, _⊳_, passes, cellEmpty, cellTooLong, notDigits, outOfRange}
 use Rattle.refusals.specs.declared.Check.the-variants.{Passes}
 use Rattle.numbers.specs.Numbers.{allDigits, value}
@@ -20,6 +19,7 @@ use Rattle.tables.specs.declared.Rules.{Rules}
 use Rattle.tables.specs.Columns.{inRange, columnAt, keptWidth}
 use Rattle.editions.specs.declared.Edition.{Edition}
 use Rattle.tables.specs.declared.Table.{Table}
+use Rattle.ranges.proofs.Ranges.{range-within}
 use Rattle.tables.proofs.Figures.{kept-decimal, kept-required, decimal-width}
 use Rattle.values.specs.Values.{cellCheck, saidCheck}
 use Rattle.values.specs.Judged.{breaks, byLength, byDigits, bySort, valueOf, checkOf}
@@ -74,20 +74,6 @@ kept-check k x s e = sym (check-of-value k x s) ∙ go (valueOf x s) (rw (check-
     go value-is.Empty p = refl
     go (value-is.Bad n) p = cc
 
--- the range, asked at its two ends
-pub range-low : (x : Rules) (n : ℕ) → n < x .low → inRange x n ≡ false
-range-low x n h = rw (lt-leb (x .low) n h)
-
-pub range-high : (x : Rules) (n : ℕ) → x .high < n → inRange x n ≡ false
-range-high x n h = go (leb (x .low) n)
-  where
-    go : (b : Bool) → (b && leb n (x .high)) ≡ false
-    go true = lt-leb n (x .high) h
-    go false = refl
-
-pub range-in : (x : Rules) (n : ℕ) → x .low ≤ n → n ≤ x .high → inRange x n ≡ true
-range-in x n h g = rw (le-leb (x .low) n h, le-leb n (x .high) g)
-
 -- by its sort, its length and what it is read as
 pub decimal-judged : (x : Rules) (s : Bytes) (n : ℕ) (d : Digits) (v r : Value)
     → x .sort ≡ Decimal → n ≡ length s → d ≡ decimalOf (x .width) s → v ≡ byDigits x d → r ≡ byLength x n v → r ≡ valueOf x s
@@ -129,7 +115,7 @@ module _ (x : Rules) (s : Bytes) (e : x .sort ≡ Decimal) (q : x .required ≡ 
   number-in-range = number-kept .1
 
   pub number-from : x .low ≤ value s
-  number-from = leb-true (x .low) (value s) (and-left (leb (x .low) (value s)) (leb (value s) (x .high)) (number-kept .1))
+  number-from = range-within x (value s) (number-kept .1) .0
 
 -- what the book keeps of a row
 pub kept-value : (e : Edition) (t : Table) (i : ℕ) → i < keptWidth t → (s : Bytes) → breaks (columnAt e t i .rules) s ≡ false → valueOf (columnAt e t i .rules) s ≡ value-is.Number (value s)

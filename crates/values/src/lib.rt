@@ -65,13 +65,11 @@ impl Value {
     fn of_number(rules: Rules, n: u64) -> Value
         ensures { λ r. ⌜ r ≡ (if inRange rules n then Value.Number n else against (outOfRange 0)) ⌝ }
     {
-        if n < rules.low {
-            return Value::Bad(Place::OUT_OF_RANGE);
+        if ranges::takes(rules, n) {
+            Value::Number(n)
+        } else {
+            Value::Bad(Place::OUT_OF_RANGE)
         }
-        if rules.high < n {
-            return Value::Bad(Place::OUT_OF_RANGE);
-        }
-        Value::Number(n)
     }
 
     // What the content of a decimal column says.

@@ -3,7 +3,7 @@ use mathlib.Core.Path.{_∙_}
 use borrow.Author.Needs.{needs}
 use Rattle.words.specs.Words.{bytes}
 use Rattle.cells.specs.Cells.{parted}
-use Rattle.tables.specs.declared.Table.the-variants.{Depot, Stop, StopPoint}
+use Rattle.tables.specs.declared.Table.the-variants.{Depot, Stop, StopPoint, Calendar}
 use Rattle.tables.specs.Columns.{columnsOf}
 use Rattle.column_names.proofs.Naming.{named, named-block}
 use Rattle.column_names.proofs.column_of.Statement.{statement}
@@ -63,6 +63,18 @@ slice-aggregate-column-in-8 c = search needs
 column-in-requires-4 : tie.Need-column-in-requires-4
 column-in-requires-4 c κs = search needs
 
+enum-told-6 : tie.Need-enum-told-6
+enum-told-6 c = search needs
+
+slice-aggregate-column-in-9 : tie.Need-slice-aggregate-column-in-9
+slice-aggregate-column-in-9 c = search needs
+
+slice-aggregate-column-in-10 : tie.Need-slice-aggregate-column-in-10
+slice-aggregate-column-in-10 c = search needs
+
+column-in-requires-5 : tie.Need-column-in-requires-5
+column-in-requires-5 c κs = search needs
+
 returns : tie.Need-returns
 returns c = c .vehicle-type-column .ensures ∙ rw (c .before .enum-told .given .1)
 
@@ -81,6 +93,10 @@ returns-4 c = c .column-in3 .ensures ∙ (named (c .before .before .before .befo
 returns-5 : tie.Need-returns-5
 unfolding parted columnsOf bytes
 returns-5 c = c .column-in4 .ensures ∙ (named-block (c .before .before .before .before .before .before .args .edition) (c .before .before .before .before .before .before .args .name .now) ∙ rw (c .before .before .before .enum-told5 .given .1))
+
+returns-6 : tie.Need-returns-6
+unfolding parted columnsOf bytes
+returns-6 c = c .column-in5 .ensures ∙ (named (c .before .before .before .before .before .before .args .edition) Calendar (c .before .before .before .before .before .before .args .name .now) ∙ rw (c .before .before .before .enum-told6 .given .1))
 
 pub column-of-spec : {M : Type 1} → statement M
 column-of-spec =
@@ -104,8 +120,13 @@ column-of-spec =
     slice-aggregate-column-in-7
     slice-aggregate-column-in-8
     column-in-requires-4
+    enum-told-6
+    slice-aggregate-column-in-9
+    slice-aggregate-column-in-10
+    column-in-requires-5
     returns
     returns-2
     returns-3
     returns-4
-    returns-5)
+    returns-5
+    returns-6)

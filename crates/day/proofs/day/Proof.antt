@@ -21,7 +21,7 @@ same-length c = search needs
 
 returns : tie.Need-returns
 returns c =
-    let st = c .before .before .before .before .before .before .before .before .before .before .before .before in
+    let st = c .before .before .before .before .before .before .before .before .before .before .before .before .before in
     let s = st .args .slip .now in
     let xs = st .args .book .now in
     let work = st .args .work .now in
@@ -51,12 +51,12 @@ same-length-3 c = search needs
 
 returns-2 : tie.Need-returns-2
 returns-2 c =
-    let st = c .before .before .before .before .before .before .before .before .before .before .before .before .before .before .before .before .before in
+    let st = c .before .before .before .before .before .before .before .before .before .before .before .before .before .before .before .before .before .before in
     let s = st .args .slip .now in
     let xs = st .args .book .now in
     let work = st .args .work .now in
     let read = c .before .before .before .before .before .before .before .before .read in
-    day-slip (st .args .edition) _ s xs work (c .before .before .before .before .before .before .before .before .before .before .if1 .left) (read .result) (read .last .1 .1 .1 .1 .1 .1 .0) (read .ensures) _ (c .before .before .before .before .before .enum-told .given .1) (c .before .before .slip .ensures)
+    day-slip (st .args .edition) _ s xs work (c .before .before .before .before .before .before .before .before .before .before .if1 .left) (read .result) (read .last .1 .1 .1 .1 .1 .1 .1 .0) (read .ensures) _ (c .before .before .before .before .before .enum-told .given .1) (c .before .before .slip .ensures)
 
 same-length-4 : tie.Need-same-length-4
 same-length-4 c = search needs
@@ -66,14 +66,14 @@ same-length-5 c = search needs
 
 returns-3 : tie.Need-returns-3
 returns-3 c =
-    let st = c .before .before .before .before .before .before .before .before .before .before .before .before .before .before .before .before in
+    let st = c .before .before .before .before .before .before .before .before .before .before .before .before .before .before .before .before .before in
     let s = st .args .slip .now in
     let xs = st .args .book .now in
     let work = st .args .work .now in
     let read = c .before .before .before .before .before .before .before .read in
     let sized = c .before .before .before .before .before .before .before .before .before .if1 .left in
     let place = c .before .before .before .before .place .given in
-    day-refused (st .args .edition) _ s xs work sized (read .result) (read .last .1 .1 .1 .1 .1 .1 .0) (read .ensures) (place .0 .0) _ (place .1) (work-cleared work _ _ sized sized (c .before .clear .ensures))
+    day-refused (st .args .edition) _ s xs work sized (read .result) (read .last .1 .1 .1 .1 .1 .1 .1 .0) (read .ensures) (place .0 .0) _ (place .1) (work-cleared work _ _ sized sized (c .before .clear .ensures))
 
 pub day-spec : {M : Type 1} → statement M
 day-spec =

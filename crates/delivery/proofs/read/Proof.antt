@@ -14,8 +14,8 @@ on-requires c κs = search needs
 
 returns : tie.Need-returns
 returns c =
-    let a = c .before .before .before .before .before .before .before .before .args in
-    read-sized (a .edition) (delivery (a .vehicle-type .now) (a .depot .now) (a .stop .now) (a .stop-point .now) (a .vehicle-block .now)) (a .book .now) (c .before .before .if1 .taken) (c .on .result) (c .on .ensures ∙ rw (c .before .bad-loan .ensures))
+    let a = c .before .before .before .before .before .before .before .before .before .args in
+    read-sized (a .edition) (delivery (a .vehicle-type .now) (a .depot .now) (a .stop .now) (a .stop-point .now) (a .vehicle-block .now) (a .day-type-calendar .now)) (a .book .now) (c .before .before .if1 .taken) (c .on .result) (c .on .ensures ∙ rw (c .before .bad-loan .ensures))
 
 numbered-requires : tie.Need-numbered-requires
 numbered-requires c κs = search needs
@@ -43,17 +43,17 @@ same-length c = search needs
 
 returns-2 : tie.Need-returns-2
 returns-2 c =
-    let a = c .before .before .before .before .before .before .before .before .before .before .before .before .before .args in
+    let a = c .before .before .before .before .before .before .before .before .before .before .before .before .before .before .args in
     let told = c .before .before .before .before .choice .given in
-    read-chosen (a .edition) (delivery (a .vehicle-type .now) (a .depot .now) (a .stop .now) (a .stop-point .now) (a .vehicle-block .now)) (a .book .now) (c .before .before .before .before .before .before .before .if1 .left) (told .0 .0) (sym (c .before .before .before .before .before .before .numbered .ensures) ∙ told .1) _ (c .before .read-by .ensures)
+    read-chosen (a .edition) (delivery (a .vehicle-type .now) (a .depot .now) (a .stop .now) (a .stop-point .now) (a .vehicle-block .now) (a .day-type-calendar .now)) (a .book .now) (c .before .before .before .before .before .before .before .if1 .left) (told .0 .0) (sym (c .before .before .before .before .before .before .numbered .ensures) ∙ told .1) _ (c .before .read-by .ensures)
 
 same-length-2 : tie.Need-same-length-2
 same-length-2 c = search needs
 
 returns-3 : tie.Need-returns-3
 returns-3 c =
-    let a = c .before .before .before .before .before .before .before .before .before .before .before .before .before .before .args in
-    read-unknown (a .edition) (delivery (a .vehicle-type .now) (a .depot .now) (a .stop .now) (a .stop-point .now) (a .vehicle-block .now)) (a .book .now) (c .before .before .before .before .before .before .before .before .if1 .left) (sym (c .before .before .before .before .before .before .before .numbered .ensures) ∙ c .before .before .before .before .before .enum-told .given .1) (c .on2 .result) (c .on2 .ensures ∙ rw (c .before .unknown-edition .ensures)) _ (c .before .before .before .clear .ensures)
+    let a = c .before .before .before .before .before .before .before .before .before .before .before .before .before .before .before .args in
+    read-unknown (a .edition) (delivery (a .vehicle-type .now) (a .depot .now) (a .stop .now) (a .stop-point .now) (a .vehicle-block .now) (a .day-type-calendar .now)) (a .book .now) (c .before .before .before .before .before .before .before .before .if1 .left) (sym (c .before .before .before .before .before .before .before .numbered .ensures) ∙ c .before .before .before .before .before .enum-told .given .1) (c .on2 .result) (c .on2 .ensures ∙ rw (c .before .unknown-edition .ensures)) _ (c .before .before .before .clear .ensures)
 
 pub read-spec : {M : Type 1} → statement M
 read-spec =

@@ -13,7 +13,7 @@ begin-requires : tie.Need-begin-requires
 begin-requires c κs = search needs
 
 take-tables-requires : tie.Need-take-tables-requires
-take-tables-requires c κs = let e = c .before .before .before .before .before .before .before .before .before .args .edition in (sound-empty e _ (c .before .before .begin .ensures), begun-again e _ (book-empty e _ (c .before .before .begin .ensures)))
+take-tables-requires c κs = let e = c .before .before .before .before .before .before .before .before .before .before .args .edition in (sound-empty e _ (c .before .before .begin .ensures), begun-again e _ (book-empty e _ (c .before .before .begin .ensures)))
 
 enum-told : tie.Need-enum-told
 enum-told c = search needs
@@ -29,16 +29,16 @@ same-length c = search needs
 
 returns : tie.Need-returns
 returns c =
-    let a = c .before .before .before .before .before .before .before .before .before .before .before .before .before .args in
-    read-accepted (a .edition) (delivery (a .types .now) (a .depots .now) (a .stops .now) (a .points .now) (a .blocks .now)) _ (book-empty (a .edition) _ (c .before .before .before .before .before .before .begin .ensures)) (c .before .before .before .take-tables .result) _ (c .before .before .before .take-tables .ensures .1) (c .enum-told .given .1) (c .before .before .before .take-tables .ensures .0)
+    let a = c .before .before .before .before .before .before .before .before .before .before .before .before .before .before .args in
+    read-accepted (a .edition) (delivery (a .types .now) (a .depots .now) (a .stops .now) (a .points .now) (a .blocks .now) (a .days .now)) _ (book-empty (a .edition) _ (c .before .before .before .before .before .before .begin .ensures)) (c .before .before .before .take-tables .result) _ (c .before .before .before .take-tables .ensures .1) (c .enum-told .given .1) (c .before .before .before .take-tables .ensures .0)
 
 same-length-2 : tie.Need-same-length-2
 same-length-2 c = search needs
 
 returns-2 : tie.Need-returns-2
 returns-2 c =
-    let a = c .before .before .before .before .before .before .before .before .before .before .before .before .before .before .before .before .before .args in
-    read-refused (a .edition) (delivery (a .types .now) (a .depots .now) (a .stops .now) (a .points .now) (a .blocks .now)) _ (book-empty (a .edition) _ (c .before .before .before .before .before .before .before .before .before .before .begin .ensures)) (c .before .before .before .before .before .before .before .take-tables .result) _ (c .before .before .before .before .before .before .before .take-tables .ensures .1) _ (c .before .before .before .before .verdict .given .1) _ (c .before .clear .ensures)
+    let a = c .before .before .before .before .before .before .before .before .before .before .before .before .before .before .before .before .before .before .args in
+    read-refused (a .edition) (delivery (a .types .now) (a .depots .now) (a .stops .now) (a .points .now) (a .blocks .now) (a .days .now)) _ (book-empty (a .edition) _ (c .before .before .before .before .before .before .before .before .before .before .begin .ensures)) (c .before .before .before .before .before .before .before .take-tables .result) _ (c .before .before .before .before .before .before .before .take-tables .ensures .1) _ (c .before .before .before .before .verdict .given .1) _ (c .before .clear .ensures)
 
 pub read-by-spec : {M : Type 1} → statement M
 read-by-spec =

@@ -8,16 +8,16 @@ use borrow.Author.Tests.{not-true, not-false}
 use borrow.Author.Count.{below-more}
 use borrow.Author.Needs.{needs}
 use Rattle.tables.specs.Parts.{tables}
-use Rattle.tables.specs.declared.Table.the-variants.{Block}
+use Rattle.tables.specs.declared.Table.the-variants.{Calendar}
 use Rattle.keeping.proofs.Keeping as keeping
 use Rattle.keeping.proofs.all_tables.Statement.{statement}
 use Rattle.keeping.proofs.all_tables.Tie as tie
 
 abbrev Inv-tables : tie.InvT-tables
-Inv-tables book good₀ i₀ good i = (good ≡ true) × ((j : ℕ) → j < i → keeping.held book (getD tables j Block) ≡ true)
+Inv-tables book good₀ i₀ good i = (good ≡ true) × ((j : ℕ) → j < i → keeping.held book (getD tables j Calendar) ≡ true)
 
 abbrev μ-tables : tie.MeasureT-tables
-μ-tables book good₀ i₀ good i = 5 - i
+μ-tables book good₀ i₀ good i = 6 - i
 
 returns : tie.Need-returns Inv-tables μ-tables
 returns c =
@@ -52,7 +52,7 @@ tables-again c =
     let at = c .before .before .before .before .tables in
     let xs = c .before .before .before .before .before .before .before .before .args .book .now in (
       at .inv .0,
-      below-more (λ j. keeping.held xs (getD tables j Block) ≡ true) (at .i) (at .inv .1)
+      below-more (λ j. keeping.held xs (getD tables j Calendar) ≡ true) (at .i) (at .inv .1)
           (ap (keeping.held xs) (sym (c .before .before .in-order .ensures)) ∙ sym (c .before .holding .ensures) ∙ not-false _ (c .if3 .left)),
     )
 
@@ -61,7 +61,7 @@ returns-3 c =
     let at = c .before .tables in
     let test = c .before .before in
     let xs = test .before .before .before .args .book .now in
-    keeping.all-parts xs (test .before .before .if1 .left) (sym (test .before .marked .ensures) ∙ not-false _ (test .if2 .left)) (keeping.by-place (keeping.held xs) (λ j h. let k : j < 5 = h in at .inv .1 j (omega (arith, k, c .tables-test .left)))) _ (at .inv .0)
+    keeping.all-parts xs (test .before .before .if1 .left) (sym (test .before .marked .ensures) ∙ not-false _ (test .if2 .left)) (keeping.by-place (keeping.held xs) (λ j h. let k : j < 6 = h in at .inv .1 j (omega (arith, k, c .tables-test .left)))) _ (at .inv .0)
 
 returns-4 : tie.Need-returns-4 Inv-tables μ-tables
 returns-4 c =

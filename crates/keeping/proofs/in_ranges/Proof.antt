@@ -34,14 +34,14 @@ columns-holds c = (search needs, omega (arith, c .kept .ensures, kept-few (c .be
 rules-at-requires : tie.Need-rules-at-requires Inv-columns μ-columns
 rules-at-requires c κs = search needs
 
-mul-in-range : tie.Need-mul-in-range Inv-columns μ-columns
-mul-in-range c = search needs
+mul-takes : tie.Need-mul-takes Inv-columns μ-columns
+mul-takes c = search needs
 
-array-read-in-range : tie.Need-array-read-in-range Inv-columns μ-columns
-array-read-in-range c = search needs
+array-read-takes : tie.Need-array-read-takes Inv-columns μ-columns
+array-read-takes c = search needs
 
-in-range-requires : tie.Need-in-range-requires Inv-columns μ-columns
-in-range-requires c κs = search needs
+takes-requires : tie.Need-takes-requires Inv-columns μ-columns
+takes-requires c κs = search needs
 
 add-i : tie.Need-add-i Inv-columns μ-columns
 add-i c = search needs
@@ -60,7 +60,7 @@ columns-again c =
       at .columns .inv .2,
       λ e t q k.
           let more : i < keptWidth t = omega (arith, k, c .before .before .before .columns-test .taken) in
-          let here : inRange (columnAt e t i .rules) (getD row i 0) ≡ true = ap (λ (x : Rules). inRange x (getD row i 0)) (sym (c .before .before .rules-at .ensures e t q)) ∙ sym (c .before .in-range .ensures) ∙ not-false _ (c .if1 .left) in
+          let here : inRange (columnAt e t i .rules) (getD row i 0) ≡ true = ap (λ (x : Rules). inRange x (getD row i 0)) (sym (c .before .before .rules-at .ensures e t q)) ∙ sym (c .before .takes .ensures) ∙ not-false _ (c .if1 .left) in
           at .columns .inv .3 e t q k ∙ keeping.ranged-next e t row (search needs) i more here,
     )
 
@@ -79,7 +79,7 @@ returns-2 c = λ e q.
     let row = st .args .t3 in
     let all : at .before .kept .result ≡ keptWidth (st .args .t) = at .before .kept .ensures in
     let more : i < keptWidth (st .args .t) = omega (arith, all, c .before .before .before .columns-test .taken) in
-    let here : inRange (columnAt e (st .args .t) i .rules) (getD row i 0) ≡ false = ap (λ (x : Rules). inRange x (getD row i 0)) (sym (c .before .before .rules-at .ensures e (st .args .t) q)) ∙ sym (c .before .in-range .ensures) ∙ not-true _ (c .if1 .taken) in
+    let here : inRange (columnAt e (st .args .t) i .rules) (getD row i 0) ≡ false = ap (λ (x : Rules). inRange x (getD row i 0)) (sym (c .before .before .rules-at .ensures e (st .args .t) q)) ∙ sym (c .before .takes .ensures) ∙ not-true _ (c .if1 .taken) in
     sym (at .columns .inv .3 e (st .args .t) q all ∙ keeping.ranged-not e (st .args .t) row (search needs) i more here)
 
 pub in-ranges-spec : {M : Type 1} → statement M
@@ -91,9 +91,9 @@ in-ranges-spec =
     kept-requires
     columns-holds
     rules-at-requires
-    mul-in-range
-    array-read-in-range
-    in-range-requires
+    mul-takes
+    array-read-takes
+    takes-requires
     add-i
     columns-less
     columns-again

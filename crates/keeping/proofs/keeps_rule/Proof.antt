@@ -8,7 +8,7 @@ use borrow.Author.Tests.{not-true, not-false}
 use borrow.Author.Count.{below-more}
 use borrow.Author.Needs.{needs}
 use Rattle.tables.specs.Parts.{tables}
-use Rattle.tables.specs.declared.Table.the-variants.{Block}
+use Rattle.tables.specs.declared.Table.the-variants.{Calendar}
 use Rattle.tables.specs.declared.Table.{Table}
 use Rattle.book.specs.Room.{bookOf}
 use Rattle.rules.specs.Points.{Referable}
@@ -18,10 +18,10 @@ use Rattle.keeping.proofs.keeps_rule.Statement.{statement}
 use Rattle.keeping.proofs.keeps_rule.Tie as tie
 
 abbrev Inv-tables : tie.InvT-tables
-Inv-tables book good₀ i₀ good i = (good ≡ true) × ((j : ℕ) → j < i → keeping.lawfulRows book (getD tables j Block) ≡ true)
+Inv-tables book good₀ i₀ good i = (good ≡ true) × ((j : ℕ) → j < i → keeping.lawfulRows book (getD tables j Calendar) ≡ true)
 
 abbrev μ-tables : tie.MeasureT-tables
-μ-tables book good₀ i₀ good i = 5 - i
+μ-tables book good₀ i₀ good i = 6 - i
 
 all-tables-requires : tie.Need-all-tables-requires Inv-tables μ-tables
 all-tables-requires c κs = search needs
@@ -53,7 +53,7 @@ tables-again c =
     let at = c .before .before .before .before .tables in
     let xs = c .before .before .before .before .before .before .before .args .book .now in (
       at .inv .0,
-      below-more (λ j. keeping.lawfulRows xs (getD tables j Block) ≡ true) (at .i) (at .inv .1)
+      below-more (λ j. keeping.lawfulRows xs (getD tables j Calendar) ≡ true) (at .i) (at .inv .1)
           (ap (keeping.lawfulRows xs) (sym (c .before .before .in-order .ensures)) ∙ sym (c .before .lawful-rows .ensures) ∙ not-false _ (c .if2 .left)),
     )
 
@@ -63,7 +63,7 @@ returns-2 c =
     let held = c .before .before in
     let xs = held .before .before .args .book .now in
     let sound = held .before .all-tables .ensures .0 (not-false _ (held .if1 .left)) in
-    at .inv .0 ∙ sym (keeping.sound-keeps xs sound (keeping.by-place (keeping.lawfulRows xs) (λ j h. let k : j < 5 = h in at .inv .1 j (omega (arith, k, c .tables-test .left)))))
+    at .inv .0 ∙ sym (keeping.sound-keeps xs sound (keeping.by-place (keeping.lawfulRows xs) (λ j h. let k : j < 6 = h in at .inv .1 j (omega (arith, k, c .tables-test .left)))))
 
 returns-3 : tie.Need-returns-3 Inv-tables μ-tables
 returns-3 c =

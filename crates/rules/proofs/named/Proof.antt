@@ -59,7 +59,7 @@ returns-2 : tie.Need-returns-2
 returns-2 c =
     let a = c .before .before .args in
     c .key .ensures
-    ∙ ap wide (sym (named-pair (a .to) (a .column) (a .t3) (other-table (a .to) StopPoint (0 ∷ 1 ∷ 2 ∷ 4 ∷ []) tt (c .before .match .keys2))))
+    ∙ ap wide (sym (named-pair (a .to) (a .column) (a .t3) (other-table (a .to) StopPoint (0 ∷ 1 ∷ 2 ∷ 4 ∷ 5 ∷ []) tt (c .before .match .keys2))))
 
 pub named-spec : {M : Type 1} → statement M
 named-spec =

@@ -19,7 +19,7 @@ returns c = rw (c .before .enum-told .given .1) (c .ends-early .ensures)
 returns-2 : tie.Need-returns-2
 returns-2 c =
     let a = c .before .args in
-    no-times (a .t) (a .row) (other-table (a .t) Block (0 ∷ 1 ∷ 2 ∷ 3 ∷ []) tt (c .match .keys2))
+    no-times (a .t) (a .row) (other-table (a .t) Block (0 ∷ 1 ∷ 2 ∷ 3 ∷ 5 ∷ []) tt (c .match .keys2))
 
 pub time-fault-spec : {M : Type 1} → statement M
 time-fault-spec = tie.close (tie.spec enum-told ends-early-requires returns returns-2)

@@ -17,7 +17,7 @@ use Rattle.lines.proofs.Starting.{breaks-few, line-after}
 use Rattle.editions.specs.declared.Edition.{Edition}
 use Rattle.tables.specs.Columns.{number}
 use Rattle.tables.specs.Listing.{listed}
-use Rattle.tables.proofs.Parts.{room-alike}
+use Rattle.tables.proofs.Parts.{room-most}
 use Rattle.book.specs.Room.{bookOf}
 use Rattle.intake.specs.Shelving.{shelfBook, OnShelf}
 use Rattle.intake.proofs.Shelving.{shelf-most}
@@ -101,7 +101,7 @@ add-count : tie.Need-add-count Inv-rows μ-rows
 add-count c =
     let st = c .before .before .before .before .before .before .before .before .before .before .before .before .before .before .before .before .before .before .before .before in
     let at = c .before .before .before .before .before .before .before .before .before .before .before .before .before .before .before .rows in
-    omega (arith, shelf-most (st .args .t) (st .args .book .now) (at .slots) (at .order) (at .count) (at .inv .3), room-alike (st .args .t))
+    omega (arith, shelf-most (st .args .t) (st .args .book .now) (at .slots) (at .order) (at .count) (at .inv .3), room-most (st .args .t))
 
 sub-line-after : tie.Need-sub-line-after Inv-rows μ-rows
 sub-line-after c = taken-at (c .before .before .before .before .before .before .before .before .before .before .before .before .before) .low

@@ -1,131 +1,48 @@
--- `table_reading::take_line` meets its contract: what the line leaves on the shelf is laid out where it is accepted. Assumes nothing.
-use mathlib.Core.Path.{ap, _∙_, sym}
-use Prim.Native.Nat.{ℕ}
+-- `table_reading::take_line` meets its contract: the shelf has the table's room. Assumes nothing.
+use mathlib.Core.Path.{_≡_, sym, _∙_}
 use native.Mathlib.Omega.{arith}
-use native.Mathlib.Numerals.{add-one}
 use borrow.Author.Needs.{needs}
-use Rattle.editions.specs.declared.Edition.{Edition}
-use Rattle.tables.specs.Listing.{listed}
-use Rattle.row_line.specs.Judging.{read}
-use Rattle.refusals.specs.Verdicts.{placed}
-use Rattle.tables.proofs.Parts.{room-alike}
-use Rattle.book.specs.Room.{bookOf}
-use Rattle.rules.proofs.Points.{referable}
-use Rattle.intake.proofs.Shelving.{shelf-most}
-use Rattle.table_reading.proofs.Taking.{laid-next, check-passes, line-accepted, line-refused}
+use Rattle.tables.proofs.Parts.{room-most}
+use Rattle.table_reading.proofs.Taking.{prefix-long}
 use Rattle.table_reading.proofs.take_line.Statement.{statement}
 use Rattle.table_reading.proofs.take_line.Tie as tie
 
-edition-of-requires : tie.Need-edition-of-requires
-edition-of-requires c κs = c .before .before .pre .1 .long
+room-requires : tie.Need-room-requires
+room-requires c κs = search needs
 
-slice-aggregate-shelve : tie.Need-slice-aggregate-shelve
-slice-aggregate-shelve c = search needs
+array-borrow-prefix-slots : tie.Need-array-borrow-prefix-slots
+array-borrow-prefix-slots c = omega (arith, c .before .room .ensures, room-most (c .before .before .before .args .t))
 
-slice-aggregate-shelve-2 : tie.Need-slice-aggregate-shelve-2
-slice-aggregate-shelve-2 c = search needs
+slice-aggregate-shelve-line : tie.Need-slice-aggregate-shelve-line
+slice-aggregate-shelve-line c = prefix-long (c .before .before .room .result) 800 _ (search needs) (array-borrow-prefix-slots (c .before))
 
-shelve-requires : tie.Need-shelve-requires
-shelve-requires c κs =
-    let st = c .before .before .before .before .before .before in
-    let r = referable (st .args .t) (bookOf (st .args .book .now)) (st .pre .2) in
-    let room = room-alike (st .args .t) in
-    search needs
+array-borrow-prefix-order : tie.Need-array-borrow-prefix-order
+array-borrow-prefix-order c = omega (arith, c .before .before .room .ensures, room-most (c .before .before .before .before .args .t))
 
-slice-aggregate-read-row : tie.Need-slice-aggregate-read-row
-slice-aggregate-read-row c = search needs
+slice-aggregate-shelve-line-2 : tie.Need-slice-aggregate-shelve-line-2
+slice-aggregate-shelve-line-2 c = prefix-long (c .before .before .before .room .result) 800 _ (search needs) (array-borrow-prefix-order (c .before))
 
-read-row-requires : tie.Need-read-row-requires
-read-row-requires c κs = (c .before .before .before .before .before .before .before .before .before .before .pre .0 .rules ∙ ap (λ (d : Edition). listed d (c .before .before .before .before .before .before .before .before .before .before .args .t)) (sym (c .before .before .before .before .before .before .before .edition-of .ensures)), omega (arith, c .before .before .before .before .before .before .before .before .before .before .pre .0 .few))
-
-slice-aggregate-take-row : tie.Need-slice-aggregate-take-row
-slice-aggregate-take-row c = search needs
-
-slice-aggregate-take-row-2 : tie.Need-slice-aggregate-take-row-2
-slice-aggregate-take-row-2 c = search needs
-
-take-row-requires : tie.Need-take-row-requires
-take-row-requires c κs =
-    let st = c .before .before .before .before .before .before .before .before .before .before .before .before .before .before .before in
-    let headed = st .pre .0 .headed in
-    (c .before .before .before .before .before .before .before .before .shelve .ensures .0, (headed .0, (st .args .line .now, c .before .before .before .before .read-row .ensures (headed .0) (headed .1) ∙ ap (λ (d : Edition). read d (st .args .t) (headed .0) (st .args .line .now)) (c .before .before .before .before .before .before .before .before .before .before .before .before .edition-of .ensures))))
-
-number-requires : tie.Need-number-requires
-number-requires c κs = search needs
-
-on-requires : tie.Need-on-requires
-on-requires c κs = search needs
-
-enum-told : tie.Need-enum-told
-enum-told c = search needs
-
-slice-aggregate-lay-table : tie.Need-slice-aggregate-lay-table
-slice-aggregate-lay-table c = search needs
-
-slice-aggregate-lay-table-2 : tie.Need-slice-aggregate-lay-table-2
-slice-aggregate-lay-table-2 c = search needs
-
-add-lay-table : tie.Need-add-lay-table
-add-lay-table c =
-    let st = c .before .before .before .before .before .before .before .before .before .before .before .before .before .before .before .before .before .before .before .before .before .before .before .before .before in
-    let n = c .before .before .before .before .before .before .before .before .before .before .before .before .before .before .before .before .before .before .shelve .result in
-    omega (arith, shelf-most (st .args .t) (st .args .book .now) _ _ n (c .before .before .before .before .before .before .before .before .before .before .before .before .before .before .before .before .before .before .shelve .ensures .0), room-alike (st .args .t))
-
-lay-table-requires : tie.Need-lay-table-requires
-lay-table-requires c κs =
-    let placed-so = c .before .before .before .before .before .on .ensures in
-    rw add-one (c .before .before .before .before .before .before .before .before .before .take-row .ensures .on (check-passes _ _ _ _ placed-so (c .before .before .before .enum-told .given .1)))
-
-enum-known-verdict : tie.Need-enum-known-verdict
-enum-known-verdict c = search needs
+shelve-line-requires : tie.Need-shelve-line-requires
+shelve-line-requires c κs =
+    let st = c .before .before .before .before .before in
+    let room = c .before .before .before .room .ensures in
+    (st .pre .0, st .pre .1, st .pre .2, sym (slice-aggregate-shelve-line (c .before)) ∙ room, sym (slice-aggregate-shelve-line-2 c) ∙ room)
 
 same-length : tie.Need-same-length
 same-length c = search needs
 
 returns : tie.Need-returns
-returns c =
-    let st = c .before .before .before .before .before .before .before .before .before .before .before .before .before .before .before .before .before .before .before .before .before .before .before .before .before .before .before in
-    let n = c .before .before .before .before .before .before .before .before .before .before .before .before .before .before .before .before .before .before .before .before .shelve .result in
-    let taken = c .before .before .before .before .before .before .before .before .before .before .before .take-row in
-    let placed-so = c .before .before .before .before .before .before .before .on .ensures ∙ ap (λ (k : ℕ). placed k (st .args .i) (taken .result)) (c .before .before .before .before .before .before .before .before .number .ensures) in
-    let accepted = c .before .before .before .before .before .enum-told .given .1 in
-    let left = laid-next (st .args .t) (st .args .book .now) _ _ n (taken .ensures .on (check-passes _ _ _ _ placed-so accepted)) _ (c .before .lay-table .ensures) in
-    line-accepted (st .args .t) (st .args .at .now) (st .args .line .now) (st .args .i) (st .args .book .now) _ _ (c .before .before .before .before .before .before .before .before .before .before .before .before .before .before .before .before .before .before .before .before .shelve .ensures .1) (taken .result) _ placed-so (st .pre .0 .headed) (st .pre .2)
-    (λ h kept. taken .ensures .taken h (st .args .line .now) (c .before .before .before .before .before .before .before .before .before .before .before .before .before .before .before .before .read-row .ensures h kept ∙ ap (λ (d : Edition). read d (st .args .t) h (st .args .line .now)) (c .before .before .before .before .before .before .before .before .before .before .before .before .before .before .before .before .before .before .before .before .before .before .before .before .edition-of .ensures))) accepted _ left
-
-same-length-2 : tie.Need-same-length-2
-same-length-2 c = search needs
-
-returns-2 : tie.Need-returns-2
-returns-2 c =
-    let st = c .before .before .before .before .before .before .before .before .before .before .before .before .before .before .before .before .before .before .before .before .before .before .before in
-    let taken = c .before .before .before .before .before .before .before .take-row in
-    let placed-so = c .before .before .before .on .ensures ∙ ap (λ (k : ℕ). placed k (st .args .i) (taken .result)) (c .before .before .before .before .number .ensures) in
-    line-refused (st .args .t) (st .args .at .now) (st .args .line .now) (st .args .i) (st .args .book .now) _ _ (c .before .before .before .before .before .before .before .before .before .before .before .before .before .before .before .before .shelve .ensures .1) (taken .result) _ placed-so (st .pre .0 .headed) (st .pre .2)
-    (λ h kept. taken .ensures .taken h (st .args .line .now) (c .before .before .before .before .before .before .before .before .before .before .before .before .read-row .ensures h kept ∙ ap (λ (d : Edition). read d (st .args .t) h (st .args .line .now)) (c .before .before .before .before .before .before .before .before .before .before .before .before .before .before .before .before .before .before .before .before .edition-of .ensures))) _ (c .before .verdict .given .1) (st .pre .1)
+returns c = search needs
 
 pub take-line-spec : {M : Type 1} → statement M
 take-line-spec =
     tie.close
     (tie.spec
-    edition-of-requires
-    slice-aggregate-shelve
-    slice-aggregate-shelve-2
-    shelve-requires
-    slice-aggregate-read-row
-    read-row-requires
-    slice-aggregate-take-row
-    slice-aggregate-take-row-2
-    take-row-requires
-    number-requires
-    on-requires
-    enum-told
-    slice-aggregate-lay-table
-    slice-aggregate-lay-table-2
-    add-lay-table
-    lay-table-requires
-    enum-known-verdict
+    room-requires
+    array-borrow-prefix-slots
+    slice-aggregate-shelve-line
+    array-borrow-prefix-order
+    slice-aggregate-shelve-line-2
+    shelve-line-requires
     same-length
-    returns
-    same-length-2
-    returns-2)
+    returns)

@@ -1,4 +1,4 @@
--- `tables::rules_at` meets its contract: six numbers make their column again. Assumes nothing.
+-- `tables::rules_at` meets its contract: seven numbers make their column again. Assumes nothing.
 use borrow.Author.Needs.{needs}
 use Rattle.tables.proofs.Listing.{listed-back}
 use Rattle.tables.proofs.rules_at.Statement.{statement}
@@ -31,6 +31,9 @@ array-read-t23 c = search needs
 array-read-t27 : tie.Need-array-read-t27
 array-read-t27 c = search needs
 
+array-read-t31 : tie.Need-array-read-t31
+array-read-t31 c = search needs
+
 returns : tie.Need-returns
 returns c =
     let st = c .before .before in
@@ -49,4 +52,5 @@ rules-at-spec =
     array-read-t20
     array-read-t23
     array-read-t27
+    array-read-t31
     returns)

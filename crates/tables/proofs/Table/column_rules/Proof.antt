@@ -29,6 +29,9 @@ enum-told-4 c = search needs
 enum-told-5 : tie.Need-enum-told-5
 enum-told-5 c = search needs
 
+enum-told-6 : tie.Need-enum-told-6
+enum-told-6 c = search needs
+
 choose-requires-3 : tie.Need-choose-requires-3
 choose-requires-3 c κs = search needs
 
@@ -52,6 +55,10 @@ returns-5 : tie.Need-returns-5
 unfolding columnsOf listed listing
 returns-5 c = c .choose3 .ensures ∙ (chosen-listed (c .before .before .before .args .edition) Block ∙ rw (c .before .enum-told5 .given .1))
 
+returns-6 : tie.Need-returns-6
+unfolding columnsOf listed listing
+returns-6 c = rw (c .enum-told6 .given .1)
+
 pub column-rules-spec : {M : Type 1} → statement M
 column-rules-spec =
     tie.close
@@ -64,8 +71,10 @@ column-rules-spec =
     enum-told-4
     enum-told-5
     choose-requires-3
+    enum-told-6
     returns
     returns-2
     returns-3
     returns-4
-    returns-5)
+    returns-5
+    returns-6)

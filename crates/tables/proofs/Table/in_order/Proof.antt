@@ -2,19 +2,20 @@
 use mathlib.Core.Path.{_≡_, refl}
 use Prim.Native.Nat.{ℕ, zero, suc}
 use lib.ListN.{getD}
-use Rattle.tables.specs.declared.Table.the-variants.{Block}
+use Rattle.tables.specs.declared.Table.the-variants.{Calendar}
 use Rattle.tables.specs.Parts.{tables}
 use Rattle.tables.proofs.Table.in_order.Statement.{statement}
 use Rattle.tables.proofs.Table.in_order.Tie as tie
 
--- past the fourth table comes the last one
-last : (i : ℕ) → (i ≡ 0 → ⊥) → (i ≡ 1 → ⊥) → (i ≡ 2 → ⊥) → (i ≡ 3 → ⊥) → Block ≡ getD tables i Block
-last zero a b c d = absurd (a refl)
-last (suc zero) a b c d = absurd (b refl)
-last (suc (suc zero)) a b c d = absurd (c refl)
-last (suc (suc (suc zero))) a b c d = absurd (d refl)
-last (suc (suc (suc (suc zero)))) a b c d = refl
-last (suc (suc (suc (suc (suc i))))) a b c d = refl
+-- past the fifth table comes the last one
+last : (i : ℕ) → (i ≡ 0 → ⊥) → (i ≡ 1 → ⊥) → (i ≡ 2 → ⊥) → (i ≡ 3 → ⊥) → (i ≡ 4 → ⊥) → Calendar ≡ getD tables i Calendar
+last zero a b c d e = absurd (a refl)
+last (suc zero) a b c d e = absurd (b refl)
+last (suc (suc zero)) a b c d e = absurd (c refl)
+last (suc (suc (suc zero))) a b c d e = absurd (d refl)
+last (suc (suc (suc (suc zero)))) a b c d e = absurd (e refl)
+last (suc (suc (suc (suc (suc zero))))) a b c d e = refl
+last (suc (suc (suc (suc (suc (suc i)))))) a b c d e = refl
 
 returns : tie.Need-returns
 returns c = rw (c .match .keys1)
@@ -29,9 +30,12 @@ returns-4 : tie.Need-returns-4
 returns-4 c = rw (c .match .keys4)
 
 returns-5 : tie.Need-returns-5
-returns-5 c =
+returns-5 c = rw (c .match .keys5)
+
+returns-6 : tie.Need-returns-6
+returns-6 c =
     let r = c .match .rest in
-    last _ (r .0 .0 .0 .1) (r .0 .0 .1) (r .0 .1) (r .1)
+    last _ (r .0 .0 .0 .0 .1) (r .0 .0 .0 .1) (r .0 .0 .1) (r .0 .1) (r .1)
 
 pub in-order-spec : {M : Type 1} → statement M
-in-order-spec = tie.close (tie.spec returns returns-2 returns-3 returns-4 returns-5)
+in-order-spec = tie.close (tie.spec returns returns-2 returns-3 returns-4 returns-5 returns-6)

@@ -19,7 +19,7 @@ returns c = rw (c .before .enum-told .given .1) (c .block-reference .ensures)
 returns-2 : tie.Need-returns-2
 returns-2 c =
     let a = c .before .args in
-    reference-of-point (a .self) (a .i) (other-table (a .self) Block (0 ∷ 1 ∷ 2 ∷ 3 ∷ []) tt (c .match .keys2)) (c .before .pre)
+    reference-of-point (a .self) (a .i) (other-table (a .self) Block (0 ∷ 1 ∷ 2 ∷ 3 ∷ 5 ∷ []) tt (c .match .keys2)) (c .before .pre)
 
 pub reference-spec : {M : Type 1} → statement M
 reference-spec =

@@ -1,16 +1,17 @@
--- `values::Value::of_number` meets its contract: the range is asked at its two ends. Assumes nothing.
-use Rattle.values.proofs.Values.{range-low, range-high, range-in}
+-- `values::Value::of_number` meets its contract. Assumes nothing.
+use mathlib.Core.Path.{sym, _∙_}
+use borrow.Author.Needs.{needs}
 use Rattle.values.proofs.Value.of_number.Statement.{statement}
 use Rattle.values.proofs.Value.of_number.Tie as tie
 
+takes-requires : tie.Need-takes-requires
+takes-requires c κs = search needs
+
 returns : tie.Need-returns
-returns c = rw (range-low (c .before .before .args .rules) (c .before .before .args .n) (c .if1 .taken))
+returns c = rw (sym (c .before .takes .ensures) ∙ c .if1 .taken)
 
 returns-2 : tie.Need-returns-2
-returns-2 c = rw (range-high (c .before .before .before .before .args .rules) (c .before .before .before .before .args .n) (c .if2 .taken))
-
-returns-3 : tie.Need-returns-3
-returns-3 c = rw (range-in (c .before .before .before .before .args .rules) (c .before .before .before .before .args .n) (c .before .before .if1 .left) (c .if2 .left))
+returns-2 c = rw (sym (c .before .takes .ensures) ∙ c .if1 .left)
 
 pub of-number-spec : {M : Type 1} → statement M
-of-number-spec = tie.close (tie.spec returns returns-2 returns-3)
+of-number-spec = tie.close (tie.spec takes-requires returns returns-2)

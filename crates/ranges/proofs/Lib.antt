@@ -1,0 +1,2 @@
+-- What the proof of a column's range cites.
+pub mod Ranges

@@ -1,0 +1,4 @@
+pub mod Summing
+pub mod Answers
+pub mod Dated
+pub mod SeasonClaims
