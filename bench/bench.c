@@ -16,7 +16,7 @@ enum { SIZES = 4, SMALLEST = 64, MOST_SAMPLES = 2001, DEFAULT_SAMPLES = 201, TEX
 enum { LIBRARY, PLAIN_C, SIDES };
 
 static const struct side plain_side = {"the plain reader", plain_read, plain_slip, plain_cell, plain_type, plain_block,
-    plain_season, plain_write, NULL, NULL, NULL, NULL};
+    plain_season, plain_hours, plain_season_hours, plain_write, NULL, NULL, NULL, NULL};
 
 static const struct side *sides[SIDES] = {&library_side, &plain_side};
 

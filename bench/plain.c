@@ -1080,6 +1080,43 @@ uint64_t plain_season(const uint64_t (*book)[11], size_t rows, uint64_t version,
     return refuse(place, 0, 0, 0, 0);
 }
 
+/* One pass over the blocks: the seconds as a whole number, and the clerk's sum by rising key. */
+uint64_t plain_hours(const uint64_t (*book)[11], size_t rows, uint64_t version, uint64_t number, double hours[2],
+    uint64_t place[4])
+{
+    struct book_keys keys;
+    uint64_t seconds = 0;
+    double clerk = 0.0;
+    size_t count, i;
+
+    hours[0] = 0.0;
+    hours[1] = 0.0;
+    if (!check_book(book, rows, &keys, &count))
+        return refuse(place, 16, 0, 0, 0);
+    if (version > 99 || number > 99999999 || !has(&keys.types, pack(version, number)))
+        return refuse(place, 15, 0, 0, 0);
+    for (i = BLOCKS_AT; i < BLOCKS_AT + count; i++)
+        if (book[i][0] == version && book[i][4] == number) {
+            uint64_t of_block = seconds_of(book[i]);
+
+            seconds += of_block;
+            clerk += (double)of_block / 3600.0;
+        }
+    hours[0] = (double)seconds / 3600.0;
+    hours[1] = clerk;
+    return refuse(place, 0, 0, 0, 0);
+}
+
+uint64_t plain_season_hours(const uint64_t (*book)[11], size_t rows, uint64_t version, uint64_t number, uint64_t first,
+    uint64_t last, double hours[1], uint64_t place[4])
+{
+    uint64_t seconds[1];
+    uint64_t refusal = plain_season(book, rows, version, number, first, last, seconds, place);
+
+    hours[0] = (double)seconds[0] / 3600.0;
+    return refusal;
+}
+
 /* ---- Slips */
 
 /* Blocks in slots of the working area, and the slots that are free below the first that was never used. */

@@ -44,6 +44,10 @@
  * fewer than 8 digits is no date, which is 21. No block needs its day type in the calendar, and no day needs a block of its day
  * type.
  *
+ * HOURS are handed out as a double, which must be a binary64 number of IEEE 754 where this header is used. Quotients and sums
+ * of hours are rounded to the nearest such number, and to the even one of two that are as near. A caller must leave the
+ * processor rounding so, as it does when a program begins.
+ *
  * BY RADIO a delivery may come in parts: see workshop_radio_open below. Verdict, place and book are those of workshop_read on
  * the whole texts, wherever the parts were cut.
  *
@@ -231,6 +235,20 @@ uint64_t workshop_block(const uint64_t (*book)[11], size_t rows, uint64_t versio
  * book, 15 if no such type is in it, 23 if `first` or `last` is no date, in this order. */
 uint64_t workshop_season(const uint64_t (*book)[11], size_t rows, uint64_t version, uint64_t number, uint64_t first,
     uint64_t last, uint64_t seconds[1], uint64_t place[4]);
+
+/* Gives one vehicle type's hours for the ledger (see HOURS): hours[0] is the seconds of all its blocks divided by 3,600 once,
+ * hours[1] the clerk's sum: from 0 on, by rising key of the blocks, each block's seconds are divided by 3,600 and added. Both
+ * are finite and not below 0. How near they are: 2^53 times the distance between 3,600 times hours[0] and the seconds is at
+ * most the seconds; for n blocks, 2^52 times the distance between 3,600 times hours[1] and the seconds is at most n times the
+ * seconds. Refused: two zeros; 16 for the book, 15 if no such type is in it. A type without blocks is accepted: 0 and 0. Each
+ * of these zeros is +0.0, of which every bit is 0. */
+uint64_t workshop_hours(const uint64_t (*book)[11], size_t rows, uint64_t version, uint64_t number, double hours[2],
+    uint64_t place[4]);
+
+/* Gives a season's hours: hours[0] is the seconds that workshop_season sums up, divided by 3,600 once, as near to them as
+ * hours[0] of workshop_hours. Refused: +0.0; 16, 15 and 23 as there. A season without seconds is accepted: +0.0. */
+uint64_t workshop_season_hours(const uint64_t (*book)[11], size_t rows, uint64_t version, uint64_t number, uint64_t first,
+    uint64_t last, double hours[1], uint64_t place[4]);
 
 /* Writes the book's blocks as a vehicle_block table: the header and a line for each block by rising key, no quotes, no
  * leading zeros, each line ended by a line feed. length[0] is the number of bytes written; the bytes of `out` behind them

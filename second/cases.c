@@ -19,7 +19,9 @@ enum {
     MOST_BYTES = 140000,
     TEXT_LIMIT = 65536,
     LINE_LIMIT = 2048,
-    DAY = 86400
+    DAY = 86400,
+    LATEST = 999999,   /* that a time can be */
+    EXACT = 225        /* seconds whose multiples are hours without a rest in binary64: 3,600 is 16 times 225 */
 };
 
 /* ---- Dice */
@@ -349,11 +351,16 @@ static void any_times(uint64_t *block)
         overnight_times(block);
         return;
     }
+    if (chance(3)) {
+        block[B_BEGIN] = 0;
+        block[B_END] = LATEST;
+        return;
+    }
     block[B_BEGIN] = chance(90) ? roll() % 90000 : roll() % 1000000;
-    block[B_END] = block[B_BEGIN] + (chance(15) ? 0 : roll() % 40000);
+    block[B_END] = block[B_BEGIN] + (chance(15) ? 0 : chance(8) ? 1 : chance(10) ? EXACT * below(200) : roll() % 40000);
     if (chance(3))
-        block[B_END] = 999999;
-    if (block[B_END] > 999999)
+        block[B_END] = LATEST;
+    if (block[B_END] > LATEST)
         block[B_END] = block[B_BEGIN];
 }
 
@@ -396,6 +403,17 @@ static struct others others_of_delivery(void)
     return others;
 }
 
+/* Gives all blocks of a version the type of the first one: a type of many blocks. */
+static void gather_blocks(row *blocks, size_t n)
+{
+    size_t i, first;
+
+    for (i = 0; i < n; i++) {
+        first = find_key((const row *)blocks, i, blocks[i], 1);
+        blocks[i][B_TYPE] = blocks[first][B_TYPE];
+    }
+}
+
 static void make_blocks(size_t n)
 {
     struct others others = others_of_delivery();
@@ -406,6 +424,8 @@ static void make_blocks(size_t n)
     for (tries = 0; count < n && tries < 20 * n; tries++)
         if (any_block(&others, blocks[count]) && find_key((const row *)blocks, count, blocks[count], 4) == count)
             count++;
+    if (chance(25))
+        gather_blocks(blocks, count);
     delivery.count[VEHICLE_BLOCK] = count;
 }
 
@@ -1576,26 +1596,44 @@ static void choose_span(const struct cases_host *host, uint64_t *first, uint64_t
     }
 }
 
-/* The seasons of the type of some block, or of any type; at times between ends that are no dates. */
-static void ask_season(const struct cases_host *host, size_t book_rows)
+/* The type of some block, or any type. */
+static void choose_busy_type(const struct cases_host *host, uint64_t *version, uint64_t *number)
 {
     const row *blocks = rows_of_in(host->book(host->self), VEHICLE_BLOCK);
     size_t n = used(blocks, VEHICLE_BLOCK);
-    uint64_t version, number, first, last;
 
-    choose_type(host, &version, &number);
+    choose_type(host, version, number);
     if (n > 0 && chance(60)) {
         size_t i = below(n);
 
-        version = blocks[i][B_VERSION];
-        number = blocks[i][B_TYPE];
+        *version = blocks[i][B_VERSION];
+        *number = blocks[i][B_TYPE];
     }
+}
+
+/* A season's seconds or its hours, at times between ends that are no dates. */
+static void ask_season(const struct cases_host *host, size_t book_rows)
+{
+    uint64_t version, number, first, last;
+
+    choose_busy_type(host, &version, &number);
     choose_span(host, &first, &last);
     if (chance(10))
         first = chance(90) ? no_date() : strange_number();
     if (chance(10))
         last = chance(90) ? no_date() : strange_number();
-    host->season(host->self, book_rows, version, number, first, last);
+    if (chance(60))
+        host->season(host->self, book_rows, version, number, first, last);
+    else
+        host->season_hours(host->self, book_rows, version, number, first, last);
+}
+
+static void ask_hours(const struct cases_host *host, size_t book_rows)
+{
+    uint64_t version, number;
+
+    choose_busy_type(host, &version, &number);
+    host->hours(host->self, book_rows, version, number);
 }
 
 static void ask_block(const struct cases_host *host, size_t book_rows)
@@ -1721,6 +1759,8 @@ static void ask_all(const struct cases_host *host)
         ask_block(host, BOOK_ROWS);
     if (chance(60))
         ask_season(host, BOOK_ROWS);
+    if (chance(35))
+        ask_hours(host, BOOK_ROWS);
     if (chance(60))
         ask_write(host, BOOK_ROWS);
 }
@@ -2742,7 +2782,10 @@ static void story_of_broken_books(const struct cases_host *host)
         if (chance(15))
             break_book();
         put_made_book(host);
-        ask_type(host, BOOK_ROWS);
+        if (chance(60))
+            ask_type(host, BOOK_ROWS);
+        else
+            ask_hours(host, BOOK_ROWS);
         ask_block(host, BOOK_ROWS);
         ask_season(host, BOOK_ROWS);
         ask_write(host, BOOK_ROWS);
@@ -2769,6 +2812,7 @@ static void story_of_lengths(const struct cases_host *host)
     ask_type(host, other_length(BOOK_ROWS));
     ask_block(host, other_length(BOOK_ROWS));
     ask_season(host, other_length(BOOK_ROWS));
+    ask_hours(host, other_length(BOOK_ROWS));
     ask_write(host, other_length(BOOK_ROWS));
     slip = make_slip(host->book(host->self));
     if (chance(10))

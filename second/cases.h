@@ -29,6 +29,8 @@ struct cases_host {
     void (*type)(void *self, size_t book_rows, uint64_t version, uint64_t number);
     void (*block)(void *self, size_t book_rows, const uint64_t key[4]);
     void (*season)(void *self, size_t book_rows, uint64_t version, uint64_t number, uint64_t first, uint64_t last);
+    void (*hours)(void *self, size_t book_rows, uint64_t version, uint64_t number);
+    void (*season_hours)(void *self, size_t book_rows, uint64_t version, uint64_t number, uint64_t first, uint64_t last);
     void (*write)(void *self, size_t book_rows, size_t out_length);
     /* by radio, what is kept lent at these lengths */
     void (*radio_open)(void *self, uint64_t edition, struct radio_lengths lengths);

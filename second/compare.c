@@ -29,7 +29,9 @@ static struct {
     struct text others[TABLES];
     unsigned edition; /* of the call */
     uint64_t came[REFUSALS];
-    uint64_t seasons; /* that have some seconds */
+    uint64_t seasons;      /* that have some seconds */
+    uint64_t season_hours; /* that are not 0 */
+    uint64_t apart;        /* hours whose two numbers differ */
     uint64_t came_at[EDITIONS][REFUSALS][LAST_TABLE + 1][34]; /* by edition, table and column */
 } host;
 
@@ -70,6 +72,16 @@ static void show_numbers(const char *name, const uint64_t *numbers, size_t count
     printf("    %s:", name);
     for (i = 0; i < count; i++)
         printf(" %" PRIu64, numbers[i]);
+    putchar('\n');
+}
+
+static void show_bits(const uint64_t *numbers, size_t count)
+{
+    size_t i;
+
+    printf("    in hexadecimal digits:");
+    for (i = 0; i < count; i++)
+        printf(" %016" PRIx64, numbers[i]);
     putchar('\n');
 }
 
@@ -534,6 +546,79 @@ static void call_season(void *self, size_t book_rows, uint64_t version, uint64_t
     host.seasons += answers.returned[SECOND] == 0 && answers.numbers[SECOND][0] > 0;
 }
 
+/* Hours are compared by their bits, and so they have a room of their own: as many doubles as an answer has numbers. */
+enum { MOST_HOURS = 8 };
+
+struct hours {
+    double room[MOST_HOURS];
+};
+
+static struct hours fresh_hours(void)
+{
+    struct hours hours;
+
+    memset(&hours, 0xAB, sizeof hours);
+    return hours;
+}
+
+/* An array of negative length where the bits of a double are not those of a number. */
+typedef char doubles_are_numbers[sizeof(struct hours) == MOST_HOURS * sizeof(uint64_t) ? 1 : -1];
+
+static void keep_bits(struct answers *answers, int s, const struct hours *hours)
+{
+    memcpy(answers->numbers[s], hours->room, sizeof answers->numbers[s]);
+    if (host.verbose)
+        show_bits(answers->numbers[s], 2);
+}
+
+static void call_hours(void *self, size_t book_rows, uint64_t version, uint64_t number)
+{
+    struct answers answers = fresh_answers();
+    int s;
+
+    (void)self;
+    if (is_over())
+        return;
+    begin_call("hours", edition_of_book(SECOND));
+    if (host.verbose)
+        printf("    version %" PRIu64 ", number %" PRIu64 ", %" PRIu64 " rows of book\n", version, number, (uint64_t)book_rows);
+    for (s = 0; s < SIDES; s++) {
+        row *book = lend_book(s, book_rows);
+        struct hours hours = fresh_hours();
+
+        answers.returned[s] = sides[s]->hours((const row *)book, book_rows, version, number, hours.room, answers.place[s]);
+        keep_bits(&answers, s, &hours);
+        end_looking("a question for hours changed the book", book, s, book_rows);
+    }
+    compare_answers(&answers);
+    host.apart += answers.numbers[SECOND][0] != answers.numbers[SECOND][1];
+}
+
+static void call_season_hours(void *self, size_t book_rows, uint64_t version, uint64_t number, uint64_t first, uint64_t last)
+{
+    struct answers answers = fresh_answers();
+    int s;
+
+    (void)self;
+    if (is_over())
+        return;
+    begin_call("hours of a season", edition_of_book(SECOND));
+    if (host.verbose)
+        printf("    version %" PRIu64 ", number %" PRIu64 ", from %" PRIu64 " to %" PRIu64 ", %" PRIu64 " rows of book\n",
+            version, number, first, last, (uint64_t)book_rows);
+    for (s = 0; s < SIDES; s++) {
+        row *book = lend_book(s, book_rows);
+        struct hours hours = fresh_hours();
+
+        answers.returned[s] = sides[s]->season_hours((const row *)book, book_rows, version, number, first, last, hours.room,
+            answers.place[s]);
+        keep_bits(&answers, s, &hours);
+        end_looking("a question for a season's hours changed the book", book, s, book_rows);
+    }
+    compare_answers(&answers);
+    host.season_hours += answers.numbers[SECOND][0] != 0;
+}
+
 static void call_write(void *self, size_t book_rows, size_t out_length)
 {
     struct answers answers = fresh_answers();
@@ -852,8 +937,8 @@ static const row *standing_book(void *self)
 }
 
 static const struct cases_host calls = {NULL, call_read, call_put_book, call_slip, call_cell, call_type, call_block,
-    call_season, call_write, call_radio_open, call_radio_announce, call_radio_part, call_radio_close, call_radio_damage,
-    call_radio_mend, standing_book};
+    call_season, call_hours, call_season_hours, call_write, call_radio_open, call_radio_announce, call_radio_part,
+    call_radio_close, call_radio_damage, call_radio_mend, standing_book};
 
 /* ---- Runs */
 
@@ -887,6 +972,8 @@ static void print_counts(int places)
     for (number = 0; number < REFUSALS; number++)
         printf("%3" PRIu64 " %8" PRIu64 "\n", (uint64_t)number, host.came[number]);
     printf("Seasons that have some seconds: %" PRIu64 "\n", host.seasons);
+    printf("And some hours: %" PRIu64 "\n", host.season_hours);
+    printf("Hours whose two numbers differ: %" PRIu64 "\n", host.apart);
     if (!places)
         return;
     puts("And where (edition, number, table, column):");
@@ -897,6 +984,14 @@ static void print_counts(int places)
                     if (host.came_at[edition][number][table][column])
                         printf("%2" PRIu64 " %3" PRIu64 " %2" PRIu64 " %3" PRIu64 " %8" PRIu64 "\n", name_of_edition(edition),
                             (uint64_t)number, (uint64_t)table, (uint64_t)column, host.came_at[edition][number][table][column]);
+}
+
+static int came_often(const char *what, uint64_t times)
+{
+    if (times >= WANTED_EACH)
+        return 1;
+    printf("FAILED: fewer than %d %s\n", WANTED_EACH, what);
+    return 0;
 }
 
 /* The default run promises that each number comes often enough. */
@@ -910,10 +1005,9 @@ static int counts_are_enough(void)
             printf("FAILED: number %" PRIu64 " came fewer than %d times\n", (uint64_t)number, WANTED_EACH);
             enough = 0;
         }
-    if (host.seasons < WANTED_EACH) {
-        printf("FAILED: fewer than %d seasons have some seconds\n", WANTED_EACH);
-        enough = 0;
-    }
+    enough &= came_often("seasons have some seconds", host.seasons);
+    enough &= came_often("seasons have some hours", host.season_hours);
+    enough &= came_often("times the two numbers of hours differ", host.apart);
     return enough;
 }
 

@@ -1271,27 +1271,290 @@ static void run_days(struct run *run)
     tell(run, broken.words, season_is(run->side, &broken));
 }
 
-/* 512 blocks of 999,999 seconds on 800 days. */
-static void run_greatest_season(struct run *run)
+/* ---- Hours */
+
+/* Their bits are worked out by hand: the exact quotient or sum, rounded to the nearest binary64 number, or to the even one of
+ * two. */
+struct hours_edge {
+    const char *words;
+    size_t blocks;
+    uint64_t seconds[3]; /* of each, by rising key */
+    uint64_t quotient, clerk;
+};
+
+static const struct hours_edge hours_edges[] = {
+    {"no blocks", 0, {0}, 0, 0},
+    {"a block without seconds", 1, {0}, 0, 0},
+    {"three blocks without seconds", 3, {0, 0, 0}, 0, 0},
+    {"an hour", 1, {3600}, 0x3ff0000000000000, 0x3ff0000000000000},
+    {"a sixteenth of an hour", 1, {225}, 0x3fb0000000000000, 0x3fb0000000000000},
+    {"nine hours", 2, {28800, 3600}, 0x4022000000000000, 0x4022000000000000},
+    {"exact ones", 3, {1800, 900, 450}, 0x3fec000000000000, 0x3fec000000000000},
+    {"an hour and none", 2, {3600, 0}, 0x3ff0000000000000, 0x3ff0000000000000},
+    {"one second, rounded up", 1, {1}, 0x3f323456789abcdf, 0x3f323456789abcdf},
+    {"an hour and a second", 1, {3601}, 0x3ff00123456789ac, 0x3ff00123456789ac},
+    {"10,000 seconds, rounded down", 1, {10000}, 0x400638e38e38e38e, 0x400638e38e38e38e},
+    {"a second less than a day", 1, {86399}, 0x4037ffedcba98765, 0x4037ffedcba98765},
+    {"999,999 seconds", 1, {999999}, 0x40715c70a3d70a3d, 0x40715c70a3d70a3d},
+    {"three seconds, which are not three times a 3,600th", 1, {3}, 0x3f4b4e81b4e81b4f, 0x3f4b4e81b4e81b4f},
+    {"five seconds, which are not a 60th of a 60th", 1, {5}, 0x3f56c16c16c16c17, 0x3f56c16c16c16c17},
+    {"inexact ones whose sum is the quotient", 2, {28800, 10000}, 0x40258e38e38e38e4, 0x40258e38e38e38e4},
+    {"the sum is below the quotient, a tie to even", 2, {1, 2}, 0x3f4b4e81b4e81b4f, 0x3f4b4e81b4e81b4e},
+    {"the sum is above the quotient", 2, {1, 6}, 0x3f5fdb97530eca86, 0x3f5fdb97530eca87},
+    {"a tie up to even", 2, {13, 26}, 0x3f862fc962fc9630, 0x3f862fc962fc9630},
+    {"eight hours and an hour and a second", 2, {28800, 3601}, 0x4022002468acf135, 0x4022002468acf136},
+    {"three of one second", 3, {1, 1, 1}, 0x3f4b4e81b4e81b4f, 0x3f4b4e81b4e81b4e},
+    {"1, 2, 3", 3, {1, 2, 3}, 0x3f5b4e81b4e81b4f, 0x3f5b4e81b4e81b4e},
+    {"1, 3, 2", 3, {1, 3, 2}, 0x3f5b4e81b4e81b4f, 0x3f5b4e81b4e81b4e},
+    {"2, 3, 1: another order, other bits", 3, {2, 3, 1}, 0x3f5b4e81b4e81b4f, 0x3f5b4e81b4e81b4f},
+    {"3, 2, 1: another order, other bits", 3, {3, 2, 1}, 0x3f5b4e81b4e81b4f, 0x3f5b4e81b4e81b4f},
+};
+
+/* Whether the hours of a type have these bits, and nothing stands behind them. */
+static int hours_are(const struct side *side, size_t rows, uint64_t version, uint64_t type, uint64_t number,
+    uint64_t quotient, uint64_t clerk)
 {
-    static const uint64_t block[NUMBERS] = {1, 5, 3, 0, 4, 20, 1, 0, 31, 2, 999999};
-    static const struct season_edge greatest = {"the greatest season", 1, 4, 16000101, 99991231, 0, 409599590400u};
-    static const struct season_edge half = {"half of it", 1, 4, 16000101, 20010308, 0, 204799795200u};
+    double hours[3];
+    uint64_t bits[3], place[4], answer;
+
+    fill(hours, sizeof hours, 0xA5);
+    answer = side->hours((const row *)book, rows, version, type, hours, place);
+    memcpy(bits, hours, sizeof bits);
+    return answered(answer, place, number, 0, 0, 0) && bits[0] == quotient && bits[1] == clerk
+        && bits[2] == 0xa5a5a5a5a5a5a5a5;
+}
+
+static int season_hours_are(const struct side *side, size_t rows, const struct season_edge *edge, uint64_t quotient)
+{
+    double hours[2];
+    uint64_t bits[2], place[4], answer;
+
+    fill(hours, sizeof hours, 0xA5);
+    answer = side->season_hours((const row *)book, rows, edge->version, edge->type, edge->first, edge->last, hours, place);
+    memcpy(bits, hours, sizeof bits);
+    return answered(answer, place, edge->number, 0, 0, 0) && bits[0] == quotient && bits[1] == 0xa5a5a5a5a5a5a5a5;
+}
+
+/* Block number n of type 4, on days of type 5. */
+static void set_block(size_t n, uint64_t seconds)
+{
+    static const uint64_t block[NUMBERS] = {1, 5, 3, 0, 4, 20, 1, 0, 31, 2, 0};
+
+    memcpy(book[BLOCKS_AT + n], block, sizeof block);
+    book[BLOCKS_AT + n][3] = n;
+    book[BLOCKS_AT + n][10] = seconds;
+}
+
+/* The whole case's book without its blocks. */
+static void begin_blocks(struct run *run)
+{
+    uint64_t place[4];
+
+    read_into_book(run->side, whole_case, place);
+    memset(book[BLOCKS_AT], 0, TABLE_ROWS * sizeof book[0]);
+}
+
+static void run_hours(struct run *run)
+{
+    size_t i, n;
+
+    for (i = 0; i < sizeof hours_edges / sizeof hours_edges[0]; i++) {
+        const struct hours_edge *edge = &hours_edges[i];
+
+        begin_blocks(run);
+        for (n = 0; n < edge->blocks; n++)
+            set_block(n, edge->seconds[n]);
+        memcpy(before, book, sizeof before);
+        tell(run, edge->words, hours_are(run->side, BOOK_ROWS, 1, 4, 0, edge->quotient, edge->clerk));
+        tell(run, "hours leave the book as it is", memcmp(before, book, sizeof before) == 0);
+    }
+    begin_blocks(run);
+    for (n = 0; n < TABLE_ROWS; n++)
+        set_block(n, 999999);
+    tell(run, "512 blocks of 999,999 seconds",
+        hours_are(run->side, BOOK_ROWS, 1, 4, 0, 0x41015c70a3d70a3d, 0x41015c70a3d70a0f));
+    book[BLOCKS_AT + 511][10] = 2;
+    tell(run, "511 of them, and then two seconds",
+        hours_are(run->side, BOOK_ROWS, 1, 4, 0, 0x410153c26ca86420, 0x410153c26ca863f2));
+    book[BLOCKS_AT + 511][10] = 999999;
+    book[BLOCKS_AT][10] = 2;
+    tell(run, "two seconds, and then 511 of them",
+        hours_are(run->side, BOOK_ROWS, 1, 4, 0, 0x410153c26ca86420, 0x410153c26ca863f1));
+    for (n = 0; n < TABLE_ROWS; n++)
+        set_block(n, 1);
+    tell(run, "512 blocks of one second",
+        hours_are(run->side, BOOK_ROWS, 1, 4, 0, 0x3fc23456789abcdf, 0x3fc23456789abcd6));
+}
+
+/* "in rising key order": by version, day type, depot and block as numbers, wherever the rows stand in the text and whenever
+ * they came into the book. The blocks have 1, 2 and 3 seconds, and the sum tells whether the one comes last. */
+#define ONE_LAST 0x3f5b4e81b4e81b4f
+#define ONE_SOONER 0x3f5b4e81b4e81b4e
+#define BLOCK(key, type, seconds) "1;" key ";" type ";20;1;0;31;2;" seconds "\n"
+#define LINE(kind, key, seconds) kind "\t1\t5\t3\t" key "\t4\t20\t1\t0\t31\t2\t" seconds "\n"
+
+struct order_edge {
+    const char *words;
+    struct text text;
+    uint64_t clerk;
+};
+
+static const struct order_edge text_orders[] = {
+    {"rows by falling key", T(BLOCK_HEADER BLOCK("5;3;3", "4", "1") BLOCK("5;3;2", "4", "3") BLOCK("5;3;1", "4", "2")),
+        ONE_LAST},
+    {"block 10 behind blocks 8 and 9",
+        T(BLOCK_HEADER BLOCK("5;3;10", "4", "1") BLOCK("5;3;8", "4", "2") BLOCK("5;3;9", "4", "3")), ONE_LAST},
+    {"day type 6 behind day type 5",
+        T(BLOCK_HEADER BLOCK("6;3;1", "4", "1") BLOCK("5;3;20", "4", "2") BLOCK("5;3;21", "4", "3")), ONE_LAST},
+    {"a block of another type between them",
+        T(BLOCK_HEADER BLOCK("5;3;1", "4", "2") BLOCK("5;3;2", "7", "1") BLOCK("5;3;3", "4", "3") BLOCK("5;3;4", "4", "1")),
+        ONE_LAST},
+    {"rows by rising key", T(BLOCK_HEADER BLOCK("5;3;1", "4", "1") BLOCK("5;3;2", "4", "2") BLOCK("5;3;3", "4", "3")),
+        ONE_SOONER},
+};
+
+/* One behind the other, on the last of those. */
+static const struct order_edge slip_orders[] = {
+    {"a slip moves a block to the end", T("D\t1\t5\t3\t1\n" LINE("A", "4", "1")), ONE_LAST},
+    {"the block that was added last comes first", T("D\t1\t5\t3\t4\n" LINE("A", "1", "1")), ONE_SOONER},
+    {"blocks are replaced in their places", T(LINE("R", "3", "1") LINE("R", "1", "2") LINE("R", "2", "3")), ONE_LAST},
+};
+
+static void run_hours_order(struct run *run)
+{
+    struct text texts[TABLES];
     uint64_t place[4];
     size_t i;
 
-    read_into_book(run->side, whole_case, place);
-    for (i = 0; i < 512; i++) {
-        memcpy(book[BLOCKS_AT + i], block, sizeof block);
-        book[BLOCKS_AT + i][3] = i;
+    memcpy(texts, whole_case, sizeof texts);
+    for (i = 0; i < sizeof text_orders / sizeof text_orders[0]; i++) {
+        texts[part_of(VEHICLE_BLOCK)] = text_orders[i].text;
+        read_into_book(run->side, texts, place);
+        tell(run, text_orders[i].words,
+            hours_are(run->side, BOOK_ROWS, 1, 4, 0, 0x3f5b4e81b4e81b4f, text_orders[i].clerk));
     }
+    for (i = 0; i < sizeof slip_orders / sizeof slip_orders[0]; i++) {
+        slip_on_book(run->side, slip_orders[i].text, place);
+        tell(run, slip_orders[i].words,
+            hours_are(run->side, BOOK_ROWS, 1, 4, 0, 0x3f5b4e81b4e81b4f, slip_orders[i].clerk));
+    }
+}
+
+/* A type of the whole case's number in another version, and an hour's block of it. */
+static void run_hours_of_versions(struct run *run)
+{
+    static const uint64_t block[NUMBERS] = {2, 5, 3, 101, 4, 20, 1, 0, 20, 1, 3600}, key[3] = {2, 20, 1};
+    uint64_t place[4];
+
+    read_into_book(run->side, whole_case, place);
+    book[first_row(VEHICLE_TYPE) + 2][0] = 2;
+    book[first_row(VEHICLE_TYPE) + 2][1] = 4;
+    book[first_row(DEPOT) + 1][0] = 2;
+    book[first_row(DEPOT) + 1][1] = 3;
+    memcpy(book[first_row(STOP) + 2], key, 2 * sizeof key[0]);
+    memcpy(book[POINTS_AT + 2], key, sizeof key);
+    memcpy(book[BLOCKS_AT + 3], block, sizeof block);
+    tell(run, "hours of version 1", hours_are(run->side, BOOK_ROWS, 1, 4, 0, 0x40258e38e38e38e4, 0x40258e38e38e38e4));
+    tell(run, "hours of version 2", hours_are(run->side, BOOK_ROWS, 2, 4, 0, 0x3ff0000000000000, 0x3ff0000000000000));
+}
+
+/* The whole case, before and after its slip; 15 and 16. */
+static void run_hours_asked(struct run *run)
+{
+    static const struct text slip = T(WHOLE_SLIP), night = T("A\t1\t7\t3\t103\t7\t20\t1\t80000\t31\t2\t3600\n");
+    uint64_t place[4];
+
+    read_into_book(run->side, whole_case, place);
+    tell(run, "hours of type 4", hours_are(run->side, BOOK_ROWS, 1, 4, 0, 0x40258e38e38e38e4, 0x40258e38e38e38e4));
+    tell(run, "hours of type 7", hours_are(run->side, BOOK_ROWS, 1, 7, 0, 0x3ff00123456789ac, 0x3ff00123456789ac));
+    tell(run, "hours: no type 5", hours_are(run->side, BOOK_ROWS, 1, 5, 15, 0, 0));
+    tell(run, "hours: no type 4 of version 2", hours_are(run->side, BOOK_ROWS, 2, 4, 15, 0, 0));
+    tell(run, "hours: no type 0 of version 0", hours_are(run->side, BOOK_ROWS, 0, 0, 15, 0, 0));
+    tell(run, "hours: no type 2^32 + 4", hours_are(run->side, BOOK_ROWS, 1, 4294967300u, 15, 0, 0));
+    slip_on_book(run->side, slip, place);
+    tell(run, "nine hours after the slip", hours_are(run->side, BOOK_ROWS, 1, 4, 0, 0x4022000000000000, 0x4022000000000000));
+    tell(run, "no hours after the slip", hours_are(run->side, BOOK_ROWS, 1, 7, 0, 0, 0));
+    slip_on_book(run->side, night, place);
+    tell(run, "hours into the next day", hours_are(run->side, BOOK_ROWS, 1, 7, 0, 0x400638e38e38e38e, 0x400638e38e38e38e));
+    book[BLOCKS_AT + 511][0] = 1;
+    tell(run, "hours: 16", hours_are(run->side, BOOK_ROWS, 1, 4, 16, 0, 0));
+    tell(run, "hours: 16 before 15", hours_are(run->side, BOOK_ROWS, 1, 5, 16, 0, 0));
+}
+
+struct season_hours_edge {
+    struct season_edge season;
+    uint64_t quotient;
+};
+
+static const struct season_hours_edge season_hours_edges[] = {
+    {{"hours of all days", 1, 4, 16000101, 99991231, 0, 3 * 28800 + 2 * 10000}, 0x403d8e38e38e38e4},
+    {{"hours of all days of type 7", 1, 7, 16000101, 99991231, 0, 3 * 3601}, 0x400801b4e81b4e82},
+    {{"hours of the first day to the last", 1, 4, 20240101, 20241231, 0, 3 * 28800 + 2 * 10000}, 0x403d8e38e38e38e4},
+    {{"hours without the first day", 1, 4, 20240102, 20241231, 0, 2 * 28800 + 2 * 10000}, 0x40358e38e38e38e4},
+    {{"hours of one day", 1, 4, 20240101, 20240101, 0, 28800}, 0x4020000000000000},
+    {{"hours of one day of the other type", 1, 4, 20240229, 20240229, 0, 10000}, 0x400638e38e38e38e},
+    {{"hours of two days", 1, 4, 20240101, 20240102, 0, 38800}, 0x40258e38e38e38e4},
+    {{"hours of a day that the calendar lacks", 1, 4, 20240105, 20240105, 0, 0}, 0},
+    {{"hours where the last is before the first", 1, 4, 20240102, 20240101, 0, 0}, 0},
+    {{"hours: first is 29 February 2023", 1, 4, 20230229, 20240101, 23, 0}, 0},
+    {{"hours: last is 30 February 2024", 1, 4, 20240101, 20240230, 23, 0}, 0},
+    {{"hours: no date, and the last before the first", 1, 4, 20240230, 20240101, 23, 0}, 0},
+    {{"hours: 15 before 23", 1, 5, 0, 0, 15, 0}, 0},
+    {{"hours: no type 4 of version 2", 2, 4, 16000101, 99991231, 15, 0}, 0},
+};
+
+/* "Calendar sums go by the first rule alone": one second on three days is not three rounded ones, nor are blocks of one second
+ * and of two on one day their sum. */
+static void run_season_hours(struct run *run)
+{
+    static const struct season_edge one_day = {"a season's blocks", 1, 4, 20240101, 20240101, 0, 3},
+                                    three_days = {"a season's days", 1, 4, 20240101, 20241231, 0, 3},
+                                    broken = {"hours: 16 before 15 and 23", 1, 5, 0, 0, 16, 0};
+    struct text texts[TABLES];
+    uint64_t place[4];
+    size_t i;
+
+    season_case(texts);
+    read_into_book(run->side, texts, place);
+    memcpy(before, book, sizeof before);
+    for (i = 0; i < sizeof season_hours_edges / sizeof season_hours_edges[0]; i++) {
+        const struct season_hours_edge *edge = &season_hours_edges[i];
+
+        tell(run, edge->season.words,
+            season_is(run->side, &edge->season) && season_hours_are(run->side, BOOK_ROWS, &edge->season, edge->quotient));
+    }
+    tell(run, "a season's hours leave the book as it is", memcmp(before, book, sizeof before) == 0);
+    memset(book[BLOCKS_AT], 0, TABLE_ROWS * sizeof book[0]);
+    set_block(0, 1);
+    tell(run, three_days.words,
+        season_is(run->side, &three_days) && season_hours_are(run->side, BOOK_ROWS, &three_days, 0x3f4b4e81b4e81b4f));
+    set_block(1, 2);
+    tell(run, one_day.words,
+        season_is(run->side, &one_day) && season_hours_are(run->side, BOOK_ROWS, &one_day, 0x3f4b4e81b4e81b4f));
+    book[CALENDAR_AT + 799][2] = 1;
+    tell(run, broken.words, season_hours_are(run->side, BOOK_ROWS, &broken, 0));
+}
+
+/* 512 blocks of 999,999 seconds on 800 days. */
+static void run_greatest_season(struct run *run)
+{
+    static const struct season_edge greatest = {"the greatest season", 1, 4, 16000101, 99991231, 0, 409599590400u};
+    static const struct season_edge half = {"half of it", 1, 4, 16000101, 20010308, 0, 204799795200u};
+    size_t i;
+
+    begin_blocks(run);
+    for (i = 0; i < TABLE_ROWS; i++)
+        set_block(i, 999999);
     for (i = 0; i < 800; i++) {
         book[CALENDAR_AT + i][0] = 1;
         book[CALENDAR_AT + i][1] = day_numbered(i);
         book[CALENDAR_AT + i][2] = 5;
     }
     tell(run, greatest.words, season_is(run->side, &greatest));
+    tell(run, "its hours", season_hours_are(run->side, BOOK_ROWS, &greatest, 0x419b207000000000));
     tell(run, half.words, day_numbered(399) == half.last && season_is(run->side, &half));
+    book[CALENDAR_AT + 799][2] = 6;
+    tell(run, "the hours of 799 days", season_hours_are(run->side, BOOK_ROWS, &greatest, 0x419b17c1c7ae147b));
 }
 
 /* 7/13: "read last": every fault of a block comes before one of the calendar. */
@@ -1392,6 +1655,7 @@ static int lent(const struct side *side, size_t book_rows, size_t work_rows, int
 
 static void run_lengths(struct run *run)
 {
+    static const struct season_edge too_short = {"", 1, 4, 16000101, 99991231, 16, 0};
     uint64_t place[4], answer, sum[2], seven[7], seconds[1];
     size_t lengths[] = {0, 1, 512, 2048, 2561, BOOK_ROWS - 1, BOOK_ROWS + 1};
     size_t i;
@@ -1411,6 +1675,8 @@ static void run_lengths(struct run *run)
         tell(run, "block question to a book of another length", answered(answer, place, 16, 0, 0, 0) && !seven[0]);
         answer = run->side->season((const row *)book, lengths[i], 1, 4, 16000101, 99991231, seconds, place);
         tell(run, "season question to a book of another length", answered(answer, place, 16, 0, 0, 0) && !seconds[0]);
+        tell(run, "hours of a book of another length", hours_are(run->side, lengths[i], 1, 4, 16, 0, 0));
+        tell(run, "a season's hours of a book of another length", season_hours_are(run->side, lengths[i], &too_short, 0));
     }
     read_into_book(run->side, whole_case, place);
     tell(run, "A-28 slip with a working area too short", lent(run->side, BOOK_ROWS, WORK_ROWS - 1, 1));
@@ -1509,6 +1775,7 @@ static int book_is_kept(const struct side *side, int kept)
 {
     static const struct text slip = T("");
     uint64_t place[4], sum[2], seven[7], seconds[1], length[1], number = kept ? 0 : 16;
+    double hours[2];
     uint64_t answer;
     int good;
 
@@ -1520,6 +1787,10 @@ static int book_is_kept(const struct side *side, int kept)
     answer = side->block((const row *)book, BOOK_ROWS, 1, 5, 3, 101, seven, place);
     good = good && answered(answer, place, number, 0, 0, 0);
     answer = side->season((const row *)book, BOOK_ROWS, 1, 4, 20240101, 20241231, seconds, place);
+    good = good && answered(answer, place, number, 0, 0, 0);
+    answer = side->hours((const row *)book, BOOK_ROWS, 1, 4, hours, place);
+    good = good && answered(answer, place, number, 0, 0, 0);
+    answer = side->season_hours((const row *)book, BOOK_ROWS, 1, 4, 20240101, 20241231, hours, place);
     good = good && answered(answer, place, number, 0, 0, 0);
     answer = side->write((const row *)book, BOOK_ROWS, out, sizeof out, length, place);
     good = good && answered(answer, place, number, 0, 0, 0) && (length[0] == 0) == (number == 16);
@@ -2794,6 +3065,11 @@ static void run_by_edition(struct run *run)
     run_seasons(run);
     run_days(run);
     run_greatest_season(run);
+    run_hours(run);
+    run_hours_order(run);
+    run_hours_of_versions(run);
+    run_hours_asked(run);
+    run_season_hours(run);
     run_calendar_last(run);
     run_writer(run);
     run_widest_book(run);

@@ -5,6 +5,7 @@
 
 #include "columns.h"
 
+#include <float.h>
 #include <string.h>
 
 enum { BLOCKS = 512, NUMBERS = 11, BOOK_ROWS = SECOND_BOOK_ROWS, WORK_ROWS = BLOCKS, TEXT_BYTES = SECOND_TEXT_BYTES };
@@ -1072,6 +1073,51 @@ uint64_t second_season(const uint64_t (*book)[11], size_t rows, uint64_t version
         if (blocks[i][B_VERSION] == version && blocks[i][B_TYPE] == number)
             seconds[0] += seconds_of(blocks[i]) * days_of(book, blocks[i], first, last);
     return accept(place);
+}
+
+/* An array of negative length where a double is no binary64 number, or is worked out in another kind of number. */
+typedef char doubles_are_binary64[DBL_MANT_DIG == 53 && DBL_MAX_EXP == 1024 && FLT_EVAL_METHOD == 0 ? 1 : -1];
+
+/* 8/13: "divided by 3,600 at the very end". A double has every number of seconds exactly, since none reaches 2 to the 53rd, and
+ * IEEE 754 rounds the quotient once. */
+static double hours_of(uint64_t seconds)
+{
+    return (double)seconds / 3600.0;
+}
+
+/* 8/13: "one type's whole seconds S divided by 3,600", and "as the ledger clerk does: each block's hours rounded, added in
+ * rising key order", in which the book has its blocks. "No blocks gives 0 exactly, as do 16 and 15." */
+uint64_t second_hours(const uint64_t (*book)[11], size_t rows, uint64_t version, uint64_t number, double hours[2],
+    uint64_t place[4])
+{
+    uint64_t sum[2];
+    uint64_t refusal = second_type(book, rows, version, number, sum, place);
+    rows_in blocks;
+    size_t n, i;
+
+    hours[0] = 0.0;
+    hours[1] = 0.0;
+    if (refusal)
+        return refusal;
+    blocks = rows_of_in(book, VEHICLE_BLOCK);
+    n = used(blocks, VEHICLE_BLOCK);
+    for (i = 0; i < n; i++)
+        if (blocks[i][B_VERSION] == version && blocks[i][B_TYPE] == number)
+            hours[1] = hours[1] + hours_of(seconds_of(blocks[i]));
+    hours[0] = hours_of(sum[0]);
+    return refusal;
+}
+
+/* 8/13: "Calendar sums go by the first rule alone." */
+uint64_t second_season_hours(const uint64_t (*book)[11], size_t rows, uint64_t version, uint64_t number, uint64_t first,
+    uint64_t last, double hours[1], uint64_t place[4])
+{
+    uint64_t seconds[1];
+    uint64_t refusal = second_season(book, rows, version, number, first, last, seconds, place);
+
+    /* a refused season has 0 seconds */
+    hours[0] = hours_of(seconds[0]);
+    return refusal;
 }
 
 /* ---- Slips */

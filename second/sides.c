@@ -94,7 +94,8 @@ static uint64_t library_close(const struct radio *radio, uint64_t place[4])
 
 /* ---- The sides */
 
-#define SIDE(name, of) name, of(read), of(slip), of(cell), of(type), of(block), of(season), of(write)
+#define SIDE(name, of)                                                                                                     \
+    name, of(read), of(slip), of(cell), of(type), of(block), of(season), of(hours), of(season_hours), of(write)
 
 const struct side library_side = {SIDE(LIBRARY_NAME, OF_LIBRARY), LIBRARY_RADIO};
 const struct side second_side = {SIDE("the second reader", OF_SECOND), SECOND_RADIO};

@@ -51,6 +51,9 @@ struct side {
         uint64_t answer[7], uint64_t place[4]);
     uint64_t (*season)(const row *book, size_t rows, uint64_t version, uint64_t number, uint64_t first, uint64_t last,
         uint64_t seconds[1], uint64_t place[4]);
+    uint64_t (*hours)(const row *book, size_t rows, uint64_t version, uint64_t number, double hours[2], uint64_t place[4]);
+    uint64_t (*season_hours)(const row *book, size_t rows, uint64_t version, uint64_t number, uint64_t first, uint64_t last,
+        double hours[1], uint64_t place[4]);
     uint64_t (*write)(const row *book, size_t rows, uint8_t *out, size_t out_length, uint64_t length[1],
         uint64_t place[4]);
     /* by radio; NULL where a side has none of them */

@@ -53,8 +53,8 @@ static struct {
     row book_read[MOST_ROWS];
     uint64_t kept[WORKSHOP_RADIO_KEPT];
     uint8_t lines[WORKSHOP_RADIO_LINES];
-    /* the reading, the cell question in its place, or the season question on the book that it leaves */
-    enum { READS, ASKS_CELL, ASKS_SEASON } asks;
+    /* the reading, the cell question in its place, or another question on the book that it leaves */
+    enum { READS, ASKS_CELL, ASKS_SEASON, ASKS_HOURS, ASKS_SEASON_HOURS } asks;
     uint64_t asked[4];
     struct text asked_text;
 } played;
@@ -189,7 +189,7 @@ static void set_text(struct text *text, const char *written)
 struct answer {
     uint64_t returned;
     uint64_t place[4];
-    uint64_t numbers[4]; /* a cell's, or a season's seconds and three zeros; four zeros for a reading */
+    uint64_t numbers[4]; /* a cell's, a season's seconds, or the bits of hours, and zeros behind them; zeros for a reading */
 };
 
 static void fill(uint64_t *numbers, size_t count, uint64_t with)
@@ -223,16 +223,43 @@ static uint64_t ask_cell(struct answer *answer)
         played.asked[2], answer->numbers, answer->place);
 }
 
+static int asks_book(void)
+{
+    return played.asks != READS && played.asks != ASKS_CELL;
+}
+
+/* Hours are held to their bits. */
+static uint64_t ask_hours(struct answer *answer)
+{
+    const row *book = (const row *)played.book;
+    const uint64_t *asked = played.asked;
+    double hours[2];
+    uint64_t returned;
+
+    if (sizeof hours != 2 * sizeof answer->numbers[0])
+        end_with("a double has not 64 bits here");
+    fill(answer->numbers, played.asks == ASKS_HOURS ? 2 : 1, BEFORE);
+    memcpy(hours, answer->numbers, sizeof hours);
+    if (played.asks == ASKS_HOURS)
+        returned = workshop_hours(book, played.book_rows, asked[0], asked[1], hours, answer->place);
+    else
+        returned = workshop_season_hours(book, played.book_rows, asked[0], asked[1], asked[2], asked[3], hours, answer->place);
+    memcpy(answer->numbers, hours, sizeof hours);
+    return returned;
+}
+
 /* Of the book that the reading leaves, which is kept to be looked at. Where the reading is refused, that is the answer. */
-static uint64_t ask_season(struct answer *answer)
+static uint64_t ask_book(struct answer *answer)
 {
     uint64_t returned = read_texts(WORKSHOP_BOOK_ROWS, answer->place);
 
     memcpy(played.book_read, played.book, sizeof played.book);
     if (returned)
         return returned;
-    fill(answer->numbers, 1, BEFORE);
     fill(answer->place, 4, BEFORE);
+    if (played.asks != ASKS_SEASON)
+        return ask_hours(answer);
+    fill(answer->numbers, 1, BEFORE);
     return workshop_season((const row *)played.book, played.book_rows, played.asked[0], played.asked[1], played.asked[2],
         played.asked[3], answer->numbers, answer->place);
 }
@@ -246,8 +273,8 @@ static struct answer call(void)
     fill(answer.numbers, 4, 0);
     if (played.asks == ASKS_CELL)
         answer.returned = ask_cell(&answer);
-    else if (played.asks == ASKS_SEASON)
-        answer.returned = ask_season(&answer);
+    else if (asks_book())
+        answer.returned = ask_book(&answer);
     else
         answer.returned = read_texts(played.book_rows, answer.place);
     return answer;
@@ -381,8 +408,8 @@ static int answers_with(const uint64_t place[4], const uint64_t numbers[4])
         if (!same("the place", place, came.place, 4) || !same("the number returned", place, &came.returned, 1)
             || !same("the numbers answered", numbers, came.numbers, 4))
             return 0;
-        if (played.asks == ASKS_SEASON && memcmp(played.book_read, played.book, sizeof played.book) != 0)
-            return fail("the book after a season question");
+        if (asks_book() && memcmp(played.book_read, played.book, sizeof played.book) != 0)
+            return fail("the book after a question");
     }
     memcpy(played.book_read, played.book, sizeof played.book);
     for (i = 0; i < file.ways && played.asks == READS; i++)
@@ -530,6 +557,20 @@ static void take_season(char *rest)
     take_byte(&at, 0);
 }
 
+static void take_hours(char *rest)
+{
+    const char *at = take_asked(rest, 2);
+
+    played.asks = ASKS_HOURS;
+    take_byte(&at, 0);
+}
+
+static void take_season_hours(char *rest)
+{
+    take_season(rest);
+    played.asks = ASKS_SEASON_HOURS;
+}
+
 /* Rows written as numbers with semicolons between them, and zeros behind them up to the table's last row. */
 static void lay_out(const char *written, row rows[CALENDAR_ROWS], size_t room)
 {
@@ -660,6 +701,34 @@ static void want_seconds(char *rest)
     count(answers_with(zeros, seconds));
 }
 
+/* The bits of a binary64 number, as 16 hexadecimal digits; `at` goes behind them. */
+static uint64_t take_bits(const char **at)
+{
+    char *end;
+    uint64_t bits = strtoull(*at, &end, 16);
+
+    if (end - *at != 16)
+        end_with("the bits of a number of hours are 16 hexadecimal digits");
+    *at = end;
+    return bits;
+}
+
+static void want_hours(char *rest)
+{
+    const char *at = rest;
+    uint64_t hours[4] = {0, 0, 0, 0};
+
+    if (played.asks != ASKS_HOURS && played.asks != ASKS_SEASON_HOURS)
+        end_with("the case asks for no hours");
+    hours[0] = take_bits(&at);
+    if (played.asks == ASKS_HOURS) {
+        take_byte(&at, ' ');
+        hours[1] = take_bits(&at);
+    }
+    take_byte(&at, 0);
+    count(answers_with(zeros, hours));
+}
+
 static void take_line(char *line)
 {
     static const struct {
@@ -667,9 +736,10 @@ static void take_line(char *line)
         void (*take)(char *rest);
     } lines[] = {{"let", take_let}, {"beside", take_beside}, {"parts", take_parts}, {"case", take_case},
         {"edition", take_edition}, {"book", take_book}, {"cell", take_cell}, {"season", take_season},
-        {"announced", take_announced}, {"accepted", want_accepted}, {"refused", want_refused}, {"number", want_number},
-        {"equipment", want_equipment}, {"flags", want_flags}, {"text", want_text}, {"nothing", want_nothing},
-        {"seconds", want_seconds}};
+        {"hours", take_hours}, {"season-hours", take_season_hours}, {"announced", take_announced},
+        {"accepted", want_accepted}, {"refused", want_refused}, {"number", want_number}, {"equipment", want_equipment},
+        {"flags", want_flags}, {"text", want_text}, {"nothing", want_nothing}, {"seconds", want_seconds},
+        {"binary64", want_hours}};
     char *rest;
     size_t i, t;
 

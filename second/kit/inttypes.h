@@ -3,4 +3,5 @@
 #define KIT_INTTYPES_H
 #include <stdint.h>
 #define PRIu64 "lu"
+#define PRIx64 "lx"
 #endif

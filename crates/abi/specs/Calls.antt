@@ -2,6 +2,7 @@
 use mathlib.Core.Path.{_≡_}
 use mathlib.Core.List.{List, [], _∷_}
 use Prim.Native.Nat.{ℕ}
+use lib.Ieee.{Float}
 use Rattle.words.specs.Words.{Bytes, Row}
 use Rattle.refusals.specs.Verdicts.{values}
 use Rattle.questions.specs.Calls.{typeCall, blockCall}
@@ -12,6 +13,7 @@ use Rattle.cell_question.specs.CellQuestion.{cellAsked}
 use Rattle.slips.specs.Calls.{slipCall}
 use Rattle.writer.specs.Calls.{writeCall}
 use Rattle.seasons.specs.Calls.{seasonCall}
+use Rattle.hours.specs.Calls.{hoursCall, seasonHoursCall}
 use Rattle.abi.specs.Telling.{Tells}
 
 abbrev pub ReadPermits : ℕ → Delivery → List Row → ℕ → List ℕ → List Row → Type 0
@@ -39,6 +41,16 @@ BlockPermits book version day depot block r place answer =
 abbrev pub SeasonPermits : List Row → ℕ → ℕ → ℕ → ℕ → ℕ → List ℕ → List ℕ → Type 0
 SeasonPermits book version type first last r place answer =
     Tells r place (seasonCall book version type first last .verdict) × (answer ≡ seasonCall book version type first last .seconds ∷ [])
+
+-- the answer is the quotient and the clerk's sum
+abbrev pub HoursPermits : List Row → ℕ → ℕ → ℕ → List ℕ → List Float → Type 0
+HoursPermits book version type r place answer =
+    Tells r place (hoursCall book version type .verdict) × (answer ≡ hoursCall book version type .hours ∷ hoursCall book version type .summed ∷ [])
+
+-- the answer is the quotient
+abbrev pub SeasonHoursPermits : List Row → ℕ → ℕ → ℕ → ℕ → ℕ → List ℕ → List Float → Type 0
+SeasonHoursPermits book version type first last r place answer =
+    Tells r place (seasonHoursCall book version type first last .verdict) × (answer ≡ seasonHoursCall book version type first last .hours ∷ [])
 
 -- the length is one number
 abbrev pub WritePermits : List Row → Bytes → ℕ → List ℕ → List ℕ → Bytes → Type 0

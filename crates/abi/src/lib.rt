@@ -5,7 +5,7 @@ ghost use Rattle.delivery.specs.Calls.{delivery};
 ghost use Rattle.radio.specs.Radio.{announce, part, close};
 ghost use Rattle.radio.specs.Room.{radioCall, openCall};
 ghost use Rattle.radio_rule.specs.Lent.{slices};
-ghost use Rattle.abi.specs.Calls.{ReadPermits, SlipPermits, CellPermits, TypePermits, BlockPermits, SeasonPermits, WritePermits, RadioPermits};
+ghost use Rattle.abi.specs.Calls.{ReadPermits, SlipPermits, CellPermits, TypePermits, BlockPermits, SeasonPermits, HoursPermits, SeasonHoursPermits, WritePermits, RadioPermits};
 use refusals::Cell;
 use refusals::Verdict;
 use rows::Row;
@@ -150,6 +150,44 @@ pub extern "C" fn workshop_season(
     let verdict = found.verdict;
     let told = on_paper(verdict);
     *seconds = [found.seconds];
+    *place = told;
+    told[0]
+}
+
+#[no_mangle]
+pub extern "C" fn workshop_hours(
+    book: &[Row],
+    version: u64,
+    number: u64,
+    hours: &mut [f64; 2],
+    place: &mut [u64; 4],
+) -> u64
+    ensures { λ r. ⌜ HoursPermits (now (book .entry)) version number r (now (place .exit)) (now (hours .exit)) ⌝ }
+{
+    let found = hours::type_hours(book, version, number);
+    let verdict = found.verdict;
+    let told = on_paper(verdict);
+    *hours = [found.hours, found.summed];
+    *place = told;
+    told[0]
+}
+
+#[no_mangle]
+pub extern "C" fn workshop_season_hours(
+    book: &[Row],
+    version: u64,
+    number: u64,
+    first: u64,
+    last: u64,
+    hours: &mut [f64; 1],
+    place: &mut [u64; 4],
+) -> u64
+    ensures { λ r. ⌜ SeasonHoursPermits (now (book .entry)) version number first last r (now (place .exit)) (now (hours .exit)) ⌝ }
+{
+    let found = hours::season_hours(book, version, number, first, last);
+    let verdict = found.verdict;
+    let told = on_paper(verdict);
+    *hours = [found.hours];
     *place = told;
     told[0]
 }

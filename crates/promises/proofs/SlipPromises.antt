@@ -7,7 +7,7 @@ use Prim.Native.Nat.{_+_, ℕ, _<_, suc}
 use native.Mathlib.Omega.{arith}
 use lib.ListN.{length, getD}
 use borrow.Author.Tests.{lt-leb}
-use Rattle.words.specs.Words.{Bytes, Row}
+use Rattle.words.specs.Words.{Bytes, Row, if_then_else_}
 use Rattle.words.proofs.Lists.{and-left, and-right}
 use Rattle.refusals.specs.Verdicts.{_⊳_, _when_, placed, tooManyRows, passes, endsEarly, noBlock, place, inText, textTooLong, nowhere, notThere}
 use Rattle.refusals.specs.declared.Check.{Check}
@@ -214,46 +214,60 @@ module _ {X : Type 0} (f : List Row → X) (does : Bytes → Book → Bool)
       let later = someSlip does ss (posted s b) in
       kept-slips ss (posted s b) (or-right here later h) ∙ kept-slip s b (or-left here later h)
 
--- what the blocks of another type weigh
-module _ (weight : Row → ℕ) (v n : ℕ) (row : Row) where
-  total-inserted : (xs : List Row) → ofType v n row ≡ false → total weight v n (inserted 4 row xs) ≡ total weight v n xs
-  unfolding total inserted
-  total-inserted [] h = rw h
-  total-inserted (x ∷ xs) h = go (keyOrder 4 row x) refl (total-inserted xs h)
+-- the blocks of a type, in their order: a row of another type that comes or goes leaves them as they are
+unfoldable pub typeRows : ℕ → ℕ → List Row → List Row
+typeRows v n [] = []
+typeRows v n (x ∷ xs) = if ofType v n x then x ∷ typeRows v n xs else typeRows v n xs
+
+module _ (v n : ℕ) (row : Row) where
+  rows-inserted : (xs : List Row) → ofType v n row ≡ false → typeRows v n (inserted 4 row xs) ≡ typeRows v n xs
+  unfolding typeRows inserted
+  rows-inserted [] h = rw h
+  rows-inserted (x ∷ xs) h = go (keyOrder 4 row x) refl (rows-inserted xs h)
     where
-      go : (o : Order) → keyOrder 4 row x ≡ o → total weight v n (inserted 4 row xs) ≡ total weight v n xs → total weight v n (inserted 4 row (x ∷ xs)) ≡ total weight v n (x ∷ xs)
-      go Less e ih = rw (e, h) (omega arith)
+      go : (o : Order) → keyOrder 4 row x ≡ o → typeRows v n (inserted 4 row xs) ≡ typeRows v n xs → typeRows v n (inserted 4 row (x ∷ xs)) ≡ typeRows v n (x ∷ xs)
+      go Less e ih = rw (e, h)
       go Same e ih = rw e
       go More e ih = rw (e, ih)
 
-  total-replaced : (xs : List Row) → ofType v n row ≡ false → ofType v n (found 4 row xs) ≡ false → total weight v n (replaced 4 row xs) ≡ total weight v n xs
-  unfolding total replaced found
-  total-replaced [] h k = refl
-  total-replaced (x ∷ xs) h k = go (keyOrder 4 row x) refl (total-replaced xs h)
+  rows-replaced : (xs : List Row) → ofType v n row ≡ false → ofType v n (found 4 row xs) ≡ false → typeRows v n (replaced 4 row xs) ≡ typeRows v n xs
+  unfolding typeRows replaced found
+  rows-replaced [] h k = refl
+  rows-replaced (x ∷ xs) h k = go (keyOrder 4 row x) refl (rows-replaced xs h)
     where
-      go : (o : Order) → keyOrder 4 row x ≡ o → (ofType v n (found 4 row xs) ≡ false → total weight v n (replaced 4 row xs) ≡ total weight v n xs) →
-          total weight v n (replaced 4 row (x ∷ xs)) ≡ total weight v n (x ∷ xs)
+      go : (o : Order) → keyOrder 4 row x ≡ o → (ofType v n (found 4 row xs) ≡ false → typeRows v n (replaced 4 row xs) ≡ typeRows v n xs) →
+          typeRows v n (replaced 4 row (x ∷ xs)) ≡ typeRows v n (x ∷ xs)
       go Less e ih = rw (e, ih (rw e at k))
       go Same e ih = let m : ofType v n x ≡ false = rw e at k in rw (e, h, m)
       go More e ih = rw (e, ih (rw e at k))
 
-  total-removed : (xs : List Row) → ofType v n (found 4 row xs) ≡ false → total weight v n (removed 4 row xs) ≡ total weight v n xs
-  unfolding total removed found
-  total-removed [] k = refl
-  total-removed (x ∷ xs) k = go (keyOrder 4 row x) refl (total-removed xs)
+  rows-removed : (xs : List Row) → ofType v n (found 4 row xs) ≡ false → typeRows v n (removed 4 row xs) ≡ typeRows v n xs
+  unfolding typeRows removed found
+  rows-removed [] k = refl
+  rows-removed (x ∷ xs) k = go (keyOrder 4 row x) refl (rows-removed xs)
     where
-      go : (o : Order) → keyOrder 4 row x ≡ o → (ofType v n (found 4 row xs) ≡ false → total weight v n (removed 4 row xs) ≡ total weight v n xs) →
-          total weight v n (removed 4 row (x ∷ xs)) ≡ total weight v n (x ∷ xs)
+      go : (o : Order) → keyOrder 4 row x ≡ o → (ofType v n (found 4 row xs) ≡ false → typeRows v n (removed 4 row xs) ≡ typeRows v n xs) →
+          typeRows v n (removed 4 row (x ∷ xs)) ≡ typeRows v n (x ∷ xs)
       go Less e ih = rw (e, ih (rw e at k))
-      go Same e ih = let m : ofType v n x ≡ false = rw e at k in rw (e, m) (omega arith)
+      go Same e ih = let m : ofType v n x ≡ false = rw e at k in rw (e, m)
       go More e ih = rw (e, ih (rw e at k))
 
-  total-granted : (w : Wish) (b : Book) → changes w v n row b ≡ false → total weight v n (granted w row b .blocks) ≡ total weight v n (b .blocks)
-  total-granted Unknown b h = refl
-  total-granted Add b h = total-inserted (b .blocks) h
-  total-granted Replace b h =
-      total-replaced (b .blocks) (or-left (ofType v n row) (ofType v n (found 4 row (b .blocks))) h) (or-right (ofType v n row) (ofType v n (found 4 row (b .blocks))) h)
-  total-granted Delete b h = total-removed (b .blocks) h
+  rows-granted : (w : Wish) (b : Book) → changes w v n row b ≡ false → typeRows v n (granted w row b .blocks) ≡ typeRows v n (b .blocks)
+  rows-granted Unknown b h = refl
+  rows-granted Add b h = rows-inserted (b .blocks) h
+  rows-granted Replace b h =
+      rows-replaced (b .blocks) (or-left (ofType v n row) (ofType v n (found 4 row (b .blocks))) h) (or-right (ofType v n row) (ofType v n (found 4 row (b .blocks))) h)
+  rows-granted Delete b h = rows-removed (b .blocks) h
+
+-- they weigh the same without the other blocks
+total-rows : (weight : Row → ℕ) (v n : ℕ) (xs : List Row) → total weight v n (typeRows v n xs) ≡ total weight v n xs
+unfolding total typeRows
+total-rows weight v n [] = refl
+total-rows weight v n (x ∷ xs) = go (ofType v n x) refl (total-rows weight v n xs)
+  where
+    go : (q : Bool) → ofType v n x ≡ q → total weight v n (typeRows v n xs) ≡ total weight v n xs → total weight v n (typeRows v n (x ∷ xs)) ≡ total weight v n (x ∷ xs)
+    go true e ih = rw e (rw (e, ih))
+    go false e ih = rw (e, ih) (omega arith)
 
 pub run-left : (b : Book) (ss : List Bytes) → Left b → Left (run ss b)
 run-left b ss l = (l .0, (with-blocks (written (run ss b)) (l .1 .0), run-reads-afresh (l .0) (l .1 .0) b ss (l .1 .1)))
@@ -279,10 +293,14 @@ blocks-kept b ss version day depot block l h =
     ∙ ap (λ (z : Row). blockAnswered (nowhere (notThere when not (stands 4 key (b .blocks)))) (seven z)) f
     ∙ sym (block-asked b (left-standing b l) version day depot block)
 
--- whatever the blocks of a type weigh stays, where no accepted slip touches the type
+-- the blocks of a type stay, and whatever they weigh, where no accepted slip touches the type
+pub rows-kept : (b : Book) (ss : List Bytes) (version type : ℕ) → someSlip (touches version type) ss b ≡ false → typeRows version type (run ss b .blocks) ≡ typeRows version type (b .blocks)
+rows-kept b ss version type h = kept-slips (typeRows version type) (touches version type) (λ x z e. rows-granted version type (rowIn x) (wish (fields x)) z e) ss b h
+
 pub total-kept : (b : Book) (ss : List Bytes) (version type : ℕ) → someSlip (touches version type) ss b ≡ false → (weight : Row → ℕ) →
     total weight version type (run ss b .blocks) ≡ total weight version type (b .blocks)
-total-kept b ss version type h weight = kept-slips (total weight version type) (touches version type) (λ x z e. total-granted weight version type (rowIn x) (wish (fields x)) z e) ss b h
+total-kept b ss version type h weight =
+    sym (total-rows weight version type (run ss b .blocks)) ∙ ap (total weight version type) (rows-kept b ss version type h) ∙ total-rows weight version type (b .blocks)
 
 pub types-kept : TypesKept
 types-kept b ss version type l h =

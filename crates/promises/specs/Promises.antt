@@ -4,6 +4,7 @@ use mathlib.Core.List.{List, [], _∷_, map, _++_}
 use mathlib.Core.Logic.{_↔_, _⊎_}
 use mathlib.Core.Bool.{false, true, not, Bool, _&&_, _||_}
 use Prim.Native.Nat.{_≤_, ℕ, zero, suc, _<_, _+_, _-_, _^_}
+use lib.Ieee.{Float}
 use lib.ListN.{length, replicate, getD, take, drop}
 use lib.Dec.{eqb, ltb, leb}
 use Rattle.words.specs.Words.{Bytes, Row, if_then_else_, same}
@@ -64,6 +65,9 @@ use Rattle.sheet.specs.Calls.{sheetCall, SheetPermits}
 use Rattle.sheet.specs.Sheet.{sheetRoom}
 use Rattle.seasons.specs.Calls.{SeasonPermits}
 use Rattle.seasons.specs.declared.SeasonAnswer.{SeasonAnswer}
+use Rattle.hours.specs.Calls.{HoursPermits, SeasonHoursPermits}
+use Rattle.hours.specs.declared.HoursAnswer.{HoursAnswer}
+use Rattle.hours.specs.declared.SeasonHours.{SeasonHours}
 use Rattle.abi.specs.Calls as for-c
 use Rattle.fault_mark.specs.Marks.{MarkPermits, NumberedPermits}
 use Rattle.fault_mark.specs.declared.Mark.{Mark}
@@ -87,6 +91,8 @@ Determined = ((n : ℕ) (d : Delivery) (book : List Row) → Single read-call.Ou
     × ((book : List Row) (version type : ℕ) → Single TypeAnswer (TypePermits book version type))
     × ((book : List Row) (version day depot block : ℕ) → Single BlockAnswer (BlockPermits book version day depot block))
     × ((book : List Row) (version type first last : ℕ) → Single SeasonAnswer (SeasonPermits book version type first last))
+    × ((book : List Row) (version type : ℕ) → Single HoursAnswer (HoursPermits book version type))
+    × ((book : List Row) (version type first last : ℕ) → Single SeasonHours (SeasonHoursPermits book version type first last))
     × ((book : List Row) (out : Bytes) → Single write-call.Outcome (WritePermits book out))
     × ((v : Verdict) (book : List Row) (out : Bytes) → Single write-call.Outcome (SheetPermits v book out))
     × ((e : Edition) (s : Bytes) (p : Place) → Single Mark (MarkPermits e s p))
@@ -102,6 +108,8 @@ DeterminedForC = ((n : ℕ) (d : Delivery) (book : List Row) → Single (ℕ × 
     × ((book : List Row) (version type : ℕ) → Single (ℕ × List ℕ × List ℕ) (λ o. for-c.TypePermits book version type (o .0) (o .1) (o .2)))
     × ((book : List Row) (version day depot block : ℕ) → Single (ℕ × List ℕ × List ℕ) (λ o. for-c.BlockPermits book version day depot block (o .0) (o .1) (o .2)))
     × ((book : List Row) (version type first last : ℕ) → Single (ℕ × List ℕ × List ℕ) (λ o. for-c.SeasonPermits book version type first last (o .0) (o .1) (o .2)))
+    × ((book : List Row) (version type : ℕ) → Single (ℕ × List ℕ × List Float) (λ o. for-c.HoursPermits book version type (o .0) (o .1) (o .2)))
+    × ((book : List Row) (version type first last : ℕ) → Single (ℕ × List ℕ × List Float) (λ o. for-c.SeasonHoursPermits book version type first last (o .0) (o .1) (o .2)))
     × ((book : List Row) (out : Bytes) → Single (ℕ × List ℕ × List ℕ × Bytes) (λ o. for-c.WritePermits book out (o .0) (o .1) (o .2) (o .3)))
     × ((call : radio-is.Outcome) → Single (ℕ × List ℕ × Slices) (λ o. for-c.RadioPermits call (o .0) (o .1) (o .2)))
 

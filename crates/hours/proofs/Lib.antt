@@ -1,0 +1,3 @@
+pub mod Each
+pub mod Answers
+pub mod LedgerClaims
