@@ -106,6 +106,12 @@ def declared(text):
     return names, fields
 
 
+def by_alias(text, crates):
+    """alias of a module -> module"""
+    found = re.findall(r"^\s*(?:ghost use|pub use|use) Rattle\.([\w.+']+?) as (\S+?);?$", text, re.M)
+    return {alias: path for path, alias in found if path.split(".")[0] in crates}
+
+
 def imported(text, crates):
     """name as written in the file -> (module, name there)"""
     out = []
@@ -220,6 +226,11 @@ def main(argv):
                 if new != name:
                     names[name] = new
         new = turn_text(text, names, fields, path.endswith(".rt"))
+        for alias, where in by_alias(text, crates).items():
+            def member(m):
+                n = turned(m[1], where.split(".")[1] == "proofs", humps) if m[1] in own.get(where, ()) else m[1]
+                return alias + "." + n
+            new = re.sub(r"(?<![\w.'-])" + re.escape(alias) + r"\.([A-Za-z][\w'-]*)", member, new)
         with open(path, "w", encoding="utf-8") as f:
             f.write(new)
     for f, g in sorted(fields.items()):

@@ -1,4 +1,6 @@
 // The library for C, as include/workshop.h says it: each function tells its verdict by the returned number and the place.
+#![tactic(auto)]
+
 ghost use Rattle.std.specs.Prelude.{◌≡◌};
 ghost use Rattle.refusals.specs.Verdicts.{paper, values};
 ghost use Rattle.delivery.specs.Calls.{delivery};

@@ -1,4 +1,6 @@
 // A line of a slip taken on the blocks as they stand on the shelf.
+#![tactic(auto)]
+
 ghost use Rattle.std.specs.Prelude.{◌≡◌, true};
 ghost use Rattle.refusals.specs.Verdicts.{◌when◌, ends_early, ◌⊳◌};
 ghost use Rattle.fields.specs.Fields.{fields};

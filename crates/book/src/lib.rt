@@ -1,4 +1,6 @@
 // The book that is lent, the parts of its tables, and its edition.
+#![tactic(auto)]
+
 ghost use Rattle.std.specs.Prelude.{◌≡◌, [], ◌∷◌, ◌≤◌, ◌<◌, length, get_or};
 ghost use Rattle.rows.specs.Rows.{wide};
 ghost use Rattle.tables.specs.Parts.{book_rows, room};

@@ -1,4 +1,6 @@
 // The question for a cell.
+#![tactic(auto)]
+
 ghost use Rattle.std.specs.Prelude.{◌≡◌, List, ℕ, ◌≤◌, ◌+◌, ◌<◌, length};
 ghost use Rattle.refusals.specs.Verdicts.{placed, nowhere, not_there};
 ghost use Rattle.lines.specs.Lines.{most_bytes, line_start};

@@ -1,4 +1,6 @@
 // The cells of a line, and their bounds.
+#![tactic(auto)]
+
 ghost use Rattle.std.specs.Prelude.{◌≡◌, List, ◌<◌, ◌+◌, drop, set, length, get_or};
 ghost use Rattle.words.specs.Words.{Bytes};
 ghost use Rattle.editions.specs.declared.Edition.{Edition};

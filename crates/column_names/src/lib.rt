@@ -1,4 +1,6 @@
 // The names of the tables' columns.
+#![tactic(auto)]
+
 ghost use Rattle.std.specs.Prelude.{◌≡◌, ◌+◌, drop};
 ghost use Rattle.words.specs.Words.{same, if◌then◌else◌};
 ghost use Rattle.tables.specs.Columns.{column_number};

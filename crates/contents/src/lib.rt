@@ -1,4 +1,6 @@
 // The content of a cell.
+#![tactic(auto)]
+
 ghost use Rattle.std.specs.Prelude.{◌≡◌, false, ◌+◌, ◌<◌, eqb, length};
 ghost use Rattle.words.specs.Words.{if◌then◌else◌};
 ghost use Rattle.cells.specs.Cells.{quoted, stretch, once, content};

@@ -1,4 +1,6 @@
 // The Gregorian calendar of the years 1600 to 9999, told without a division.
+#![tactic(auto)]
+
 ghost use Rattle.std.specs.Prelude.{◌≡◌, ◌≤◌, ◌<◌, ◌+◌, ◌*◌, ◌^◌, ◌%◌, eqb, get_or};
 ghost use Rattle.dates.specs.Calendar.{leap, month_days, days_in, is_date};
 

@@ -1,4 +1,6 @@
 // A delivery and then the day's slip.
+#![tactic(auto)]
+
 ghost use Rattle.std.specs.Prelude.{◌≡◌};
 ghost use Rattle.delivery.specs.Calls.{delivery};
 ghost use Rattle.slips.specs.Calls.{outcome};

@@ -1,4 +1,6 @@
 // Which days are of a span, and what a type's blocks run on a day, tallied by day type.
+#![tactic(auto)]
+
 ghost use Rattle.std.specs.Prelude.{◌≡◌, true, ◌+◌, ◌*◌, ◌≤◌, ◌<◌, length};
 ghost use Rattle.words.specs.Words.{if◌then◌else◌};
 ghost use Rattle.rows.specs.Rows.{column};

@@ -1,4 +1,6 @@
 // The day sheet of the working folder, by 2.1: running time per vehicle type, the day's slip applied; or the first fault.
+#![tactic(auto)]
+
 use editions::Edition;
 use libc::STDOUT_FILENO;
 use rows::{NO_ROW, ROWS};

@@ -1,4 +1,6 @@
 // A delivery read: the tables in their order.
+#![tactic(auto)]
+
 ghost use Rattle.std.specs.Prelude.{◌≡◌, length};
 ghost use Rattle.tables.specs.Parts.{book_rows};
 ghost use Rattle.book.specs.Holding.{Sound, result_of};

@@ -1,4 +1,6 @@
 // The edition of a delivery.
+#![tactic(auto)]
+
 ghost use Rattle.std.specs.Prelude.{◌≡◌};
 ghost use Rattle.editions.specs.Editions.{choice};
 

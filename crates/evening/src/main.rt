@@ -1,5 +1,7 @@
 // The corrected vehicle_block table of the working folder: the delivery, by the edition that is asked for, with the day's slip applied; or the first fault
 // and no table.
+#![tactic(auto)]
+
 use editions::Edition;
 use libc::{STDERR_FILENO, STDOUT_FILENO};
 use lines::MOST_BYTES;

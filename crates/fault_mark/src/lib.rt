@@ -1,4 +1,6 @@
 // What is marked of a table's text, to show a person a place of refusal in it: the line, and the cell on it.
+#![tactic(auto)]
+
 ghost use Rattle.std.specs.Prelude.{◌≡◌, ◌+◌, ◌-◌, ◌≤◌, drop};
 ghost use Rattle.words.specs.Words.{if◌then◌else◌};
 ghost use Rattle.cells.specs.Cells.{kind, cut, cells_of};

@@ -1,4 +1,6 @@
 // The fields of a slip line.
+#![tactic(auto)]
+
 ghost use Rattle.std.specs.Prelude.{◌≡◌, true, length, get_or, eqb, ltb};
 ghost use Rattle.words.specs.Words.{if◌then◌else◌};
 ghost use Rattle.cells.specs.Marks.{BoundsOf};

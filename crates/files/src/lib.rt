@@ -1,4 +1,6 @@
 // The files of the working folder, loaded into one room that the caller lends.
+#![tactic(auto)]
+
 ghost use Rattle.std.specs.Prelude.{◌≡◌, ◌≤◌};
 ghost use Rattle.io.specs.Counts.{IsPrefixLen};
 ghost use Rattle.files.specs.Texts.{Roomy, text_at, text_room};

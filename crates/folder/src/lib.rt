@@ -1,4 +1,6 @@
 // The day of the working folder, for the programs that begin with it.
+#![tactic(auto)]
+
 ghost use Rattle.folder.specs.Folder.{DayOfTexts};
 
 use refusals::Verdict;

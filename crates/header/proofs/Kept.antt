@@ -50,8 +50,8 @@ module _ (ed : Edition) (t : Table) (s : Bytes) where
 
     kept_top : (v : Verdict) (first : ℕ) → first ≡ line_after ed 1 (take (r.end - 0) (drop 0 s)) → header_check ed t (head_line (lines ed s)) ≡ Passes → TopKept ed t s (record { verdict = v; at = g.at; next = r.next; line = first })
     kept_top v first l p =
-        let spots : g.at ≡ places (header_of ed t s) = ap (λ (x : Heading). x.at) heading_is ∙ names.heading-kept ed t (head_line (lines ed s)) p in
-        let many : length (header_of ed t s) ≤ most_cells = omega (arith, names.header-length ed t (cells_of (cut ed (head_line (lines ed s)))), names.header-few ed t (head_line (lines ed s)) p) in
+        let spots : g.at ≡ places (header_of ed t s) = ap (λ (x : Heading). x.at) heading_is ∙ names.heading_kept ed t (head_line (lines ed s)) p in
+        let many : length (header_of ed t s) ≤ most_cells = omega (arith, names.header_length ed t (cells_of (cut ed (head_line (lines ed s)))), names.header_few ed t (head_line (lines ed s)) p) in
         let y : r.next ≡ line_room ed Fresh s = ap (λ (x : Line). x.next) e ∙ (omega arith) in
         let f : first ≡ line_after ed 1 (head_line (lines ed s)) = l ∙ ap (line_after ed 1) (head_row ed s r e) in
         record {

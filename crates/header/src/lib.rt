@@ -1,4 +1,6 @@
 // The header of a text.
+#![tactic(auto)]
+
 ghost use Rattle.std.specs.Prelude.{◌≡◌, List, ◌&&◌, not, ℕ, ◌<◌, eqb, get_or, set};
 ghost use Rattle.words.specs.Words.{if◌then◌else◌};
 ghost use Rattle.cells.specs.Cells.{cut, cells_of};

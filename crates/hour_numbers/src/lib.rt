@@ -1,4 +1,6 @@
 // Seconds in hours, as the ledger takes them: one binary64 number.
+#![tactic(auto)]
+
 ghost use Rattle.std.specs.Prelude.{◌≡◌, ◌<◌, ◌^◌};
 ghost use Rattle.hour_numbers.specs.Hours.{hours_of};
 

@@ -1,4 +1,6 @@
 // A table of the book on a shelf, and a row that enters there.
+#![tactic(auto)]
+
 ghost use Rattle.std.specs.Prelude.{◌≡◌, true, false, ◌≤◌, ◌<◌, length};
 ghost use Rattle.rows.specs.Rows.{rising, column};
 ghost use Rattle.rows.specs.Spots.{spot};

@@ -1,4 +1,6 @@
 // The test of the book rule.
+#![tactic(auto)]
+
 ghost use Rattle.std.specs.Prelude.{◌≡◌, [], true, false, ◌≤◌, take, length, get_or};
 ghost use Rattle.words.specs.Words.{same, all};
 ghost use Rattle.rows.specs.Rows.{wide, row_numbers};

@@ -1,5 +1,7 @@
 // The hours of each vehicle type for the service ledger: the delivery of the working folder, by the edition that is asked for, with the day's slip
 // applied; or the first fault.
+#![tactic(auto)]
+
 ghost use Rattle.std.specs.Prelude.{not, T};
 ghost use Rattle.std.specs.Float.Ieee.{is_nan};
 

@@ -1,4 +1,6 @@
 // The lines of a text.
+#![tactic(auto)]
+
 ghost use Rattle.std.specs.Prelude.{◌≡◌, not, ◌+◌, ◌<◌, ◌≤◌, ◌^◌, eqb, drop, length};
 ghost use Rattle.words.specs.Words.{if◌then◌else◌};
 ghost use Rattle.editions.specs.declared.Edition.{Edition};

@@ -1,4 +1,6 @@
 // Numbers written one behind the other, with what parts and ends them.
+#![tactic(auto)]
+
 ghost use Rattle.std.specs.Prelude.{◌≡◌, [], ◌∷◌, ◌++◌, map, ◌≤◌, ◌+◌, ℕ, ◌*◌, length};
 ghost use Rattle.cells.specs.Cells.{parted};
 ghost use Rattle.numbers.specs.Putting.{put};

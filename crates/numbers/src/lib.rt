@@ -1,4 +1,6 @@
 // Decimal numbers, read and written.
+#![tactic(auto)]
+
 ghost use Rattle.std.specs.Prelude.{◌≡◌, ◌≤◌, ◌<◌, ◌+◌, ◌*◌, ◌^◌, length, leb};
 ghost use Rattle.words.specs.Words.{if◌then◌else◌};
 ghost use Rattle.numbers.specs.Decimals.{decimal_of};

@@ -1,4 +1,6 @@
 // The edition and the days that the arguments of a program ask for.
+#![tactic(auto)]
+
 ghost use Rattle.std.specs.Prelude.{◌≡◌};
 ghost use Rattle.options.specs.Options.{edition_said, SaidByWord, day_said, DayByWord};
 

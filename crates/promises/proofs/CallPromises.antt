@@ -269,17 +269,17 @@ outcome_book : (r : Result) (b : Book) (work : List Row) → (slip_outcome r (la
 outcome_book (refused p) b work = refl
 outcome_book (leaves c) b work = refl
 
-called : (ss : List Bytes) (b : Book) (work : List Row) → Left b → length work ≡ 512 → promises.slipsCalled ss (laid b) work ≡ laid (promises.run ss b)
-unfolding promises.slipsCalled promises.run
+called : (ss : List Bytes) (b : Book) (work : List Row) → Left b → length work ≡ 512 → promises.slips_called ss (laid b) work ≡ laid (promises.run ss b)
+unfolding promises.slips_called promises.run
 called [] b work l n = refl
 called (s ∷ ss) b work l n =
     let o = slip_call_answers s b work l n in
     let next : (slip_call s (laid b) work).book ≡ laid (posted s b) = ap (λ (z : Outcome). z.book) o ∙ outcome_book (posting s b) b work in
-    ap (λ (z : List Row). promises.slipsCalled ss z (slip_call s (laid b) work).work) next
+    ap (λ (z : List Row). promises.slips_called ss z (slip_call s (laid b) work).work) next
     ∙ called ss (posted s b) (slip_call s (laid b) work).work (rule_kept b s l) (work_length s (laid b) work ∙ n)
 
 pub calls_read_afresh : promises.CallsReadAfresh
 calls_read_afresh k ed d b ss book work c e m n =
-    let after : promises.slipsCalled ss (read_call k d book).book work ≡ laid (promises.run ss b) =
-    ap (λ (z : List Row). promises.slipsCalled ss z work) (ap (λ (o : reading-is.Outcome). o.book) (read_sized k ed d book c m ∙ ap read_outcome e)) ∙ called ss b work (ed, (d, e)) n in
+    let after : promises.slips_called ss (read_call k d book).book work ≡ laid (promises.run ss b) =
+    ap (λ (z : List Row). promises.slips_called ss z work) (ap (λ (o : reading-is.Outcome). o.book) (read_sized k ed d book c m ∙ ap read_outcome e)) ∙ called ss b work (ed, (d, e)) n in
     (after, after ∙ sym (ap (λ (o : reading-is.Outcome). o.book) (read_sized k ed (promises.with_blocks (written (promises.run ss b)) d) book c m ∙ ap read_outcome (run_reads_afresh ed d b ss e))))

@@ -1,4 +1,6 @@
 // What the book is asked: the blocks of a type, and a block.
+#![tactic(auto)]
+
 ghost use Rattle.std.specs.Prelude.{◌≡◌, true, [], ◌∷◌};
 ghost use Rattle.words.specs.Words.{if◌then◌else◌};
 ghost use Rattle.refusals.specs.Verdicts.{nowhere};

@@ -1,1 +1,3 @@
 // The delivery by radio.
+#![tactic(auto)]
+

@@ -1,4 +1,6 @@
 // The calls of a delivery by radio: "Please take each table in parts, cut anywhere".
+#![tactic(auto)]
+
 ghost use Rattle.std.specs.Prelude.{◌≡◌};
 ghost use Rattle.refusals.specs.Verdicts.{nowhere, bad_loan, not_there, unknown_edition};
 ghost use Rattle.radio.specs.Radio as radio;

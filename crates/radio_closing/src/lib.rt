@@ -1,4 +1,6 @@
 // A table that is closed: 1, 18, its last line.
+#![tactic(auto)]
+
 ghost use Rattle.std.specs.Prelude.{◌≡◌, ◌+◌, ◌-◌, ◌<◌, ◌^◌, length, take, drop};
 ghost use Rattle.lines.specs.Lines.{most_line};
 ghost use Rattle.book.specs.Room.{book_of};
@@ -18,7 +20,7 @@ use tables::Table;
 
 // "an announced length over 65,536 is 1, before 18"
 fn judge_length(announced: u64, come: u64) -> Check
-    ensures { result ≡ radio.lengthCheck announced come }
+    ensures { result ≡ radio.length_check announced come }
 {
     if (MOST_BYTES as u64) < announced {
         return Check::text_too_long();
@@ -53,7 +55,7 @@ fn none_left(kept: &[u64]) -> bool
 // "A last line may lack its line feed": the unfinished line is the last. It is copied, for its room is lent on.
 fn last_line(t: Table, book: &mut [Row], lines: &mut [u8], from: Heard) -> Verdict
     requires { Holding t from book.old lines.old × (from.line + from.rest + 1 < 2 ^ 64) }
-    ensures { Comes (radio.cameTo (radio.lineHeard t (take from.rest (drop most_line lines.old)) (book_of book.old) from.line (take from.head lines.old))) result book.new }
+    ensures { Comes (radio.came_to (radio.line_heard t (take from.rest (drop most_line lines.old)) (book_of book.old) from.line (take from.head lines.old))) result book.new }
 {
     let rest = from.rest;
     let mut room = [0u8; REST];

@@ -1,4 +1,6 @@
 // The bytes of a part of a table, heard line by line.
+#![tactic(auto)]
+
 ghost use Rattle.std.specs.Prelude.{◌≡◌, ◌++◌, ◌+◌, ◌<◌, ◌≤◌, ◌^◌, length, take, drop};
 ghost use Rattle.words.specs.Words.{Bytes};
 ghost use Rattle.cells.specs.declared.State.TheVariants.{Fresh};

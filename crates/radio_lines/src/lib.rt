@@ -1,4 +1,6 @@
 // The lines of a table by radio that are whole: the header, a row, rows; and one that is too long already.
+#![tactic(auto)]
+
 ghost use Rattle.std.specs.Prelude.{◌≡◌, [], true, ◌+◌, ◌<◌, ◌≤◌, ◌^◌, length, take};
 ghost use Rattle.words.specs.Words.{Bytes};
 ghost use Rattle.refusals.specs.Verdicts.{in_header, placed};

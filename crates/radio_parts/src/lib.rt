@@ -1,4 +1,6 @@
 // A part of a table: its bytes are counted, those that were announced are heard, and what they came to is kept.
+#![tactic(auto)]
+
 ghost use Rattle.std.specs.Prelude.{◌≡◌, ◌+◌, ◌-◌, ◌≤◌, length, take, drop};
 ghost use Rattle.lines.specs.Lines.{most_line};
 ghost use Rattle.radio.specs.Radio as radio;

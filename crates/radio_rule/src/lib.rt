@@ -1,4 +1,6 @@
 // The test of the rule of what is kept between parts of a delivery by radio: "handed in against that rule it is 16".
+#![tactic(auto)]
+
 ghost use Rattle.std.specs.Prelude.{◌≡◌, true, map, ◌≤◌, length};
 ghost use Rattle.rows.specs.Room.{same_rows};
 ghost use Rattle.tables.specs.Columns as columns;

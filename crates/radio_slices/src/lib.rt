@@ -1,4 +1,6 @@
 // What the calls of a delivery by radio leave in the three lent slices, and take up from them.
+#![tactic(auto)]
+
 ghost use Rattle.std.specs.Prelude.{◌≡◌, ◌+◌, ◌<◌, ◌≤◌, length, replicate};
 ghost use Rattle.std.proofs.Math.ListN as list;
 ghost use Rattle.tables.specs.Parts.{book_rows};

@@ -1,4 +1,6 @@
 // Which numbers a column takes.
+#![tactic(auto)]
+
 ghost use Rattle.std.specs.Prelude.{◌≡◌};
 ghost use Rattle.tables.specs.Columns.{in_range};
 

@@ -1,4 +1,6 @@
 // What is answered: a verdict with its place, and what a cell holds.
+#![tactic(auto)]
+
 ghost use Rattle.std.specs.Prelude.{◌≡◌};
 ghost use Rattle.refusals.specs.Verdicts.{place, placed, ◌⊳◌, text_too_long, column_missing, column_twice, too_many_cells, too_many_rows, quote_fault, cell_count, key_stands, no_row, ends_early, unknown_line, no_block, output_short, not_there, bad_loan, line_too_long, length_differs, unknown_edition, no_date};
 

@@ -1,4 +1,6 @@
 // A line behind the header, and its row.
+#![tactic(auto)]
+
 ghost use Rattle.std.specs.Prelude.{◌≡◌, List, ℕ, ◌<◌, length};
 ghost use Rattle.cells.specs.Numbered.{MarksOf};
 ghost use Rattle.tables.specs.Listing.{listed};

@@ -1,4 +1,6 @@
 // A table's rows in a lent slice, by rising key.
+#![tactic(auto)]
+
 ghost use Rattle.std.specs.Prelude.{◌≡◌, [], true, false, ◌<◌, ◌≤◌, ◌-◌, length, get_or, take, drop, replicate, eqb};
 ghost use Rattle.words.specs.Words.{if◌then◌else◌, same};
 ghost use Rattle.rows.specs.Rows.{key_order, stands, found, column, by_order, rising};

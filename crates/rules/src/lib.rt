@@ -1,4 +1,6 @@
 // The rules that a row meets in its book: times and references.
+#![tactic(auto)]
+
 ghost use Rattle.std.specs.Prelude.{◌≡◌, true, ◌≤◌, ◌<◌, length, get_or};
 ghost use Rattle.refusals.specs.Verdicts.{passes};
 ghost use Rattle.rows.specs.Rows.{wide, column, row_numbers};

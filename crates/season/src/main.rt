@@ -1,5 +1,7 @@
 // What each vehicle type runs from a first day to a last one: the delivery of the working folder, by the edition that is asked for, with the day's slip
 // applied; or the first fault.
+#![tactic(auto)]
+
 use editions::Edition;
 use libc::{STDERR_FILENO, STDOUT_FILENO};
 use refusals::{Check, Place, Verdict};

@@ -1,4 +1,6 @@
 // What a type's blocks run in a season: from a first day to a last one, by the calendar.
+#![tactic(auto)]
+
 ghost use Rattle.std.specs.Prelude.{◌≡◌, true, ◌&&◌, ℕ, ◌*◌, ◌≤◌, ◌<◌, length};
 ghost use Rattle.refusals.specs.Verdicts.{nowhere};
 ghost use Rattle.dates.specs.Calendar.{is_date};

@@ -1,4 +1,6 @@
 // The day sheet, written.
+#![tactic(auto)]
+
 ghost use Rattle.std.specs.Prelude.{◌≡◌, [], ◌∷◌, ◌++◌, map, true, ℕ, ◌+◌, ◌≤◌, ◌<◌, ◌*◌, length, get_or};
 ghost use Rattle.words.specs.Words.{bytes};
 ghost use Rattle.numbers.specs.Putting.{put};

@@ -1,4 +1,6 @@
 // The shelf on which rows stand while they change: slots that do not move, and their order by rising key.
+#![tactic(auto)]
+
 ghost use Rattle.std.specs.Prelude.{◌≡◌, true, ◌∷◌, ◌++◌, ◌≤◌, suc, ◌-◌, ◌<◌, ◌^◌, length, get_or, take, drop, set};
 ghost use Rattle.rows.specs.Rows.{rising};
 ghost use Rattle.rows.specs.Spots.{spot};

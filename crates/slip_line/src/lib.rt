@@ -1,4 +1,6 @@
 // A line of a slip: what it asks for, and its numbers.
+#![tactic(auto)]
+
 ghost use Rattle.std.specs.Prelude.{◌≡◌, [], ◌∷◌, ◌≤◌, length};
 ghost use Rattle.words.specs.Words.{same};
 ghost use Rattle.fields.specs.Fields.{fields};

@@ -1,4 +1,6 @@
 // Correction slips, each taken whole or not at all.
+#![tactic(auto)]
+
 ghost use Rattle.std.specs.Prelude.{◌≡◌, true, ◌≤◌, length};
 ghost use Rattle.lines.specs.Lines.{slip_lines, most_bytes};
 ghost use Rattle.tables.specs.Listing.{listed};

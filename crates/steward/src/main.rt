@@ -1,5 +1,7 @@
 // The morning's answer in words, by the edition that is asked for: good, with what the delivery holds; or the first fault, its place, its meaning and the
 // line that it stands on.
+#![tactic(auto)]
+
 use editions::{Choice, Edition};
 use fault_mark::Mark;
 use libc::STDOUT_FILENO;

@@ -1,4 +1,6 @@
 // The lines of a table, judged in turn and taken onto its shelf.
+#![tactic(auto)]
+
 ghost use Rattle.std.specs.Prelude.{◌<◌, ◌+◌, ◌^◌, length};
 ghost use Rattle.book.specs.Room.{book_of};
 ghost use Rattle.intake.specs.Shelving.{OnShelf};

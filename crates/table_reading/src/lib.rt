@@ -1,4 +1,6 @@
 // A table read: its top, its lines, and the book that they leave.
+#![tactic(auto)]
+
 ghost use Rattle.std.specs.Prelude.{◌≡◌, true, ◌<◌, ◌+◌, ◌^◌, length};
 ghost use Rattle.tables.specs.Parts.{room};
 ghost use Rattle.book.specs.Holding.{Sound, result_of};

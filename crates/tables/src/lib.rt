@@ -1,4 +1,6 @@
 // The tables of a delivery, their figures and their columns.
+#![tactic(auto)]
+
 ghost use Rattle.std.specs.Prelude.{◌≡◌, ◌<◌, get_or, length, eqb};
 ghost use Rattle.words.specs.Words.{if◌then◌else◌};
 ghost use Rattle.tables.specs.Columns.{column_at, references, ref, columns_of, number, key_width, kept_width, numbered};

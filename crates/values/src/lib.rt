@@ -1,4 +1,6 @@
 // What content is to a column, and what the cells of a line come to.
+#![tactic(auto)]
+
 ghost use Rattle.std.specs.Prelude.{◌≡◌, ◌≤◌};
 ghost use Rattle.words.specs.Words.{if◌then◌else◌};
 ghost use Rattle.refusals.specs.Verdicts.{cell_empty, out_of_range};

@@ -1,4 +1,6 @@
 // The vehicle_block table, written.
+#![tactic(auto)]
+
 ghost use Rattle.std.specs.Prelude.{◌≡◌, [], ◌∷◌, ◌++◌, map, ◌+◌, ◌≤◌, ◌*◌, length, take, ltb};
 ghost use Rattle.refusals.specs.Verdicts.{nowhere, ◌when◌, output_short};
 ghost use Rattle.numbers.specs.Putting.{put};

@@ -12,7 +12,7 @@ same_length : tie.Need-same-length
 same_length c = search rules
 
 returns : tie.Need-returns
-returns c = c.before.clear.ensures ∙ laying.laid-empty _ c.before.before.before.requires
+returns c = c.before.clear.ensures ∙ laying.laid_empty _ c.before.before.before.requires
 
 pub clear_spec : {M : Type 1} → statement M
 clear_spec = tie.close (tie.spec clear-requires same_length returns)

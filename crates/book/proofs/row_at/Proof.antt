@@ -12,12 +12,12 @@ table-of-requires c κs = c.requires.0.long
 mul-result : tie.Need-overflow-mul-result
 mul-result c =
     let st = c.before in
-    omega (arith, st.requires.1, (laying.orderly-book st.args.book.now st.requires.0).few st.args.t, part_within st.args.t)
+    omega (arith, st.requires.1, (laying.orderly_book st.args.book.now st.requires.0).few st.args.t, part_within st.args.t)
 
 shared-slice-copy-out-result : tie.Need-shared-slice-copy-out-result
 shared-slice-copy-out-result c =
     let st = c.before in
-    omega (arith, st.requires.1, laying.lent-few st.args.t st.args.book.now st.requires.0 _ c.table_of.ensures)
+    omega (arith, st.requires.1, laying.lent_few st.args.t st.args.book.now st.requires.0 _ c.table_of.ensures)
 
 returns : tie.Need-returns
 returns c =

@@ -22,7 +22,7 @@ decreases-tables book good₀ i₀ good i = 6 - i
 returns : tie.Need-returns invariant-tables decreases-tables
 returns c =
     let xs = c.before.args.book.now in
-    keeping.breaks xs (keeping.breaks-length xs c.if1.true)
+    keeping.breaks xs (keeping.breaks_length xs c.if1.true)
 
 marked-requires : tie.Need-marked-requires invariant-tables decreases-tables
 marked-requires c κs = c.if1.false
@@ -30,7 +30,7 @@ marked-requires c κs = c.if1.false
 returns-2 : tie.Need-returns-2 invariant-tables decreases-tables
 returns-2 c =
     let xs = c.before.before.before.args.book.now in
-    keeping.breaks xs (keeping.breaks-marks xs (sym c.before.marked.ensures ∙ not-true _ c.if2.true))
+    keeping.breaks xs (keeping.breaks_marks xs (sym c.before.marked.ensures ∙ not-true _ c.if2.true))
 
 tables-holds : tie.Need-tables-init invariant-tables decreases-tables
 tables-holds c = (refl, λ j h. absurd (omega arith))
@@ -61,12 +61,12 @@ returns-3 c =
     let at = c.before.tables in
     let test = c.before.before in
     let xs = test.before.before.before.args.book.now in
-    keeping.all-parts xs test.before.before.if1.false (sym test.before.marked.ensures ∙ not-false _ test.if2.false) (keeping.by_place (keeping.held xs) (λ j h. let k : j < 6 = h in at.invariant.1 j (omega (arith, k, c.tables-test.false)))) _ at.invariant.0
+    keeping.all_parts xs test.before.before.if1.false (sym test.before.marked.ensures ∙ not-false _ test.if2.false) (keeping.by_place (keeping.held xs) (λ j h. let k : j < 6 = h in at.invariant.1 j (omega (arith, k, c.tables-test.false)))) _ at.invariant.0
 
 returns-4 : tie.Need-returns-4 invariant-tables decreases-tables
 returns-4 c =
     let xs = c.before.before.before.before.before.before.before.before.args.book.now in
-    keeping.breaks xs (keeping.breaks-part xs c.before.before.in_order.result (sym c.before.holding.ensures ∙ not-true _ c.if3.true))
+    keeping.breaks xs (keeping.breaks_part xs c.before.before.in_order.result (sym c.before.holding.ensures ∙ not-true _ c.if3.true))
 
 pub all-tables-spec : {M : Type 1} → statement M
 all-tables-spec =

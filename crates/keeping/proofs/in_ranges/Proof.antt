@@ -20,7 +20,7 @@ use Rattle.keeping.proofs.in_ranges.Tie as tie
 abbrev invariant-columns : tie.invariant-columns
 invariant-columns columns row n within₀ i₀ within i =
     (i ≤ n) × (n ≤ 11) × (within ≡ true)
-    × ((e : Edition) (t : Table) → columns ≡ listed e t → n ≡ kept_width t → ranged (columns_of e t) (take (kept_width t) row) ≡ keeping.rangedFrom e i t row)
+    × ((e : Edition) (t : Table) → columns ≡ listed e t → n ≡ kept_width t → ranged (columns_of e t) (take (kept_width t) row) ≡ keeping.ranged_from e i t row)
 
 abbrev decreases-columns : tie.decreases-columns
 decreases-columns columns row n within₀ i₀ within i = n - i
@@ -61,7 +61,7 @@ columns-again c =
       λ e t q k.
           let more : i < kept_width t = omega (arith, k, c.before.before.before.columns-test.true) in
           let here : in_range (column_at e t i).rules (get_or row i 0) ≡ true = ap (λ (x : Rules). in_range x (get_or row i 0)) (sym (c.before.before.rules-at.ensures e t q)) ∙ sym c.before.takes.ensures ∙ not-false _ c.if1.false in
-          at.columns.invariant.3 e t q k ∙ keeping.ranged-next e t row (search rules) i more here,
+          at.columns.invariant.3 e t q k ∙ keeping.ranged_next e t row (search rules) i more here,
     )
 
 returns : tie.Need-returns invariant-columns decreases-columns
@@ -69,7 +69,7 @@ returns c = λ e q.
     let at = c.before in
     let st = at.before.before in
     let all : at.before.kept.result ≡ kept_width st.args.t = at.before.kept.ensures in
-    at.columns.invariant.2 ∙ sym (at.columns.invariant.3 e st.args.t q all ∙ keeping.ranged-end e st.args.t st.args.t3 (search rules) at.columns.i (omega (arith, all, c.columns-test.false)))
+    at.columns.invariant.2 ∙ sym (at.columns.invariant.3 e st.args.t q all ∙ keeping.ranged_end e st.args.t st.args.t3 (search rules) at.columns.i (omega (arith, all, c.columns-test.false)))
 
 returns-2 : tie.Need-returns-2 invariant-columns decreases-columns
 returns-2 c = λ e q.
@@ -80,7 +80,7 @@ returns-2 c = λ e q.
     let all : at.before.kept.result ≡ kept_width st.args.t = at.before.kept.ensures in
     let more : i < kept_width st.args.t = omega (arith, all, c.before.before.before.columns-test.true) in
     let here : in_range (column_at e st.args.t i).rules (get_or row i 0) ≡ false = ap (λ (x : Rules). in_range x (get_or row i 0)) (sym (c.before.before.rules-at.ensures e st.args.t q)) ∙ sym c.before.takes.ensures ∙ not-true _ c.if1.true in
-    sym (at.columns.invariant.3 e st.args.t q all ∙ keeping.ranged-not e st.args.t row (search rules) i more here)
+    sym (at.columns.invariant.3 e st.args.t q all ∙ keeping.ranged_not e st.args.t row (search rules) i more here)
 
 pub in-ranges-spec : {M : Type 1} → statement M
 in-ranges-spec =

@@ -18,7 +18,7 @@ use Rattle.keeping.proofs.keeps_rule.Statement.{statement}
 use Rattle.keeping.proofs.keeps_rule.Tie as tie
 
 abbrev invariant-tables : tie.invariant-tables
-invariant-tables book good₀ i₀ good i = (good ≡ true) × ((j : ℕ) → j < i → keeping.lawfulRows book (get_or tables j Calendar) ≡ true)
+invariant-tables book good₀ i₀ good i = (good ≡ true) × ((j : ℕ) → j < i → keeping.lawful_rows book (get_or tables j Calendar) ≡ true)
 
 abbrev decreases-tables : tie.decreases-tables
 decreases-tables book good₀ i₀ good i = 6 - i
@@ -53,8 +53,8 @@ tables-again c =
     let at = c.before.before.before.before.tables in
     let xs = c.before.before.before.before.before.before.before.args.book.now in (
       at.invariant.0,
-      below_more (λ j. keeping.lawfulRows xs (get_or tables j Calendar) ≡ true) at.i at.invariant.1
-          (ap (keeping.lawfulRows xs) (sym c.before.before.in_order.ensures) ∙ sym c.before.lawful-rows.ensures ∙ not-false _ c.if2.false),
+      below_more (λ j. keeping.lawful_rows xs (get_or tables j Calendar) ≡ true) at.i at.invariant.1
+          (ap (keeping.lawful_rows xs) (sym c.before.before.in_order.ensures) ∙ sym c.before.lawful-rows.ensures ∙ not-false _ c.if2.false),
     )
 
 returns-2 : tie.Need-returns-2 invariant-tables decreases-tables
@@ -63,12 +63,12 @@ returns-2 c =
     let held = c.before.before in
     let xs = held.before.before.args.book.now in
     let sound = held.before.all-tables.ensures.0 (not-false _ held.if1.false) in
-    at.invariant.0 ∙ sym (keeping.sound-keeps xs sound (keeping.by_place (keeping.lawfulRows xs) (λ j h. let k : j < 6 = h in at.invariant.1 j (omega (arith, k, c.tables-test.false)))))
+    at.invariant.0 ∙ sym (keeping.sound_keeps xs sound (keeping.by_place (keeping.lawful_rows xs) (λ j h. let k : j < 6 = h in at.invariant.1 j (omega (arith, k, c.tables-test.false)))))
 
 returns-3 : tie.Need-returns-3 invariant-tables decreases-tables
 returns-3 c =
     let xs = c.before.before.before.before.before.before.before.args.book.now in
-    sym (keeping.breaks-rows xs c.before.before.in_order.result (sym c.before.lawful-rows.ensures ∙ not-true _ c.if2.true))
+    sym (keeping.breaks_rows xs c.before.before.in_order.result (sym c.before.lawful-rows.ensures ∙ not-true _ c.if2.true))
 
 pub keeps-rule-spec : {M : Type 1} → statement M
 keeps-rule-spec =

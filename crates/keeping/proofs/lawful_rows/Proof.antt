@@ -62,7 +62,7 @@ rows-again c =
     let i = at.rows.i in
     let more : i < length rs = omega (arith, at.rows.invariant.1) in
     let here : lawful st.args.t b (get_or rs i []) ≡ true = ap (lawful st.args.t b) (sym la.before.before.row_at.ensures) ∙ sym la.is_lawful.ensures ∙ not-false _ c.if1.false in
-    (omega arith, at.rows.invariant.1, at.rows.invariant.2 ∙ keeping.all-next (lawful st.args.t b) [] rs i more here, at.rows.invariant.3)
+    (omega arith, at.rows.invariant.1, at.rows.invariant.2 ∙ keeping.all_next (lawful st.args.t b) [] rs i more here, at.rows.invariant.3)
 
 returns : tie.Need-returns invariant-rows decreases-rows
 returns c =
@@ -81,7 +81,7 @@ returns-2 c =
     let i = at.rows.i in
     let more : i < length rs = omega (arith, at.rows.invariant.1) in
     let here : lawful st.args.t b (get_or rs i []) ≡ false = ap (lawful st.args.t b) (sym la.before.before.row_at.ensures) ∙ sym la.is_lawful.ensures ∙ not-true _ c.if1.true in
-    sym (at.rows.invariant.2 ∙ keeping.all-not (lawful st.args.t b) [] rs i more here)
+    sym (at.rows.invariant.2 ∙ keeping.all_not (lawful st.args.t b) [] rs i more here)
 
 pub lawful-rows-spec : {M : Type 1} → statement M
 lawful-rows-spec =

@@ -12,13 +12,13 @@ use Rattle.keeping.proofs.rest_zero.Statement.{statement}
 use Rattle.keeping.proofs.rest_zero.Tie as tie
 
 abbrev invariant-columns : tie.invariant-columns
-invariant-columns kept row zero₀ i₀ zero i = (i ≤ 11) × (same row (wide (take kept row)) ≡ keeping.zeroFrom i row) × (zero ≡ true)
+invariant-columns kept row zero₀ i₀ zero i = (i ≤ 11) × (same row (wide (take kept row)) ≡ keeping.zero_from i row) × (zero ≡ true)
 
 abbrev decreases-columns : tie.decreases-columns
 decreases-columns kept row zero₀ i₀ zero i = 11 - i
 
 columns-holds : tie.Need-columns-init invariant-columns decreases-columns
-columns-holds c = (c.requires, keeping.zero-start c.args.kept c.args.t2 (search rules) c.requires, refl)
+columns-holds c = (c.requires, keeping.zero_start c.args.kept c.args.t2 (search rules) c.requires, refl)
 
 mul-if1 : tie.Need-overflow-mul-if1 invariant-columns decreases-columns
 mul-if1 c = search rules
@@ -36,19 +36,19 @@ columns-again : tie.Need-columns-preserved invariant-columns decreases-columns
 columns-again c =
     let at = c.before.before in
     let st = at.before in
-    (omega arith, at.columns.invariant.1 ∙ keeping.zero-next st.args.t2 (search rules) at.columns.i c.before.columns-test.true c.if1.false, at.columns.invariant.2)
+    (omega arith, at.columns.invariant.1 ∙ keeping.zero_next st.args.t2 (search rules) at.columns.i c.before.columns-test.true c.if1.false, at.columns.invariant.2)
 
 returns : tie.Need-returns invariant-columns decreases-columns
 returns c =
     let at = c.before in
     let row = at.before.args.t2 in
-    at.columns.invariant.2 ∙ sym (at.columns.invariant.1 ∙ keeping.zero-end row (search rules) at.columns.i c.columns-test.false)
+    at.columns.invariant.2 ∙ sym (at.columns.invariant.1 ∙ keeping.zero_end row (search rules) at.columns.i c.columns-test.false)
 
 returns-2 : tie.Need-returns-2 invariant-columns decreases-columns
 returns-2 c =
     let at = c.before.before in
     let row = at.before.args.t2 in
-    sym (at.columns.invariant.1 ∙ keeping.zero-not row (search rules) at.columns.i c.before.columns-test.true c.if1.true)
+    sym (at.columns.invariant.1 ∙ keeping.zero_not row (search rules) at.columns.i c.before.columns-test.true c.if1.true)
 
 pub rest-zero-spec : {M : Type 1} → statement M
 rest-zero-spec =

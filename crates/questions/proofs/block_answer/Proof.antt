@@ -32,7 +32,7 @@ returns c =
     let xs = st.args.book.now in
     let a = st.args in
     c.no_block.ensures ∙ ap (λ (k : Check). block_answered (nowhere k) (replicate 7 0)) c.before.bad-loan.ensures
-    ∙ answers.block-bad xs a.version a.day-type a.depot a.block (sym c.before.before.before.keeps-rule.ensures ∙ not-true _ c.before.before.if1.true)
+    ∙ answers.block_bad xs a.version a.day-type a.depot a.block (sym c.before.before.before.keeps-rule.ensures ∙ not-true _ c.before.before.if1.true)
 
 block-key-requires : tie.Need-block-key-requires
 block-key-requires c κs = search rules
@@ -56,7 +56,7 @@ returns-2 c =
     let a = st.args in
     let keeps : keeps_rule xs ≡ true = sym kn.before.before.before.keeps-rule.ensures ∙ not-false _ kn.before.before.if1.false in
     let here = ap (λ (r : Row). knows Block r (book_of xs)) (sym kn.before.block-key.ensures) ∙ sym kn.knowing.ensures ∙ not-true _ c.before.before.if2.true in
-    c.no-block2.ensures ∙ ap (λ (k : Check). block_answered (nowhere k) (replicate 7 0)) c.before.not_there.ensures ∙ answers.block-missing xs a.version a.day-type a.depot a.block keeps here
+    c.no-block2.ensures ∙ ap (λ (k : Check). block_answered (nowhere k) (replicate 7 0)) c.before.not_there.ensures ∙ answers.block_missing xs a.version a.day-type a.depot a.block keeps here
 
 block-of-requires : tie.Need-block-of-requires
 block-of-requires c κs =
@@ -75,7 +75,7 @@ returns-3 c =
     let a = st.args in
     let keeps : keeps_rule xs ≡ true = sym kn.before.before.before.keeps-rule.ensures ∙ not-false _ kn.before.before.if1.false in
     let here = ap (λ (r : Row). knows Block r (book_of xs)) (sym kn.before.block-key.ensures) ∙ sym kn.knowing.ensures ∙ not-false _ c.before.before.if2.false in
-    rw (c.seven-numbers.ensures, c.before.Block-of.ensures, kn.before.block-key.ensures) (answers.block-there xs a.version a.day-type a.depot a.block (keeps_sound xs keeps) keeps here)
+    rw (c.seven-numbers.ensures, c.before.Block-of.ensures, kn.before.block-key.ensures) (answers.block_there xs a.version a.day-type a.depot a.block (keeps_sound xs keeps) keeps here)
 
 pub block-answer-spec : {M : Type 1} → statement M
 block-answer-spec =

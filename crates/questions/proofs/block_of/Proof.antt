@@ -18,13 +18,13 @@ row-of-requires : tie.Need-row-of-requires
 row-of-requires c κs =
     let st = c.before.before in
     let k = c.before.keys in
-    laying.lent-holds Block st.args.book.now st.requires _ c.table_of.ensures k.result k.ensures
+    laying.lent_holds Block st.args.book.now st.requires _ c.table_of.ensures k.result k.ensures
 
 returns : tie.Need-returns
 returns c =
     let st = c.before.before.before in
     let k = c.before.before.keys in
-    c.row_of.ensures ∙ laying.lent-asked Block st.args.book.now st.requires _ c.before.table_of.ensures (λ n l. row_of (found n st.args.row l)) k.result k.ensures
+    c.row_of.ensures ∙ laying.lent_asked Block st.args.book.now st.requires _ c.before.table_of.ensures (λ n l. row_of (found n st.args.row l)) k.result k.ensures
 
 pub block-of-spec : {M : Type 1} → statement M
 block-of-spec = tie.close (tie.spec keys-requires table-of-requires row-of-requires returns)

@@ -29,8 +29,8 @@ blocks2-holds c =
       omega arith,
       c.count-rows.ensures.0,
       c.count-rows.ensures.1,
-      sums.summed-none questions.seconds a.version a.number (book_of a.book.now).blocks 999999,
-      sums.summed-none (λ x. 1) a.version a.number (book_of a.book.now).blocks 1,
+      sums.summed_none questions.seconds a.version a.number (book_of a.book.now).blocks 999999,
+      sums.summed_none (λ x. 1) a.version a.number (book_of a.book.now).blocks 1,
     )
 
 row-at-requires : tie.Need-row-at-requires invariant-blocks2 decreases-blocks2
@@ -54,8 +54,8 @@ add-seconds c =
     let xs = st.args.book.now in
     let i = at.blocks2.i in
     let more : i < length (book_of xs).blocks = omega (arith, at.blocks2.invariant.1, ty.before.before.blocks2-test.true) in
-    let most = sums.block-seconds xs st.requires i row.result more row.ensures in
-    omega (arith, at.blocks2.invariant.0, at.blocks2.invariant.2, (sums.summed-next questions.seconds st.args.version st.args.number (book_of xs).blocks 999999 i at.blocks2.seconds at.blocks2.invariant.3 more row.result row.ensures ty.of-type.result ty.of-type.ensures c.share.result (c.share.ensures ∙ ap (λ (w : ℕ). if ty.of-type.result then w else 0) c.before.seconds-of.ensures) most).bound)
+    let most = sums.block_seconds xs st.requires i row.result more row.ensures in
+    omega (arith, at.blocks2.invariant.0, at.blocks2.invariant.2, (sums.summed_next questions.seconds st.args.version st.args.number (book_of xs).blocks 999999 i at.blocks2.seconds at.blocks2.invariant.3 more row.result row.ensures ty.of-type.result ty.of-type.ensures c.share.result (c.share.ensures ∙ ap (λ (w : ℕ). if ty.of-type.result then w else 0) c.before.seconds-of.ensures) most).bound)
 
 share-requires-2 : tie.Need-share-requires-2 invariant-blocks2 decreases-blocks2
 share-requires-2 c κs = search rules
@@ -69,7 +69,7 @@ add-count c =
     let xs = st.args.book.now in
     let i = at.blocks2.i in
     let more : i < length (book_of xs).blocks = omega (arith, at.blocks2.invariant.1, ty.before.before.blocks2-test.true) in
-    omega (arith, at.blocks2.invariant.0, at.blocks2.invariant.2, (sums.summed-next (λ x. 1) st.args.version st.args.number (book_of xs).blocks 1 i at.blocks2.count at.blocks2.invariant.4 more row.result row.ensures ty.of-type.result ty.of-type.ensures c.share2.result c.share2.ensures (omega arith)).bound)
+    omega (arith, at.blocks2.invariant.0, at.blocks2.invariant.2, (sums.summed_next (λ x. 1) st.args.version st.args.number (book_of xs).blocks 1 i at.blocks2.count at.blocks2.invariant.4 more row.result row.ensures ty.of-type.result ty.of-type.ensures c.share2.result c.share2.ensures (omega arith)).bound)
 
 add-i : tie.Need-overflow-add-i invariant-blocks2 decreases-blocks2
 add-i c = search rules
@@ -86,12 +86,12 @@ blocks2-again c =
     let xs = st.args.book.now in
     let i = at.blocks2.i in
     let more : i < length (book_of xs).blocks = omega (arith, at.blocks2.invariant.1, ty.before.before.blocks2-test.true) in
-    let most = sums.block-seconds xs st.requires i row.result more row.ensures in (
+    let most = sums.block_seconds xs st.requires i row.result more row.ensures in (
       omega arith,
       at.blocks2.invariant.1,
       at.blocks2.invariant.2,
-      sums.summed-next questions.seconds st.args.version st.args.number (book_of xs).blocks 999999 i at.blocks2.seconds at.blocks2.invariant.3 more row.result row.ensures ty.of-type.result ty.of-type.ensures c.before.share.result (c.before.share.ensures ∙ ap (λ (w : ℕ). if ty.of-type.result then w else 0) c.before.before.seconds-of.ensures) most,
-      sums.summed-next (λ x. 1) st.args.version st.args.number (book_of xs).blocks 1 i at.blocks2.count at.blocks2.invariant.4 more row.result row.ensures ty.of-type.result ty.of-type.ensures c.share2.result c.share2.ensures (omega arith),
+      sums.summed_next questions.seconds st.args.version st.args.number (book_of xs).blocks 999999 i at.blocks2.seconds at.blocks2.invariant.3 more row.result row.ensures ty.of-type.result ty.of-type.ensures c.before.share.result (c.before.share.ensures ∙ ap (λ (w : ℕ). if ty.of-type.result then w else 0) c.before.before.seconds-of.ensures) most,
+      sums.summed_next (λ x. 1) st.args.version st.args.number (book_of xs).blocks 1 i at.blocks2.count at.blocks2.invariant.4 more row.result row.ensures ty.of-type.result ty.of-type.ensures c.share2.result c.share2.ensures (omega arith),
     )
 
 returns : tie.Need-returns invariant-blocks2 decreases-blocks2
@@ -100,8 +100,8 @@ returns c =
     let a = at.before.before.args in
     let bs = (book_of a.book.now).blocks in
     let e : length bs ≤ at.blocks2.i = omega (arith, at.blocks2.invariant.1, c.blocks2-test.false) in (
-      sums.summed-all questions.seconds a.version a.number bs 999999 at.blocks2.i at.blocks2.seconds at.blocks2.invariant.3 e,
-      sums.summed-all (λ x. 1) a.version a.number bs 1 at.blocks2.i at.blocks2.count at.blocks2.invariant.4 e,
+      sums.summed_all questions.seconds a.version a.number bs 999999 at.blocks2.i at.blocks2.seconds at.blocks2.invariant.3 e,
+      sums.summed_all (λ x. 1) a.version a.number bs 1 at.blocks2.i at.blocks2.count at.blocks2.invariant.4 e,
     )
 
 pub blocks-summed-spec : {M : Type 1} → statement M

@@ -9,7 +9,7 @@ on-requires : tie.Need-on-requires
 on-requires c κs = search rules
 
 returns : tie.Need-returns
-returns c = rw c.on.ensures (answers.type-refused (nowhere c.before.args.check))
+returns c = rw c.on.ensures (answers.type_refused (nowhere c.before.args.check))
 
 pub no-type-spec : {M : Type 1} → statement M
 no-type-spec = tie.close (tie.spec on-requires returns)

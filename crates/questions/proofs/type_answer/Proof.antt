@@ -31,7 +31,7 @@ returns c =
     let xs = st.args.book.now in
     let a = st.args in
     c.no-type.ensures ∙ ap (λ (k : Check). type_answered (nowhere k) 0 0) c.before.bad-loan.ensures
-    ∙ answers.type-bad xs a.version a.number (sym c.before.before.before.keeps-rule.ensures ∙ not-true _ c.before.before.if1.true)
+    ∙ answers.type_bad xs a.version a.number (sym c.before.before.before.keeps-rule.ensures ∙ not-true _ c.before.before.if1.true)
 
 key-requires : tie.Need-key-requires
 key-requires c κs = search rules
@@ -55,7 +55,7 @@ returns-2 c =
     let a = st.args in
     let keeps : keeps_rule xs ≡ true = sym kn.before.before.before.keeps-rule.ensures ∙ not-false _ kn.before.before.if1.false in
     let here = ap (λ (r : Row). knows VehicleType r (book_of xs)) (sym kn.before.key.ensures) ∙ sym kn.knowing.ensures ∙ not-true _ c.before.before.if2.true in
-    c.no-type2.ensures ∙ ap (λ (k : Check). type_answered (nowhere k) 0 0) c.before.not_there.ensures ∙ answers.type-missing xs a.version a.number keeps here
+    c.no-type2.ensures ∙ ap (λ (k : Check). type_answered (nowhere k) 0 0) c.before.not_there.ensures ∙ answers.type_missing xs a.version a.number keeps here
 
 blocks-summed-requires : tie.Need-blocks-summed-requires
 blocks-summed-requires c κs =
@@ -70,7 +70,7 @@ returns-3 c =
     let a = st.args in
     let keeps : keeps_rule xs ≡ true = sym kn.before.before.before.keeps-rule.ensures ∙ not-false _ kn.before.before.if1.false in
     let here = ap (λ (r : Row). knows VehicleType r (book_of xs)) (sym kn.before.key.ensures) ∙ sym kn.knowing.ensures ∙ not-false _ c.before.if2.false in
-    rw (c.blocks-summed.ensures.0, c.blocks-summed.ensures.1) (answers.type-there xs a.version a.number keeps here)
+    rw (c.blocks-summed.ensures.0, c.blocks-summed.ensures.1) (answers.type_there xs a.version a.number keeps here)
 
 pub type-answer-spec : {M : Type 1} → statement M
 type-answer-spec =

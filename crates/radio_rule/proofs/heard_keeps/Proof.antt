@@ -9,13 +9,13 @@ shared-slice-read-if1 : tie.Need-shared-slice-read-if1
 shared-slice-read-if1 c = search rules
 
 returns : tie.Need-returns
-returns c = sym (numbers.heard-announced c.before.before.before.args.kept.now c.if1.true)
+returns c = sym (numbers.heard_announced c.before.before.before.args.kept.now c.if1.true)
 
 shared-slice-read-if2 : tie.Need-shared-slice-read-if2
 shared-slice-read-if2 c = search rules
 
 returns-2 : tie.Need-returns-2
-returns-2 c = sym (numbers.heard-come c.before.before.before.before.before.args.kept.now c.before.before.if1.false c.if2.true)
+returns-2 c = sym (numbers.heard_come c.before.before.before.before.before.args.kept.now c.before.before.if1.false c.if2.true)
 
 shared-slice-read-if3 : tie.Need-shared-slice-read-if3
 shared-slice-read-if3 c = search rules
@@ -24,7 +24,7 @@ course-keeps-requires : tie.Need-course-keeps-requires
 course-keeps-requires c κs = (c.before.before.before.before.before.before.before.requires, c.before.before.if2.false)
 
 returns-3 : tie.Need-returns-3
-returns-3 c = c.course-keeps.ensures ∙ sym (numbers.heard-going c.before.before.before.before.before.before.before.before.args.kept.now c.before.before.before.before.before.if1.false c.before.before.before.if2.false c.before.if3.true)
+returns-3 c = c.course-keeps.ensures ∙ sym (numbers.heard_going c.before.before.before.before.before.before.before.before.args.kept.now c.before.before.before.before.before.if1.false c.before.before.before.if2.false c.before.if3.true)
 
 sub-zero-numbers : tie.Need-overflow-sub-zero-numbers
 sub-zero-numbers c = search rules
@@ -39,7 +39,7 @@ zero-numbers-requires : tie.Need-zero-numbers-requires
 zero-numbers-requires c κs = search rules
 
 returns-4 : tie.Need-returns-4
-returns-4 c = c.zero-numbers.ensures ∙ sym (numbers.heard-stopped c.before.before.before.before.before.before.before.before.before.args.kept.now c.before.before.before.before.before.before.if1.false c.before.before.before.before.if2.false c.before.before.if3.false)
+returns-4 c = c.zero-numbers.ensures ∙ sym (numbers.heard_stopped c.before.before.before.before.before.before.before.before.before.args.kept.now c.before.before.before.before.before.before.if1.false c.before.before.before.before.if2.false c.before.before.if3.false)
 
 pub heard-keeps-spec : {M : Type 1} → statement M
 heard-keeps-spec =

@@ -10,13 +10,13 @@ shared-slice-read-if1 : tie.Need-shared-slice-read-if1
 shared-slice-read-if1 c = search rules
 
 returns : tie.Need-returns
-returns c = sym (numbers.numbers-turn c.before.before.before.args.kept.now c.if1.true)
+returns c = sym (numbers.numbers_turn c.before.before.before.args.kept.now c.if1.true)
 
 fault-keeps-requires : tie.Need-fault-keeps-requires
 fault-keeps-requires c κs = search rules
 
 returns-2 : tie.Need-returns-2
-returns-2 c = sym (numbers.numbers-fault c.before.before.before.before.before.args.kept.now c.before.before.if1.false (sym c.before.fault-keeps.ensures ∙ not-true _ c.if2.true))
+returns-2 c = sym (numbers.numbers_fault c.before.before.before.before.before.args.kept.now c.before.before.if1.false (sym c.before.fault-keeps.ensures ∙ not-true _ c.if2.true))
 
 shared-slice-read-if3 : tie.Need-shared-slice-read-if3
 shared-slice-read-if3 c = search rules
@@ -37,7 +37,7 @@ returns-3 : tie.Need-returns-3
 returns-3 c =
     let st = c.before.before.before.before.before in
     c.zero-numbers.ensures
-    ∙ sym (numbers.numbers-between st.before.before.before.before.args.kept.now st.before.if1.false (sym st.fault-keeps.ensures ∙ not-false _ c.before.before.before.before.if2.false) c.before.before.if3.true)
+    ∙ sym (numbers.numbers_between st.before.before.before.before.args.kept.now st.before.if1.false (sym st.fault-keeps.ensures ∙ not-false _ c.before.before.before.before.if2.false) c.before.before.if3.true)
 
 heard-keeps-requires : tie.Need-heard-keeps-requires
 heard-keeps-requires c κs = search rules
@@ -46,7 +46,7 @@ returns-4 : tie.Need-returns-4
 returns-4 c =
     let st = c.before.before.before.before in
     c.heard-keeps.ensures
-    ∙ sym (numbers.numbers-heard st.before.before.before.before.args.kept.now st.before.if1.false (sym st.fault-keeps.ensures ∙ not-false _ c.before.before.before.if2.false) c.before.if3.false)
+    ∙ sym (numbers.numbers_heard st.before.before.before.before.args.kept.now st.before.if1.false (sym st.fault-keeps.ensures ∙ not-false _ c.before.before.before.if2.false) c.before.if3.false)
 
 pub numbers-keep-spec : {M : Type 1} → statement M
 numbers-keep-spec =

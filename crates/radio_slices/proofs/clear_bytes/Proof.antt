@@ -32,7 +32,7 @@ bytes-again c =
     let at = c.before in
     let xs = at.before.args.list.now in
     let i = at.bytes.i in
-    (search rules, simp length-set at.bytes.invariant.1, ap (λ (l : List ℕ). set l i 0) at.bytes.invariant.2 ∙ lists.replicate-set 0 xs i (omega arith))
+    (search rules, simp length-set at.bytes.invariant.1, ap (λ (l : List ℕ). set l i 0) at.bytes.invariant.2 ∙ lists.replicate_set 0 xs i (omega arith))
 
 same_length : tie.Need-same-length invariant-bytes decreases-bytes
 same_length c = search rules
@@ -42,7 +42,7 @@ returns c =
     let at = c.before in
     let xs = at.before.args.list.now in
     let e : length xs - 0 ≡ length xs = omega arith in
-    at.bytes.invariant.2 ∙ lists.replicate-all 0 xs at.bytes.i (omega arith) ∙ ap (λ (n : ℕ). replicate n 0) e
+    at.bytes.invariant.2 ∙ lists.replicate_all 0 xs at.bytes.i (omega arith) ∙ ap (λ (n : ℕ). replicate n 0) e
 
 pub clear-bytes-spec : {M : Type 1} → statement M
 clear-bytes-spec =

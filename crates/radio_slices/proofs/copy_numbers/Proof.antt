@@ -42,7 +42,7 @@ numbers-again c =
     let xs = at.before.args.from.now in
     let ys = at.before.args.to.now in
     let i = at.numbers.i in
-    (search rules, simp length-set at.numbers.invariant.1, ap (λ (l : List ℕ). set l i (get_or xs i 0)) at.numbers.invariant.2 ∙ lists.take-set 0 xs ys i (omega arith) (omega arith))
+    (search rules, simp length-set at.numbers.invariant.1, ap (λ (l : List ℕ). set l i (get_or xs i 0)) at.numbers.invariant.2 ∙ lists.take_set 0 xs ys i (omega arith) (omega arith))
 
 same_length : tie.Need-same-length invariant-numbers decreases-numbers
 same_length c = search rules
@@ -52,7 +52,7 @@ returns c =
     let at = c.before in
     let xs = at.before.args.from.now in
     let ys = at.before.args.to.now in
-    at.numbers.invariant.2 ∙ lists.take-over xs ys at.numbers.i (omega arith) (omega arith)
+    at.numbers.invariant.2 ∙ lists.take_over xs ys at.numbers.i (omega arith) (omega arith)
 
 pub copy-numbers-spec : {M : Type 1} → statement M
 copy-numbers-spec =

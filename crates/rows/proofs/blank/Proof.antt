@@ -37,10 +37,10 @@ columns-again c = let at = c.before.before.before.columns in (search rules, at.i
 returns : tie.Need-returns invariant-columns decreases-columns
 returns c =
     let at = c.before.columns in
-    at.invariant.1 ∙ sym (room.same-zeros c.before.before.before.args.row.now c.before.before.numbers.given.0 (λ j h. at.invariant.2 j (omega arith)))
+    at.invariant.1 ∙ sym (room.same_zeros c.before.before.before.args.row.now c.before.before.numbers.given.0 (λ j h. at.invariant.2 j (omega arith)))
 
 returns-2 : tie.Need-returns-2 invariant-columns decreases-columns
-returns-2 c = sym (room.other-zeros _ c.before.before.before.columns.i (search rules) c.if1.true)
+returns-2 c = sym (room.other_zeros _ c.before.before.before.columns.i (search rules) c.if1.true)
 
 pub blank-spec : {M : Type 1} → statement M
 blank-spec =

@@ -10,7 +10,7 @@ use Rattle.rows.proofs.blank_from.Statement.{statement}
 use Rattle.rows.proofs.blank_from.Tie as tie
 
 abbrev invariant-rows : tie.invariant-rows
-invariant-rows list n zero₀ i₀ zero i = (i ≤ length list) × (room.blankFrom n list ≡ room.blankFrom i list) × (zero ≡ true)
+invariant-rows list n zero₀ i₀ zero i = (i ≤ length list) × (room.blank_from n list ≡ room.blank_from i list) × (zero ≡ true)
 
 abbrev decreases-rows : tie.decreases-rows
 decreases-rows list n zero₀ i₀ zero i = length list - i
@@ -37,18 +37,18 @@ rows-again : tie.Need-rows-preserved invariant-rows decreases-rows
 rows-again c =
     let at = c.before.before.before.before in
     let xs = at.before.args.list.now in
-    (search rules, at.rows.invariant.1 ∙ room.blank-on xs at.rows.i (search rules) (sym c.before.blank.ensures ∙ not-false _ c.if1.false), at.rows.invariant.2)
+    (search rules, at.rows.invariant.1 ∙ room.blank_on xs at.rows.i (search rules) (sym c.before.blank.ensures ∙ not-false _ c.if1.false), at.rows.invariant.2)
 
 returns : tie.Need-returns invariant-rows decreases-rows
 returns c =
     let at = c.before in
-    at.rows.invariant.2 ∙ sym (at.rows.invariant.1 ∙ room.blank-end at.before.args.list.now at.rows.i (search rules))
+    at.rows.invariant.2 ∙ sym (at.rows.invariant.1 ∙ room.blank_end at.before.args.list.now at.rows.i (search rules))
 
 returns-2 : tie.Need-returns-2 invariant-rows decreases-rows
 returns-2 c =
     let at = c.before.before.before.before in
     let xs = at.before.args.list.now in
-    sym (at.rows.invariant.1 ∙ room.blank-not xs at.rows.i (search rules) (sym c.before.blank.ensures ∙ not-true _ c.if1.true))
+    sym (at.rows.invariant.1 ∙ room.blank_not xs at.rows.i (search rules) (sym c.before.blank.ensures ∙ not-true _ c.if1.true))
 
 pub blank-from-spec : {M : Type 1} → statement M
 blank-from-spec =

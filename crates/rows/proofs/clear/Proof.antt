@@ -37,7 +37,7 @@ rows-again c =
     let at = c.before in
     let xs = at.before.args.list.now in
     let i = at.rows.i in
-    (search rules, simp length-set at.rows.invariant.1, ap (λ (l : List Row). set l i zeros) at.rows.invariant.2 ∙ lists.replicate-set zeros xs i (omega arith))
+    (search rules, simp length-set at.rows.invariant.1, ap (λ (l : List Row). set l i zeros) at.rows.invariant.2 ∙ lists.replicate_set zeros xs i (omega arith))
 
 same_length : tie.Need-same-length invariant-rows decreases-rows
 same_length c = search rules
@@ -46,7 +46,7 @@ returns : tie.Need-returns invariant-rows decreases-rows
 returns c =
     let at = c.before in
     let xs = at.before.args.list.now in
-    at.rows.invariant.2 ∙ lists.replicate-all zeros xs at.rows.i (omega arith)
+    at.rows.invariant.2 ∙ lists.replicate_all zeros xs at.rows.i (omega arith)
 
 pub clear_spec : {M : Type 1} → statement M
 clear_spec =

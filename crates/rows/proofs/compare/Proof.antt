@@ -39,27 +39,27 @@ keys-less c = search rules
 keys-again : tie.Need-keys-preserved invariant-keys decreases-keys
 keys-again c =
     let at = c.before.before.before.before.before.before in
-    (search rules, search rules, at.keys.invariant.2 ∙ keys.next-eq _ _ _ _ (omega arith) (omega arith), at.keys.invariant.3)
+    (search rules, search rules, at.keys.invariant.2 ∙ keys.next_eq _ _ _ _ (omega arith) (omega arith), at.keys.invariant.3)
 
 returns : tie.Need-returns invariant-keys decreases-keys
 returns c =
     let at = c.before in
-    at.keys.invariant.3 ∙ sym (at.keys.invariant.2 ∙ keys.order-end _ _ _ _ (omega (arith, c.before.before.before.left.given.0)) (omega (arith, c.before.before.right.given.0)))
+    at.keys.invariant.3 ∙ sym (at.keys.invariant.2 ∙ keys.order_end _ _ _ _ (omega (arith, c.before.before.before.left.given.0)) (omega (arith, c.before.before.right.given.0)))
 
 returns-2 : tie.Need-returns-2 invariant-keys decreases-keys
 returns-2 c =
     let at = c.before.before in
-    at.keys.invariant.3 ∙ sym (at.keys.invariant.2 ∙ keys.order-none _ _ _ _ (omega arith))
+    at.keys.invariant.3 ∙ sym (at.keys.invariant.2 ∙ keys.order_none _ _ _ _ (omega arith))
 
 returns-3 : tie.Need-returns-3 invariant-keys decreases-keys
 returns-3 c =
     let at = c.before.before.before.before.before in
-    sym (at.keys.invariant.2 ∙ keys.next-lt _ _ _ _ (omega arith) c.if2.true)
+    sym (at.keys.invariant.2 ∙ keys.next_lt _ _ _ _ (omega arith) c.if2.true)
 
 returns-4 : tie.Need-returns-4 invariant-keys decreases-keys
 returns-4 c =
     let at = c.before.before.before.before.before.before in
-    sym (at.keys.invariant.2 ∙ keys.next-gt _ _ _ _ (omega arith) c.if3.true)
+    sym (at.keys.invariant.2 ∙ keys.next_gt _ _ _ _ (omega arith) c.if3.true)
 
 pub compare-spec : {M : Type 1} → statement M
 compare-spec =

@@ -43,7 +43,7 @@ rows-again c =
     let xs = at.before.args.from.now in
     let ys = at.before.args.to.now in
     let i = at.rows.i in
-    (search rules, simp length-set at.rows.invariant.1, ap (λ (l : List Row). set l i (get_or xs i [])) at.rows.invariant.2 ∙ lists.take-set [] xs ys i (omega arith) (omega arith))
+    (search rules, simp length-set at.rows.invariant.1, ap (λ (l : List Row). set l i (get_or xs i [])) at.rows.invariant.2 ∙ lists.take_set [] xs ys i (omega arith) (omega arith))
 
 same_length : tie.Need-same-length invariant-rows decreases-rows
 same_length c = search rules
@@ -53,7 +53,7 @@ returns c =
     let at = c.before in
     let xs = at.before.args.from.now in
     let ys = at.before.args.to.now in
-    at.rows.invariant.2 ∙ lists.take-over xs ys at.rows.i (omega arith) (omega arith)
+    at.rows.invariant.2 ∙ lists.take_over xs ys at.rows.i (omega arith) (omega arith)
 
 pub copy_spec : {M : Type 1} → statement M
 copy_spec =

@@ -15,7 +15,7 @@ abbrev decreases-rows : tie.decreases-rows
 decreases-rows list low₀ high₀ low high = high - low
 
 rows-holds : tie.Need-rows-init invariant-rows decreases-rows
-rows-holds c = let w = room.used-within c.args.list.now in search rules
+rows-holds c = let w = room.used_within c.args.list.now in search rules
 
 sub-half : tie.Need-overflow-sub-half invariant-rows decreases-rows
 sub-half c = search rules
@@ -40,7 +40,7 @@ rows-again c =
     let at = c.before.before.before in
     let xs = at.before.args.list.now in
     let half = at.rows.low + (at.rows.high - at.rows.low) / 2 in
-    let h : length (used xs) ≤ half = room.used-stops xs half c.if1.true in
+    let h : length (used xs) ≤ half = room.used_stops xs half c.if1.true in
     search rules
 
 add_low : tie.Need-overflow-add-low invariant-rows decreases-rows
@@ -54,7 +54,7 @@ rows-again-2 c =
     let at = c.before.before.before in
     let xs = at.before.args.list.now in
     let half = at.rows.low + (at.rows.high - at.rows.low) / 2 in
-    let h : half < length (used xs) = room.used-goes-on xs at.before.requires half (omega arith) c.if1.false in
+    let h : half < length (used xs) = room.used_goes_on xs at.before.requires half (omega arith) c.if1.false in
     search rules
 
 returns : tie.Need-returns invariant-rows decreases-rows

@@ -37,19 +37,19 @@ rows-again : tie.Need-rows-preserved invariant-rows decreases-rows
 rows-again c =
     let at = c.before.before.before in
     let xs = at.before.args.list.now in
-    (search rules, omega (arith, at.rows.invariant.1, room.used-more xs at.rows.i (search rules) c.if1.false))
+    (search rules, omega (arith, at.rows.invariant.1, room.used_more xs at.rows.i (search rules) c.if1.false))
 
 returns : tie.Need-returns invariant-rows decreases-rows
 returns c =
     let at = c.before in
     let xs = at.before.args.list.now in
-    omega (arith, at.rows.invariant.1, room.used-end xs at.rows.i (search rules))
+    omega (arith, at.rows.invariant.1, room.used_end xs at.rows.i (search rules))
 
 returns-2 : tie.Need-returns-2 invariant-rows decreases-rows
 returns-2 c =
     let at = c.before.before.before in
     let xs = at.before.args.list.now in
-    omega (arith, at.rows.invariant.1, room.used-stop xs at.rows.i (search rules) c.if1.true)
+    omega (arith, at.rows.invariant.1, room.used_stop xs at.rows.i (search rules) c.if1.true)
 
 pub first-unused-spec : {M : Type 1} → statement M
 first-unused-spec =

@@ -11,7 +11,7 @@ first-unused-requires : tie.Need-first-unused-requires
 first-unused-requires c κs = search rules
 
 rises-requires : tie.Need-rises-requires
-rises-requires c κs = let w = room.used-within c.before.args.list.now in omega (arith, c.first-unused.ensures)
+rises-requires c κs = let w = room.used_within c.before.args.list.now in omega (arith, c.first-unused.ensures)
 
 returns : tie.Need-returns
 returns c =
@@ -20,7 +20,7 @@ returns c =
     sym (room.holds_not st.args.k n.result st.args.list.now n.ensures (sym c.before.rises.ensures ∙ not-true _ c.if1.true))
 
 blank-from-requires : tie.Need-blank-from-requires
-blank-from-requires c κs = let w = room.used-within c.before.before.before.args.list.now in omega (arith, c.before.before.first-unused.ensures)
+blank-from-requires c κs = let w = room.used_within c.before.before.before.args.list.now in omega (arith, c.before.before.first-unused.ensures)
 
 returns-2 : tie.Need-returns-2
 returns-2 c =

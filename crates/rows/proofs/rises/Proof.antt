@@ -48,7 +48,7 @@ rows-again c =
     let at = c.before.before.before.before.before in
     let st = at.before in (
       search rules,
-      at.rows.invariant.1 ∙ rise.rises-on st.args.k st.args.list.now st.args.n at.rows.i st.requires (search rules) (search rules)
+      at.rows.invariant.1 ∙ rise.rises_on st.args.k st.args.list.now st.args.n at.rows.i st.requires (search rules) (search rules)
           (sym c.before.below.ensures ∙ not-false _ c.if1.false),
       at.rows.invariant.2,
     )
@@ -57,13 +57,13 @@ returns : tie.Need-returns invariant-rows decreases-rows
 returns c =
     let at = c.before in
     let st = at.before in
-    at.rows.invariant.2 ∙ sym (at.rows.invariant.1 ∙ rise.rises-end st.args.k st.args.list.now st.args.n at.rows.i st.requires (search rules))
+    at.rows.invariant.2 ∙ sym (at.rows.invariant.1 ∙ rise.rises_end st.args.k st.args.list.now st.args.n at.rows.i st.requires (search rules))
 
 returns-2 : tie.Need-returns-2 invariant-rows decreases-rows
 returns-2 c =
     let at = c.before.before.before.before.before in
     let st = at.before in
-    sym (at.rows.invariant.1 ∙ rise.rises-not st.args.k st.args.list.now st.args.n at.rows.i st.requires (search rules) (search rules)
+    sym (at.rows.invariant.1 ∙ rise.rises_not st.args.k st.args.list.now st.args.n at.rows.i st.requires (search rules) (search rules)
     (sym c.before.below.ensures ∙ not-true _ c.if1.true))
 
 pub rises-spec : {M : Type 1} → statement M

@@ -25,7 +25,7 @@ mul-result c =
     let us = used st.args.list.now in
     let i = at.i.given.0.0 in
     let here : spot st.args.k st.args.row us ≡ At i = sym at.before.before.seek.ensures ∙ at.i.given.1 in
-    let h : i < length us = places.at-within st.args.k st.args.row us i here in
+    let h : i < length us = places.at_within st.args.k st.args.row us i here in
     let w = used_within st.args.list.now in
     search rules
 
@@ -36,7 +36,7 @@ shared-slice-copy-out-result c =
     let us = used st.args.list.now in
     let i = at.i.given.0.0 in
     let here : spot st.args.k st.args.row us ≡ At i = sym at.before.before.seek.ensures ∙ at.i.given.1 in
-    let h : i < length us = places.at-within st.args.k st.args.row us i here in
+    let h : i < length us = places.at_within st.args.k st.args.row us i here in
     let w = used_within st.args.list.now in
     search rules
 
@@ -47,12 +47,12 @@ returns : tie.Need-returns
 returns c =
     let st = c.before.before.before.before.before in
     let at = c.before.before in
-    sym (changes.rowOf-at st.args.k st.args.row st.args.list.now at.i.given.0.0 (sym at.before.before.seek.ensures ∙ at.i.given.1))
+    sym (changes.row_of_at st.args.k st.args.row st.args.list.now at.i.given.0.0 (sym at.before.before.seek.ensures ∙ at.i.given.1))
 
 returns-2 : tie.Need-returns-2
 returns-2 c =
     let st = c.before.before.before in
-    sym (changes.rowOf-gap st.args.k st.args.row st.args.list.now st.requires.rises _ (sym c.before.before.seek.ensures ∙ c.enum_told.given.1))
+    sym (changes.row_of_gap st.args.k st.args.row st.args.list.now st.requires.rises _ (sym c.before.before.seek.ensures ∙ c.enum_told.given.1))
 
 pub row-of-spec : {M : Type 1} → statement M
 row-of-spec =

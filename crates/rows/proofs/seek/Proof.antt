@@ -16,7 +16,7 @@ abbrev decreases-rows : tie.decreases-rows
 decreases-rows list k row low₀ high₀ low high = high - low
 
 rows-holds : tie.Need-rows-init invariant-rows decreases-rows
-rows-holds c = let xs = c.args.list.now in (search rules, places.bracket-start c.args.k c.args.t3 (used xs) (length xs) (used_within xs))
+rows-holds c = let xs = c.args.list.now in (search rules, places.bracket_start c.args.k c.args.t3 (used xs) (length xs) (used_within xs))
 
 sub-mid : tie.Need-overflow-sub-mid invariant-rows decreases-rows
 sub-mid c = search rules
@@ -46,7 +46,7 @@ rows-again c =
     let st = at.before in
     let mid = at.rows.low + (at.rows.high - at.rows.low) / 2 in (
       search rules,
-      places.slice-down st.args.k st.args.t3 st.args.list.now at.rows.low at.rows.high st.requires at.rows.invariant.1
+      places.slice_down st.args.k st.args.t3 st.args.list.now at.rows.low at.rows.high st.requires at.rows.invariant.1
           mid (search rules) (seen c.before.before ∙ c.enum_told.given.1),
     )
 
@@ -84,7 +84,7 @@ returns-2 : tie.Need-returns-2 invariant-rows decreases-rows
 returns-2 c =
     let at = c.before in
     let st = at.before in
-    sym (places.bracket-gap st.args.k st.args.t3 (used st.args.list.now) at.rows.low at.rows.high st.requires.rises at.rows.invariant.1 c.rows-test.false)
+    sym (places.bracket_gap st.args.k st.args.t3 (used st.args.list.now) at.rows.low at.rows.high st.requires.rises at.rows.invariant.1 c.rows-test.false)
 
 pub seek-spec : {M : Type 1} → statement M
 seek-spec =

@@ -18,12 +18,12 @@ enum-told-2 c = search rules
 returns : tie.Need-returns
 returns c =
     let st = c.before.before.before in
-    sym (places.stands-spot st.args.k st.args.row (used st.args.list.now) st.requires.rises ∙ ap places.taken (sym c.before.before.seek.ensures ∙ c.enum_told.given.1))
+    sym (places.stands_spot st.args.k st.args.row (used st.args.list.now) st.requires.rises ∙ ap places.taken (sym c.before.before.seek.ensures ∙ c.enum_told.given.1))
 
 returns-2 : tie.Need-returns-2
 returns-2 c =
     let st = c.before.before.before in
-    sym (places.stands-spot st.args.k st.args.row (used st.args.list.now) st.requires.rises ∙ ap places.taken (sym c.before.before.seek.ensures ∙ c.enum-told2.given.1))
+    sym (places.stands_spot st.args.k st.args.row (used st.args.list.now) st.requires.rises ∙ ap places.taken (sym c.before.before.seek.ensures ∙ c.enum-told2.given.1))
 
 pub standing-spec : {M : Type 1} → statement M
 standing-spec = tie.close (tie.spec seek-requires enum_told enum-told-2 returns returns-2)

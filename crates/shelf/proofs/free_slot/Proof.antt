@@ -28,7 +28,7 @@ slots-holds : tie.Need-slots-init invariant-slots decreases-slots
 slots-holds c =
     let st = c.before in
     let e : st.args.at + 1 - suc st.args.at ≡ 0 = omega arith in
-    (search rules, search rules, refl, rw e (shifts.closed-start 0 st.args.order.now st.args.at))
+    (search rules, search rules, refl, rw e (shifts.closed_start 0 st.args.order.now st.args.at))
 
 mul_next : tie.Need-overflow-mul-next invariant-slots decreases-slots
 mul_next c = search rules
@@ -66,7 +66,7 @@ slots-again c =
       search rules,
       search rules,
       simp length-set at.slots.invariant.2,
-      ap (λ (l : List ℕ). set l (i - 1) (get_or l i 0)) at.slots.invariant.3 ∙ rw (e, ← g) (rw f at (shifts.closed-next 0 xs a m h)),
+      ap (λ (l : List ℕ). set l (i - 1) (get_or l i 0)) at.slots.invariant.3 ∙ rw (e, ← g) (rw f at (shifts.closed_next 0 xs a m h)),
     )
 
 sub-order-2 : tie.Need-overflow-sub-order-2 invariant-slots decreases-slots
@@ -95,7 +95,7 @@ returns c =
     let g : suc (a + m) ≡ n = omega arith in
     let h : a + m < length xs = omega arith in
     ap (λ (l : List ℕ). set l (n - 1) slot) (at.slots.invariant.3 ∙ ap (λ (j : ℕ). shifts.closed xs a (j - suc a)) e)
-    ∙ rw f (shifts.closed-set 0 xs a m h slot ∙ rw g)
+    ∙ rw f (shifts.closed_set 0 xs a m h slot ∙ rw g)
 
 pub free-slot-spec : {M : Type 1} → statement M
 free-slot-spec =

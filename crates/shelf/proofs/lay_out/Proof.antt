@@ -78,7 +78,7 @@ slots-again c =
       simp length-set at.slots.invariant.1,
       ap (λ (r : Row). set at.slots.list i r) (sym (get_d_shelved slots order n st.requires.0 i h))
           ∙ ap (λ (ls : List Row). set ls i (get_or xs i [])) at.slots.invariant.2
-          ∙ lists.take-set [] xs ys i (omega arith) (omega arith),
+          ∙ lists.take_set [] xs ys i (omega arith) (omega arith),
     )
 
 mul-clear : tie.Need-overflow-mul-clear invariant-slots decreases-slots

@@ -37,7 +37,7 @@ slice-set-from-row c = within c
 slots-holds : tie.Need-slots-init invariant-slots decreases-slots
 slots-holds c =
     let st = c.before in
-    (search rules, search rules, refl, shifts.opened-start 0 st.args.order.now st.args.n (search rules))
+    (search rules, search rules, refl, shifts.opened_start 0 st.args.order.now st.args.n (search rules))
 
 sub-before : tie.Need-overflow-sub-before invariant-slots decreases-slots
 sub-before c = search rules
@@ -69,7 +69,7 @@ slots-again c =
       search rules,
       search rules,
       simp length-set at.slots.invariant.2,
-      ap (λ (l : List ℕ). set l i (get_or l (i - 1) 0)) at.slots.invariant.3 ∙ shifts.opened-next 0 xs st.args.n (search rules) i (search rules) (search rules),
+      ap (λ (l : List ℕ). set l i (get_or l (i - 1) 0)) at.slots.invariant.3 ∙ shifts.opened_next 0 xs st.args.n (search rules) i (search rules) (search rules),
     )
 
 mul-order-2 : tie.Need-overflow-mul-order-2 invariant-slots decreases-slots
@@ -94,7 +94,7 @@ returns c =
     let slot = get_or xs n 0 in
     let e : at.slots.i ≡ a = omega arith in (
       refl,
-      ap (λ (l : List ℕ). set l a slot) (at.slots.invariant.3 ∙ ap (shifts.opened xs n) e) ∙ shifts.opened-set 0 xs n (search rules) a slot (search rules),
+      ap (λ (l : List ℕ). set l a slot) (at.slots.invariant.3 ∙ ap (shifts.opened xs n) e) ∙ shifts.opened_set 0 xs n (search rules) a slot (search rules),
     )
 
 pub put-slot-spec : {M : Type 1} → statement M

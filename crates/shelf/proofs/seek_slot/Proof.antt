@@ -29,7 +29,7 @@ slots-holds c =
     let xs = shelved st.args.slots.now st.args.order.now n in
     let l : length xs ≡ n = length_shelved st.args.slots.now st.args.order.now n st.requires.0 in
     let p : c.if1.probe < max 1 n = ⊎_elim (λ w. (let t = w.0.taken in let e = w.1 in omega arith)) (λ w. (let e = w.1 in omega arith)) c.if1.branch in
-    (search rules, search rules, search rules, p, places.bracket-start st.args.k st.args.row.now xs n (omega arith))
+    (search rules, search rules, search rules, p, places.bracket_start st.args.k st.args.row.now xs n (omega arith))
 
 mul-slot : tie.Need-overflow-mul-slot invariant-slots decreases-slots
 mul-slot c = search rules
@@ -89,7 +89,7 @@ returns c =
     let at = c.before.before.before.before.before.before.before in
     let st = at.before.before.before in
     let xs = shelved st.args.slots.now st.args.order.now st.args.n in
-    sym (places.bracket-at st.args.k st.args.row.now xs at.slots.low at.slots.high st.requires.1 at.slots.invariant.4
+    sym (places.bracket_at st.args.k st.args.row.now xs at.slots.low at.slots.high st.requires.1 at.slots.invariant.4
     at.slots.probe (among c.before.before) (seen c.before.before ∙ c.enum-told2.given.1))
 
 enum-told-3 : tie.Need-enum-told-3 invariant-slots decreases-slots
@@ -119,11 +119,11 @@ met c =
     (λ w.
     let l = w.2 in
     let h = w.3 in
-    (omega arith, omega arith, omega arith, rw (l, h) (places.bracket-down k row xs low high st.requires.1 at.slots.invariant.4 probe (among c.before) (seen c.before ∙ w.1.given.1))))
+    (omega arith, omega arith, omega arith, rw (l, h) (places.bracket_down k row xs low high st.requires.1 at.slots.invariant.4 probe (among c.before) (seen c.before ∙ w.1.given.1))))
     (λ w.
     let l = w.2 in
     let h = w.3 in
-    (omega arith, omega arith, omega arith, rw (l, h) (places.bracket-up k row xs low high st.requires.1 at.slots.invariant.4 probe (among c.before) (seen c.before ∙ w.1.given.1))))
+    (omega arith, omega arith, omega arith, rw (l, h) (places.bracket_up k row xs low high st.requires.1 at.slots.invariant.4 probe (among c.before) (seen c.before ∙ w.1.given.1))))
     c.match.branch
 
 sub-probe-2 : tie.Need-overflow-sub-probe-2 invariant-slots decreases-slots
@@ -153,7 +153,7 @@ returns-2 c =
     let at = c.before in
     let st = at.before.before.before in
     let xs = shelved st.args.slots.now st.args.order.now st.args.n in
-    sym (places.bracket-gap st.args.k st.args.row.now xs at.slots.low at.slots.high st.requires.1 at.slots.invariant.4 c.slots-test.false)
+    sym (places.bracket_gap st.args.k st.args.row.now xs at.slots.low at.slots.high st.requires.1 at.slots.invariant.4 c.slots-test.false)
 
 pub seek-slot-spec : {M : Type 1} → statement M
 seek-slot-spec =
