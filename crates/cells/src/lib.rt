@@ -13,7 +13,7 @@ ghost use Rattle.cells.specs.Numbered.{begin_at, cell_numbered, MarksOf};
 use editions::Edition;
 
 // What a byte, or the line's end, is to a cell. The specification alone speaks of kinds and states.
-#[derive(Drop)]
+#[derive(Clone, Copy)]
 pub enum Kind {
     Quote,
     Semicolon,
@@ -23,7 +23,7 @@ pub enum Kind {
 }
 
 // How far a cell is read.
-#[derive(Drop)]
+#[derive(Clone, Copy)]
 pub enum State {
     Fresh,
     Plain,
@@ -34,14 +34,14 @@ pub enum State {
 }
 
 // Where a cell ends: nowhere if it is faulty.
-#[derive(Drop)]
+#[derive(Clone, Copy)]
 pub enum CellEnd {
     Nowhere,
     At(usize),
 }
 
 // A line's first faulty cell, counted from 1, or how many cells it has.
-#[derive(Drop)]
+#[derive(Clone, Copy)]
 pub enum Answer {
     Bad(usize),
     Good(usize),

@@ -5,7 +5,7 @@ ghost use Rattle.std.specs.Prelude.{◌≡◌};
 ghost use Rattle.editions.specs.Editions.{choice};
 
 // Whose tables they are: DINO 2.1 or 2.3, one for a whole delivery.
-#[derive(Drop)]
+#[derive(Clone, Copy)]
 pub enum Edition {
     Dino21,
     Dino23,
