@@ -22,7 +22,7 @@ use tables::{Columns, Table};
 use values::Judged;
 
 // A slip line, taken or refused: what its checks find, and how many blocks stand then.
-#[derive(Drop)]
+#[derive(Clone, Copy)]
 pub struct Told {
     pub check: Check,
     pub count: usize,

@@ -19,14 +19,14 @@ use tables::{Columns, Named, Sort, Table};
 use values::Value;
 
 // The answer to a question for a cell.
-#[derive(Drop)]
+#[derive(Clone, Copy)]
 pub struct CellAnswer {
     pub verdict: Verdict,
     pub cell: Cell,
 }
 
 // The way down to a row: a refusal, or where the row begins.
-#[derive(Drop)]
+#[derive(Clone, Copy)]
 pub struct Way {
     pub verdict: Verdict,
     pub begin: usize,

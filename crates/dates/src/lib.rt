@@ -5,7 +5,7 @@ ghost use Rattle.std.specs.Prelude.{◌≡◌, ◌≤◌, ◌<◌, ◌+◌, ◌*
 ghost use Rattle.dates.specs.Calendar.{leap, month_days, days_in, is_date};
 
 // A number of two digits, and what is left below their power of ten.
-#[derive(Drop)]
+#[derive(Clone, Copy)]
 struct Pair {
     value: u64,
     left: u64,

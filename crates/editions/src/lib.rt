@@ -12,7 +12,7 @@ pub enum Edition {
 }
 
 // What a number asks for: an edition, or none.
-#[derive(Drop)]
+#[derive(Clone, Copy)]
 pub enum Choice {
     Chosen(Edition),
     Unknown,

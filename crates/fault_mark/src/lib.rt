@@ -17,7 +17,7 @@ use tables::{Named, Table};
 
 // What is marked of a text: nothing, or a line from start to end, by 2.3 with the breaks in it, or such a line and a cell on it, which begins and
 // ends so many bytes behind the line's start.
-#[derive(Drop)]
+#[derive(Clone, Copy)]
 pub enum Mark {
     Nothing,
     Line {

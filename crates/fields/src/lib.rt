@@ -8,7 +8,7 @@ ghost use Rattle.fields.specs.Fields.{fields};
 ghost use Rattle.fields.specs.Marks.{field_bounds};
 
 // The fields of a slip line: how many, and the bounds of up to MOST_FIELDS.
-#[derive(Drop)]
+#[derive(Clone, Copy)]
 pub struct Fields {
     pub count: usize,
     pub bounds: [usize; BOUNDS],

@@ -6,7 +6,7 @@ ghost use Rattle.io.specs.Counts.{IsPrefixLen};
 ghost use Rattle.files.specs.Texts.{Roomy, text_at, text_room};
 
 // How many bytes each text of a delivery has, TEXT_ROOM where the file has more.
-#[derive(Drop)]
+#[derive(Clone, Copy)]
 pub struct Lengths {
     pub types: usize,
     pub depots: usize,

@@ -20,21 +20,21 @@ use tables::{COLUMN_ROOM, Columns, Table};
 pub type Places = [usize; PLACES];
 
 // The names of a header: a known column that comes twice, or 0, and where each column is named.
-#[derive(Drop)]
+#[derive(Clone, Copy)]
 pub struct Noted {
     pub twice: usize,
     pub at: Places,
 }
 
 // A line cut into its cells: what it is refused for, and how many they are where it is not.
-#[derive(Drop)]
+#[derive(Clone, Copy)]
 pub struct CutLine {
     pub check: Check,
     pub cells: usize,
 }
 
 // A header: what its checks find, and what is kept of it.
-#[derive(Drop)]
+#[derive(Clone, Copy)]
 pub struct Heading {
     pub check: Check,
     pub at: Places,
@@ -42,7 +42,7 @@ pub struct Heading {
 
 // The top of a table's text: what is judged before its rows, what is kept of the header, where the rows begin, and on which line the
 // first one starts.
-#[derive(Drop)]
+#[derive(Clone, Copy)]
 pub struct Top {
     pub verdict: Verdict,
     pub at: Places,

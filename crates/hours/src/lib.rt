@@ -15,7 +15,7 @@ use rows::Row;
 use tables::Table;
 
 // The answer for a type: its seconds in hours, and its blocks' hours summed as the ledger clerk does.
-#[derive(Drop)]
+#[derive(Clone, Copy)]
 pub struct HoursAnswer {
     pub verdict: Verdict,
     pub hours: f64,
@@ -23,7 +23,7 @@ pub struct HoursAnswer {
 }
 
 // The answer for a type and a span: what its blocks run in it, in hours.
-#[derive(Drop)]
+#[derive(Clone, Copy)]
 pub struct SeasonHours {
     pub verdict: Verdict,
     pub hours: f64,

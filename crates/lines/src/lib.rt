@@ -13,7 +13,7 @@ use cells::State;
 use editions::Edition;
 
 // Where a line ends, and where the next one begins.
-#[derive(Drop)]
+#[derive(Clone, Copy)]
 pub struct Line {
     pub end: usize,
     pub next: usize,

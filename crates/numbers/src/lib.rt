@@ -8,7 +8,7 @@ ghost use Rattle.numbers.specs.Numbers.{decimal};
 ghost use Rattle.numbers.specs.Powers.{powers_of_ten};
 ghost use Rattle.numbers.specs.Putting.{put};
 
-#[derive(Drop)]
+#[derive(Clone, Copy)]
 pub enum Digits {
     Other,
     Value(u64),
@@ -45,7 +45,7 @@ const POWERS: Powers = [
 ];
 
 // A digit, and what is left of a number below the digit's power of ten.
-#[derive(Drop)]
+#[derive(Clone, Copy)]
 pub struct Digit {
     pub digit: u8,
     pub left: u64,

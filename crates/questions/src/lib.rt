@@ -20,7 +20,7 @@ use rules::DAY;
 use tables::Table;
 
 // The answer for a type: its blocks' seconds, and how many they are.
-#[derive(Drop)]
+#[derive(Clone, Copy)]
 pub struct TypeAnswer {
     pub verdict: Verdict,
     pub seconds: u64,
@@ -28,14 +28,14 @@ pub struct TypeAnswer {
 }
 
 // The answer for a block: its columns 5 to 11.
-#[derive(Drop)]
+#[derive(Clone, Copy)]
 pub struct BlockAnswer {
     pub verdict: Verdict,
     pub numbers: [u64; 7],
 }
 
 // What the blocks of a type come to.
-#[derive(Drop)]
+#[derive(Clone, Copy)]
 pub struct Totals {
     pub seconds: u64,
     pub count: u64,

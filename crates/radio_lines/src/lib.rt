@@ -27,7 +27,7 @@ use tables::Table;
 
 // What is kept of a table while its parts come: the fault, or none; the number of the unfinished line; and how many bytes are kept of the
 // header line and of the unfinished one.
-#[derive(Drop)]
+#[derive(Clone, Copy)]
 pub struct Heard {
     pub verdict: Verdict,
     pub line: u64,

@@ -5,7 +5,7 @@ ghost use Rattle.std.specs.Prelude.{◌≡◌};
 ghost use Rattle.refusals.specs.Verdicts.{place, placed, ◌⊳◌, text_too_long, column_missing, column_twice, too_many_cells, too_many_rows, quote_fault, cell_count, key_stands, no_row, ends_early, unknown_line, no_block, output_short, not_there, bad_loan, line_too_long, length_differs, unknown_edition, no_date};
 
 // Where something is refused: the number of refusal, the table, the line, and the column or the cell, each 0 where it is not named.
-#[derive(Drop)]
+#[derive(Clone, Copy)]
 pub struct Place {
     pub number: u64,
     pub table: u64,
@@ -13,14 +13,14 @@ pub struct Place {
     pub column: u64,
 }
 
-#[derive(Drop)]
+#[derive(Clone, Copy)]
 pub enum Verdict {
     Accepted,
     Refused(Place),
 }
 
 // What a check of a line finds, before table and line are known.
-#[derive(Drop)]
+#[derive(Clone, Copy)]
 pub enum Check {
     Passes,
     Fails { number: u64, column: u64 },
@@ -28,7 +28,7 @@ pub enum Check {
 
 // The answer to a question for a cell: a number, a stretch of the text, or nothing. The access equipment of a vehicle type is a number that names
 // its edition, since a 2 there means a lift or ramp by 2.1 and a ramp by 2.3, where the number is a set of flags.
-#[derive(Drop)]
+#[derive(Clone, Copy)]
 pub enum Cell {
     Number(u64),
     Text { start: u64, len: u64 },

@@ -13,7 +13,7 @@ pub const NUMBERS: usize = 11;
 
 pub type Row = [u64; NUMBERS];
 
-#[derive(Drop)]
+#[derive(Clone, Copy)]
 pub enum Order {
     Less,
     Same,
@@ -21,7 +21,7 @@ pub enum Order {
 }
 
 // Where a key stands among rows, or where it would stand.
-#[derive(Drop)]
+#[derive(Clone, Copy)]
 pub enum Spot {
     At(usize),
     Gap(usize),

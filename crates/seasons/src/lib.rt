@@ -17,7 +17,7 @@ use rows::Row;
 use tables::Table;
 
 // The answer for a type and a span: what its blocks run in it.
-#[derive(Drop)]
+#[derive(Clone, Copy)]
 pub struct SeasonAnswer {
     pub verdict: Verdict,
     pub seconds: u64,

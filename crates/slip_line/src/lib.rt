@@ -17,7 +17,7 @@ use tables::{Columns, Table};
 use values::{Judged, Value};
 
 // What a slip line asks for.
-#[derive(Drop)]
+#[derive(Clone, Copy)]
 pub enum Wish {
     Add,
     Replace,

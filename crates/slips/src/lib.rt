@@ -18,7 +18,7 @@ use rows::{ROWS, Row};
 use tables::{Columns, Table};
 
 // The lines of a slip: their verdict, and how many blocks stand then.
-#[derive(Drop)]
+#[derive(Clone, Copy)]
 pub struct Posted {
     pub verdict: Verdict,
     pub count: usize,

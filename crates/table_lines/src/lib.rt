@@ -14,14 +14,14 @@ use tables::{Columns, Table};
 use values::Judged;
 
 // How far the lines of a table are taken: the number of the next one, and how many rows stand on the shelf.
-#[derive(Drop)]
+#[derive(Clone, Copy)]
 pub struct Reached {
     pub line: u64,
     pub count: usize,
 }
 
 // Lines of a table taken onto its shelf: what they are refused for, and how far they reach where they are not.
-#[derive(Drop)]
+#[derive(Clone, Copy)]
 pub struct Filled {
     pub verdict: Verdict,
     pub line: u64,

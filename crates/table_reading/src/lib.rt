@@ -17,7 +17,7 @@ use table_lines::Reached;
 use tables::{Columns, DAYS, Table};
 
 // Rows taken: what they are refused for, and the number of the next line where they are not.
-#[derive(Drop)]
+#[derive(Clone, Copy)]
 pub struct Taken {
     pub verdict: Verdict,
     pub line: u64,

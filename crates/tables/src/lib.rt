@@ -19,7 +19,7 @@ pub const COLUMN_ROOM: usize = 12;
 
 pub type Columns = [Column; COLUMN_ROOM];
 
-#[derive(Drop)]
+#[derive(Clone, Copy)]
 pub enum Table {
     VehicleType,
     Depot,
@@ -30,21 +30,21 @@ pub enum Table {
 }
 
 // What a number asks for: a table, or none.
-#[derive(Drop)]
+#[derive(Clone, Copy)]
 pub enum Named {
     Known(Table),
     Unknown,
 }
 
 // A decimal number or a text.
-#[derive(Drop)]
+#[derive(Clone, Copy)]
 pub enum Sort {
     Decimal,
     Text,
 }
 
 // What the cells of a column must keep to.
-#[derive(Drop)]
+#[derive(Clone, Copy)]
 pub struct Rules {
     pub sort: Sort,
     pub width: usize,
@@ -57,7 +57,7 @@ pub struct Rules {
 
 // What a table is counted by: its number in places, how many columns it has by 2.1 and by 2.3, how many of them are its key, how many numbers of a row the book
 // keeps, and how many references a row has.
-#[derive(Drop)]
+#[derive(Clone, Copy)]
 pub struct TableFigures {
     pub number: u64,
     pub columns21: usize,
@@ -69,7 +69,7 @@ pub struct TableFigures {
 
 // A column whose number, together with VERSION, is the key of a row in another table; of a stop point together with its stop's number, one
 // column before.
-#[derive(Drop)]
+#[derive(Clone, Copy)]
 pub struct Reference {
     pub column: usize,
     pub to: Table,

@@ -15,7 +15,7 @@ use rows::{NO_ROW, Row};
 use tables::{Rules, Sort};
 
 // What content is to a column: a number, a text, nothing, or against its rules, by the number of refusal.
-#[derive(Drop)]
+#[derive(Clone, Copy)]
 pub enum Value {
     Number(u64),
     Text,
@@ -24,7 +24,7 @@ pub enum Value {
 }
 
 // A line: what its checks find, and its row.
-#[derive(Drop)]
+#[derive(Clone, Copy)]
 pub struct Judged {
     pub check: Check,
     pub row: Row,

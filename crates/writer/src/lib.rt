@@ -15,7 +15,7 @@ use rows::Row;
 use tables::Table;
 
 // What was answered, and how many bytes were written.
-#[derive(Drop)]
+#[derive(Clone, Copy)]
 pub struct Written {
     pub verdict: Verdict,
     pub size: usize,
