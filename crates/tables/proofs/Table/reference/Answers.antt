@@ -2,7 +2,6 @@
 use mathlib.Core.List.{[], ◌∷◌}
 use Rattle.tables.specs.declared.Table.TheVariants.{Block}
 use Rattle.tables.proofs.Figures.{reference_of_point}
-use Rattle.tables.proofs.References.{other_table}
 use Rattle.tables.proofs.Table.reference.Goals as goal
 
 pub block_reference-requires : goal.block_reference-requires
