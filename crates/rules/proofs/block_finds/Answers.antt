@@ -23,3 +23,9 @@ pub returns-then-not-finds-3 : goal.returns-then-not-finds-3
 returns-then-not-finds-3 c =
     let st = c in
     sym (one_missing st.args.row (book_of st.args.book.now) (references Block) 3 (lit< tt) (sym c.finds-3.ensures ∙ c.if-not-finds-3.true))
+
+pub returns : goal.returns
+returns c =
+    sym (block_passes (book_of c.args.book.now) c.args.row c.requires.1
+    (sym c.finds.ensures ∙ c.if-not-finds.false) (sym c.finds-2.ensures ∙ c.if-not-finds-2.false)
+    (sym c.finds-3.ensures ∙ c.if-not-finds-3.false) _ (sym c.finds-4.ensures))
