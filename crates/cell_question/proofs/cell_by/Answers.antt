@@ -1,0 +1,17 @@
+-- `cell_question::cell_by` meets its contract. Assumes nothing.
+use mathlib.Core.Path.{◌∙◌}
+use Rattle.refusals.specs.declared.Cell.TheVariants.{Empty}
+use Rattle.cell_question.proofs.Asking.{asked_known, asked_unknown}
+use Rattle.cell_question.proofs.cell_by.Goals as goal
+
+pub returns-in-Known : goal.returns-in-Known
+returns-in-Known c =
+    let a = c.args in
+    let n = c.numbered-named in
+    c.cell_in_table.ensures ∙ asked_known a.edition a.text.now a.table a.line a.column n.result n.ensures c.in-Known.t c.in-Known.is
+
+pub returns-in-Unknown : goal.returns-in-Unknown
+returns-in-Unknown c =
+    let a = c.args in
+    let n = c.numbered-named in
+    c.not_there.ensures Empty ∙ asked_unknown a.edition a.text.now a.table a.line a.column n.result n.ensures c.in-Unknown.is
