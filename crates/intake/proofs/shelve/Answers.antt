@@ -1,8 +1,10 @@
 -- `intake::shelve` meets its contract: the table's rows stand in the first slots as they stood, and the order counts them. Assumes nothing.
-use mathlib.Core.Path.{sym, ap, ◌∙◌}
+use mathlib.Core.Path.{◌≡◌, sym, ap, ◌∙◌}
 use mathlib.Core.List.{List, ◌++◌}
+use Prim.Native.Nat.{◌≤◌, ◌-◌}
 use native.Mathlib.Omega.{arith}
-use lib.ListN.{length, drop}
+use lib.ListN.{length, drop, take, length-append, length-drop, length-take}
+use Rattle.tables.specs.Parts.{room}
 use lib.Seq.{length-take-le}
 use Rattle.words.specs.Words.{Row}
 use Rattle.shelf.specs.Shelf.{up_from}
@@ -45,7 +47,11 @@ returns c =
         ap (λ (l : List Row). l ++ drop n.result c.args.slots.now)
         (c.copy.ensures ∙ lent_first c.args.t xs c.requires.0 _ c.table_of-table.ensures n.result n.ensures.0)
     in
+    let within : n.result ≤ length c.args.slots.now = omega (arith, n.ensures.1, c.requires.2) in
+    let long : length (c.copy.new.to ++ drop n.result c.args.slots.now) ≡ room c.args.t =
+        simp (length-append, length-drop) (omega (arith, c.copy.auto.to, length-take-le n.result c.args.slots.now within))
+    in
     let o = c.number_slots.ensures ∙ ap (up_from 0) c.requires.3 in (
-      shelf_on c.args.t xs c.requires.0 _ _ _ n.result s ? o n.ensures.0 c.requires.1,
-      shelf_same c.args.t xs c.requires.0 _ _ _ n.result s ? o n.ensures.0,
+      shelf_on c.args.t xs c.requires.0 _ _ _ n.result s long o n.ensures.0 c.requires.1,
+      shelf_same c.args.t xs c.requires.0 _ _ _ n.result s long o n.ensures.0,
     )

@@ -31,8 +31,10 @@ few c = omega (arith, c.requires.1, c.requires.2)
 inside : (c : After-check) → c.columns.i < length (numbers (fields c.args.line.now))
 inside c = omega (arith, c.requires.1, c.columns-test.true)
 
-value-is : (c : After-check) (e : Edition) → c.args.columns.now ≡ listed e Block → c.of_field-value.result ≡ value_of (column_at e Block c.columns.i).rules (get_or (numbers (fields c.args.line.now)) c.columns.i [])
-value-is c e q = c.of_field-value.ensures ∙ rw (c.rules_at.ensures e Block q, (stands c.before.before.before.before).there)
+value-is : (c : After-check) → Stands c.args.line.now (get_or c.args.marks.bounds (c.columns.i + 1) 0) (get_or c.args.marks.bounds (c.columns.i + 2) 0) (get_or (numbers (fields c.args.line.now)) c.columns.i []) →
+    (e : Edition) → c.args.columns.now ≡ listed e Block → c.of_field-value.result ≡ value_of (column_at e Block c.columns.i).rules (get_or (numbers (fields c.args.line.now)) c.columns.i [])
+value-is c there e q = c.of_field-value.ensures ∙ rw (c.rules_at.ensures e Block q, there.there)
+
 
 pub columns-init : goal.columns-init
 columns-init c = (search rules, refl, refl, λ e q. refl)
@@ -66,8 +68,8 @@ columns-preserved c =
       omega (arith, inside (goal.at.columns-preserved c).After-check, st.requires.1),
       at.columns.invariant.1,
       ap (λ (l : Row). set l i c.kept_number.result) at.columns.invariant.2
-          ∙ row_more fs i c.kept_number.result (inside (goal.at.columns-preserved c).After-check) (omega (arith, inside (goal.at.columns-preserved c).After-check, few (goal.at.columns-preserved c).After-check)) (c.kept_number.ensures ∙ rw (field_number st.requires.3.0 fs (few (goal.at.columns-preserved c).After-check) i v k.check.result (inside (goal.at.columns-preserved c).After-check) (value-is (goal.at.columns-preserved c).After-check st.requires.3.0 st.requires.3.1) k.check.ensures p)),
-      λ e q. at.columns.invariant.3 e q ∙ field_passes e fs (few (goal.at.columns-preserved c).After-check) i v k.check.result (inside (goal.at.columns-preserved c).After-check) (value-is (goal.at.columns-preserved c).After-check e q) k.check.ensures p,
+          ∙ row_more fs i c.kept_number.result (inside (goal.at.columns-preserved c).After-check) (omega (arith, inside (goal.at.columns-preserved c).After-check, few (goal.at.columns-preserved c).After-check)) (c.kept_number.ensures ∙ rw (field_number st.requires.3.0 fs (few (goal.at.columns-preserved c).After-check) i v k.check.result (inside (goal.at.columns-preserved c).After-check) (value-is (goal.at.columns-preserved c).After-check (stands (goal.at.columns-preserved c).In-columns) st.requires.3.0 st.requires.3.1) k.check.ensures p)),
+      λ e q. at.columns.invariant.3 e q ∙ field_passes e fs (few (goal.at.columns-preserved c).After-check) i v k.check.result (inside (goal.at.columns-preserved c).After-check) (value-is (goal.at.columns-preserved c).After-check (stands (goal.at.columns-preserved c).In-columns) e q) k.check.ensures p,
     )
 
 pub returns-after-columns : goal.returns-after-columns
@@ -84,4 +86,4 @@ returns-in-Fails c = λ ed q.
     let at = k in
     let st = at in
     let fs = numbers (fields st.args.line.now) in
-    refused (bad_field ed fs) _ _ _ (at.columns.invariant.3 ed q ∙ field_fault ed fs (few (goal.at.returns-in-Fails c).After-check) at.columns.i k.of_field-value.result k.check.result (inside (goal.at.returns-in-Fails c).After-check) (value-is (goal.at.returns-in-Fails c).After-check ed q) k.check.ensures _ _ c.in-Fails.is)
+    refused (bad_field ed fs) _ _ _ (at.columns.invariant.3 ed q ∙ field_fault ed fs (few (goal.at.returns-in-Fails c).After-check) at.columns.i k.of_field-value.result k.check.result (inside (goal.at.returns-in-Fails c).After-check) (value-is (goal.at.returns-in-Fails c).After-check (stands (goal.at.returns-in-Fails c).In-columns) ed q) k.check.ensures _ _ c.in-Fails.is)
