@@ -1,0 +1,16 @@
+-- `slips::slip` meets its contract: 16 of the working area, which ends all zero otherwise. Assumes nothing.
+use mathlib.Core.List.{List}
+use mathlib.Core.Path.{ap, ◌∙◌}
+use Rattle.words.specs.Words.{Row}
+use Rattle.refusals.specs.Verdicts.{placed}
+use Rattle.slips.specs.Calls.{outcome}
+use Rattle.slips.proofs.Posting.{call_unsized, work_cleared}
+use Rattle.slips.proofs.slip.Goals as goal
+
+pub returns-then-work-ne-ROWS : goal.returns-then-work-ne-ROWS
+returns-then-work-ne-ROWS c =
+    let st = c in
+    let s = st.args.slip.now in
+    let xs = st.args.book.now in
+    let work = st.args.work.now in
+    call_unsized s xs work c.on.result c.if-work-ne-ROWS.true (c.on.ensures ∙ ap (placed 0 0) c.bad_loan.ensures)
