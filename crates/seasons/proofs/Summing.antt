@@ -33,9 +33,10 @@ module _ (first last version type : ℕ) (day : Row) (days : List Row) where
   unfolding days_of
   block_day x t =
       let v : column 1 x ≡ version = eqb-true (column 1 x) version (and_left (eqb (column 1 x) version) (eqb (column 5 x) type) t) in
-      rw v
-      (mul-add (seconds x) (if falls first last version (column 2 x) day then 1 else 0) (days_of first last version (column 2 x) days)
-      ∙ ap (λ (n : ℕ). n + seconds x * days_of first last version (column 2 x) days) (one_day (seconds x) (in_span first last version day) (eqb (column 3 day) (column 2 x))))
+      ap (λ (w : ℕ). seconds x * days_of first last w (column 2 x) (day ∷ days)) v
+      ∙ mul-add (seconds x) (if falls first last version (column 2 x) day then 1 else 0) (days_of first last version (column 2 x) days)
+      ∙ ap (λ (n : ℕ). n + seconds x * days_of first last version (column 2 x) days) (one_day (seconds x) (in_span first last version day) (eqb (column 3 day) (column 2 x)))
+      ∙ ap (λ (w : ℕ). (if in_span first last version day then runs_on (column 3 day) x else 0) + seconds x * days_of first last w (column 2 x) days) (sym v)
 
   add_blocks : (span here : Bool) (all own ran more rest on : ℕ) → all ≡ (if span then own else 0) + ran → more ≡ (if span then on else 0) + rest
       → (if here then all else 0) + more ≡ (if span then (if here then own else 0) + on else 0) + ((if here then ran else 0) + rest)
