@@ -1,4 +1,4 @@
-// The library for C, as include/workshop.h says it: each function tells its verdict by the returned number and the place.
+// What the library for C answers, as include/workshop.h says it: each function tells its verdict by the returned number and the place. abi_c exports them.
 #![tactic(auto)]
 
 ghost use Rattle.std.specs.Prelude.{◌≡◌};
@@ -33,8 +33,7 @@ fn cell_on_paper(cell: Cell) -> [u64; 4]
     }
 }
 
-#[unsafe(no_mangle)]
-pub extern "C" fn workshop_read(
+pub fn workshop_read(
     edition: u64,
     vehicle_type: &[u8],
     depot: &[u8],
@@ -61,13 +60,7 @@ pub extern "C" fn workshop_read(
     told[0]
 }
 
-#[unsafe(no_mangle)]
-pub extern "C" fn workshop_slip(
-    slip: &[u8],
-    book: &mut [Row],
-    work: &mut [Row],
-    place: &mut [u64; 4],
-) -> u64
+pub fn workshop_slip(slip: &[u8], book: &mut [Row], work: &mut [Row], place: &mut [u64; 4]) -> u64
     ensures { SlipPermits slip.now book.old work.old result place.new book.new work.new }
 {
     let told = on_paper(slips::slip(slip, book, work));
@@ -75,8 +68,7 @@ pub extern "C" fn workshop_slip(
     told[0]
 }
 
-#[unsafe(no_mangle)]
-pub extern "C" fn workshop_cell(
+pub fn workshop_cell(
     edition: u64,
     text: &[u8],
     table: u64,
@@ -97,8 +89,7 @@ pub extern "C" fn workshop_cell(
     told[0]
 }
 
-#[unsafe(no_mangle)]
-pub extern "C" fn workshop_type(
+pub fn workshop_type(
     book: &[Row],
     version: u64,
     number: u64,
@@ -115,8 +106,7 @@ pub extern "C" fn workshop_type(
     told[0]
 }
 
-#[unsafe(no_mangle)]
-pub extern "C" fn workshop_block(
+pub fn workshop_block(
     book: &[Row],
     version: u64,
     day_type: u64,
@@ -136,8 +126,7 @@ pub extern "C" fn workshop_block(
     told[0]
 }
 
-#[unsafe(no_mangle)]
-pub extern "C" fn workshop_season(
+pub fn workshop_season(
     book: &[Row],
     version: u64,
     number: u64,
@@ -156,8 +145,7 @@ pub extern "C" fn workshop_season(
     told[0]
 }
 
-#[unsafe(no_mangle)]
-pub extern "C" fn workshop_hours(
+pub fn workshop_hours(
     book: &[Row],
     version: u64,
     number: u64,
@@ -174,8 +162,7 @@ pub extern "C" fn workshop_hours(
     told[0]
 }
 
-#[unsafe(no_mangle)]
-pub extern "C" fn workshop_season_hours(
+pub fn workshop_season_hours(
     book: &[Row],
     version: u64,
     number: u64,
@@ -194,8 +181,7 @@ pub extern "C" fn workshop_season_hours(
     told[0]
 }
 
-#[unsafe(no_mangle)]
-pub extern "C" fn workshop_write(
+pub fn workshop_write(
     book: &[Row],
     out: &mut [u8],
     length: &mut [u64; 1],
@@ -211,8 +197,7 @@ pub extern "C" fn workshop_write(
     told[0]
 }
 
-#[unsafe(no_mangle)]
-pub extern "C" fn workshop_radio_open(
+pub fn workshop_radio_open(
     edition: u64,
     book: &mut [Row],
     kept: &mut [u64],
@@ -226,8 +211,7 @@ pub extern "C" fn workshop_radio_open(
     told[0]
 }
 
-#[unsafe(no_mangle)]
-pub extern "C" fn workshop_radio_announce(
+pub fn workshop_radio_announce(
     length: u64,
     book: &[Row],
     kept: &mut [u64],
@@ -241,8 +225,7 @@ pub extern "C" fn workshop_radio_announce(
     told[0]
 }
 
-#[unsafe(no_mangle)]
-pub extern "C" fn workshop_radio_part(
+pub fn workshop_radio_part(
     bytes: &[u8],
     book: &mut [Row],
     kept: &mut [u64],
@@ -256,8 +239,7 @@ pub extern "C" fn workshop_radio_part(
     told[0]
 }
 
-#[unsafe(no_mangle)]
-pub extern "C" fn workshop_radio_close(
+pub fn workshop_radio_close(
     book: &mut [Row],
     kept: &mut [u64],
     lines: &mut [u8],
