@@ -1,6 +1,6 @@
 # shellcheck shell=sh disable=SC2154
 # Sourced by second/run, bench/run and tests/reading: builds C programs with the kit's own clang and C library, for x86-64, and runs them
-# natively or, on another processor, under the kit's emulator. Nothing of the machine but sh and its usual commands is used.
+# there. Nothing of the machine but sh and its usual commands is used.
 # POSIX sh. Needs $root, the top of the repository; gives kit_build and kit_exec.
 
 kit_say() { printf '%s: %s\n' "${0##*/}" "$*" >&2; }
@@ -14,8 +14,8 @@ if [ -z "$kit_home" ]; then
     done
     kit_home=$(cd "$(dirname "$rt")/.." && pwd -P)
 fi
-kit_tools=$kit_home/on/$(uname -m)/toolchain
-[ -x "$kit_tools/bin/clang" ] || { kit_say "the kit at $kit_home has no compiler for this machine, $(uname -m)"; exit 2; }
+kit_tools=$kit_home/toolchain
+[ "$(uname -m)" = x86_64 ] && [ -x "$kit_tools/bin/clang" ] || { kit_say "the kit at $kit_home has no compiler for this machine, $(uname -m)"; exit 2; }
 
 # Compiles each C file at -O3 and links them, and what else is named, to the program OUT. The words before -- go to the
 # compiler. The kit has no C headers; second/kit has the declarations that are used.
@@ -55,11 +55,7 @@ $object"
         "$lib/libgcc_s.so.1" "$lib/crtendS.o" "$lib/crtn.o" || return 2
 }
 
-# Runs a program under the kit's loader, as rt runs programs, in place of this shell.
+# Runs a program under the kit's loader and C library, in place of this shell.
 kit_exec() { # PROGRAM [WORDS...]
-    emulator=$kit_tools/bin/qemu-x86_64
-    [ -x "$emulator" ] || emulator=''
-    # the emulator takes options from the environment too; none are meant here
-    for word in $(env | sed -n 's/^\(QEMU_[A-Za-z0-9_]*\)=.*/\1/p'); do unset "$word"; done
-    exec ${emulator:+"$emulator"} "$kit_tools/lib/ld-linux-x86-64.so.2" --library-path "$kit_tools/lib" "$@"
+    exec "$kit_tools/lib/ld-linux-x86-64.so.2" --library-path "$kit_tools/lib" "$@"
 }
