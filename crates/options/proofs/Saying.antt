@@ -1,9 +1,11 @@
 -- What a word asks for, by how it compares. Assumes nothing.
-use mathlib.Core.Path.{◌≡◌, refl, sym, ◌∙◌}
+use mathlib.Core.Path.{◌≡◌, refl, sym}
 use mathlib.Core.List.{List}
 use mathlib.Core.Bool.{Bool, true, false}
 use Prim.Native.Nat.{ℕ}
 use native.Mathlib.Omega.{arith}
+use Rattle.std.specs.Prelude.{nat_eq}
+use Rattle.std.specs.Cmp.Lexicographic.{pointwise, same_text, other_text}
 use Rattle.words.specs.Words.{Bytes, if◌then◌else◌, same, bytes}
 use Rattle.words.proofs.Lists.{same_refl, same_true}
 use Rattle.numbers.specs.Numbers.{is_decimal, value}
@@ -13,13 +15,13 @@ use Rattle.numbers.specs.declared.Digits.TheVariants.{Value, Other}
 use Rattle.numbers.proofs.Decimals.{decimal_value}
 use Rattle.options.specs.Options.{edition_said, day_said}
 
--- an answer that is true exactly for equal lists is that of `same`
-pub compared : (b : Bool) (xs ys : List ℕ) → (b ≡ true → xs ≡ ys) × (xs ≡ ys → b ≡ true) → same xs ys ≡ b
-compared true xs ys h = rw (h.0 refl) (same_refl ys)
+-- what a test of two texts says is what `same` says
+pub compared : (b : Bool) (xs ys : List ℕ) → b ≡ pointwise nat_eq xs ys → same xs ys ≡ b
+compared true xs ys h = rw (same_text xs ys h) (same_refl ys)
 compared false xs ys h = go (same xs ys) refl
   where
     go : (t : Bool) → same xs ys ≡ t → t ≡ false
-    go true e = sym (h.1 (same_true xs ys e))
+    go true e = absurd (other_text xs ys h (same_true xs ys e))
     go false e = refl
 
 module _ (word : Bytes) where

@@ -1,11 +1,13 @@
 // The edition and the days that the arguments of a program ask for.
 #![tactic(auto)]
 
-ghost use Rattle.std.specs.Prelude.{◌≡◌};
+ghost use Rattle.std.specs.Prelude.{◌≡◌, ◌≤◌, length};
 ghost use Rattle.options.specs.Options.{edition_said, SaidByWord, day_said, DayByWord};
 
 use editions::Edition;
 use numbers::Digits;
+use std::env::FillError;
+use std::rt::Env;
 
 // The words by which a caller chooses.
 const SAID_21: [u8; 13] = *b"--edition=2.1";
@@ -18,14 +20,34 @@ const NO_EDITION: u64 = 0;
 // Room for a word: one that is longer is none of those.
 const WORD_ROOM: usize = 32;
 
+// How many arguments the program was started with, its own name among them.
+fn arg_count(rt: &impl Env) -> usize {
+    for i in 0..usize::MAX {
+        if let Err(FillError::NotPresent) = rt.arg(i, &mut []) {
+            return i;
+        }
+    }
+    usize::MAX
+}
+
+// Puts an argument at the head of a word's room, and returns how many bytes it has: 0 where it is missing or longer than the room.
+fn arg(rt: &impl Env, i: usize, word: &mut [u8]) -> usize
+    ensures { result ≤ length word.new }
+{
+    match rt.arg(i, word) {
+        Ok(n) => n,
+        Err(_) => 0,
+    }
+}
+
 // The number of the edition that a word asks for, or of none.
 pub fn edition_said(word: &[u8]) -> u64
     ensures { result ≡ edition_said word.now }
 {
-    if check::same(word, &SAID_21) {
+    if word == &SAID_21[..] {
         return Edition::BY_21;
     }
-    if check::same(word, &SAID_23) {
+    if word == &SAID_23[..] {
         return Edition::BY_23;
     }
     NO_EDITION
@@ -33,10 +55,10 @@ pub fn edition_said(word: &[u8]) -> u64
 
 // The same for the program's arguments before so many others: without one it is 2.1, and more than one ask for none, since a whole delivery has one
 // edition.
-pub fn edition_before(others: usize) -> u64
+pub fn edition_before(rt: &impl Env, others: usize) -> u64
     ensures { SaidByWord result }
 {
-    let count = os::arg_count();
+    let count = arg_count(rt);
     if count <= others {
         return edition_said(&SAID_21);
     }
@@ -48,14 +70,14 @@ pub fn edition_before(others: usize) -> u64
         return edition_said(b"");
     }
     let mut word = [0u8; WORD_ROOM];
-    let n = os::arg(1, &mut word);
+    let n = arg(rt, 1, &mut word);
     edition_said(&word[..n])
 }
 
-pub fn edition_asked() -> u64
+pub fn edition_asked(rt: &impl Env) -> u64
     ensures { SaidByWord result }
 {
-    edition_before(0)
+    edition_before(rt, 0)
 }
 
 // How many digits a day has, YYYYMMDD.
@@ -72,14 +94,14 @@ pub fn day_said(word: &[u8]) -> u64
 }
 
 // The same for the program's argument so many places from the end, the last being 1.
-pub fn day_asked(place: usize) -> u64
+pub fn day_asked(rt: &impl Env, place: usize) -> u64
     ensures { DayByWord result }
 {
-    let count = os::arg_count();
+    let count = arg_count(rt);
     if count <= place {
         return day_said(b"");
     }
     let mut word = [0u8; WORD_ROOM];
-    let n = os::arg(count - place, &mut word);
+    let n = arg(rt, count - place, &mut word);
     day_said(&word[..n])
 }
