@@ -1,8 +1,12 @@
 -- The texts of a folder in one lent room.
 -- Inner: no promise and no contract of a public function speaks of it.
-use Rattle.std.specs.Prelude.{List, ℕ, suc, ◌≤◌, take, drop}
+use Rattle.std.specs.Prelude.{◌≡◌, List, ℕ, suc, ◌≤◌, length, take, drop}
 use Rattle.lines.specs.Lines.{most_bytes}
 use Rattle.files.specs.declared.Lengths.{Lengths}
+
+-- so many bytes at the head of a buffer: no more than it has
+abbrev pub Counts : ℕ → List ℕ → Type 0
+Counts n buffer = (n ≤ length buffer) × (n ≡ length (take n buffer))
 
 -- so many bytes from a place on; as many as there are where there are fewer
 abbrev pub text_at : ℕ → ℕ → List ℕ → List ℕ
