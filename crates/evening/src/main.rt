@@ -3,41 +3,41 @@
 #![tactic(auto)]
 
 use editions::Edition;
-use libc::{STDERR_FILENO, STDOUT_FILENO};
 use lines::MOST_BYTES;
 use refusals::Verdict;
 use rows::{NO_ROW, ROWS};
+use std::io;
 use tables::BOOK_ROWS;
 
-fn tell(bytes: &[u8]) {
-    io::write_all(STDERR_FILENO, bytes);
+fn tell(rt: &impl Eprint, words: &str) -> io::Result<()> {
+    rt.eprint(words)
 }
 
 // The edition goes to standard error, since standard output is the table and nothing else.
-fn tell_edition(edition: u64) {
+fn tell_edition(rt: &impl Eprint, edition: u64) -> io::Result<()> {
     match edition {
-        Edition::BY_21 => tell(b"evening: by DINO 2.1\n"),
-        Edition::BY_23 => tell(b"evening: by DINO 2.3\n"),
-        _ => tell(b"evening: this edition is not known: 2.1 or 2.3\n"),
+        Edition::BY_21 => tell(rt, "evening: by DINO 2.1\n"),
+        Edition::BY_23 => tell(rt, "evening: by DINO 2.3\n"),
+        _ => tell(rt, "evening: this edition is not known: 2.1 or 2.3\n"),
     }
 }
 
-fn main() {
-    let edition = options::edition_asked();
-    tell_edition(edition);
+fn main(rt: HostRuntime) -> io::Result<()> {
+    let edition = options::edition_asked(&rt);
+    tell_edition(&rt, edition)?;
     let mut book = [NO_ROW; BOOK_ROWS];
     let mut work = [NO_ROW; ROWS];
-    let verdict = folder::day(edition, &mut book, &mut work);
+    let verdict = folder::day(&rt, edition, &mut book, &mut work);
     // As much as a text may have: more than 512 blocks of full width take.
     let mut out = [0u8; MOST_BYTES];
     match verdict {
         Verdict::Accepted => {
             let written = writer::write(&book, &mut out);
-            io::write_all(STDOUT_FILENO, files::text(&out, 0, written.size));
+            rt.write_all(files::text(&out, 0, written.size))
         }
         Verdict::Refused(p) => {
             let written = sheet::day_sheet(Verdict::Refused(p), &book, &mut out);
-            io::write_all(STDOUT_FILENO, files::text(&out, 0, written.size));
+            rt.write_all(files::text(&out, 0, written.size))
         }
     }
 }

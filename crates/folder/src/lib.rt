@@ -5,14 +5,15 @@ ghost use Rattle.folder.specs.Folder.{DayOfTexts};
 
 use refusals::Verdict;
 use rows::Row;
+use std::rt::Files;
 
 // The delivery of the working folder by an edition, and then its slip; a file that cannot be opened counts as empty.
-pub fn day(edition: u64, book: &mut [Row], work: &mut [Row]) -> Verdict
+pub fn day(rt: &(impl Files + Eprint), edition: u64, book: &mut [Row], work: &mut [Row]) -> Verdict
     ensures { DayOfTexts edition result book.old book.new work.old work.new }
 {
     let mut room = [0u8; files::ROOM];
-    let n = files::load_delivery(&mut room, false);
-    let slip = files::load_slip(&mut room);
+    let n = files::load_delivery(rt, &mut room, false);
+    let slip = files::load_slip(rt, &mut room);
     day::day(
         edition,
         files::text(&room, files::VEHICLE_TYPE, n.types),
