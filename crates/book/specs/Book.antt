@@ -1,6 +1,6 @@
 -- The book.
 use Rattle.std.specs.Prelude.{List, [], Bool, eqb, leb, length}
-use Rattle.words.specs.Words.{Row, if◌then◌else◌}
+use Rattle.words.specs.Words.{Row, whether◌then◌else◌}
 use Rattle.rows.specs.Rows.{inserted, stands}
 use Rattle.editions.specs.declared.Edition.{Edition}
 use Rattle.editions.specs.declared.Edition.TheVariants.{Dino21}
@@ -42,7 +42,7 @@ rows Calendar b = b.days
 
 -- the book with other rows in one table; its edition stays
 abbrev pub with_rows : Table → List Row → Book → Book
-with_rows t xs b = book_by b.edition (λ u. if eqb (part_of u) (part_of t) then xs else rows u b)
+with_rows t xs b = book_by b.edition (λ u. whether eqb (part_of u) (part_of t) then xs else rows u b)
 
 -- the book with a row entered in a table
 abbrev pub entered : Table → Row → Book → Book

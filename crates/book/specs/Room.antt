@@ -1,6 +1,6 @@
 -- The book in a lent slice: a part for each table, its rows with zeros behind them, and then the row of marks.
 use Rattle.std.specs.Prelude.{List, [], ◌∷◌, ◌++◌, ℕ, eqb, take, drop, get_or}
-use Rattle.words.specs.Words.{Row, if◌then◌else◌}
+use Rattle.words.specs.Words.{Row, whether◌then◌else◌}
 use Rattle.rows.specs.Rows.{wide, column}
 use Rattle.rows.specs.Room.{filled, used}
 use Rattle.editions.specs.declared.Edition.{Edition}
@@ -25,7 +25,7 @@ marks e = wide (mark e ∷ [])
 
 -- the edition that a row of marks tells
 abbrev pub edition_of : Row → Edition
-edition_of row = if eqb (column 1 row) 1 then Dino23 else Dino21
+edition_of row = whether eqb (column 1 row) 1 then Dino23 else Dino21
 
 -- a book in a slice: all its tables, and the row of marks
 abbrev pub laid : Book → List Row

@@ -7,7 +7,7 @@ use native.Mathlib.Omega.{arith}
 use lib.Dec.{eqb, ltb}
 use lib.ListN.{length, length-take, length-drop, get_or, length-append, take, drop}
 use borrow.Author.Tests.{ne_eqb, le-ltb, eqb-false, ltb-false, eq-eqb, lt-ltb}
-use Rattle.words.specs.Words.{Bytes, if◌then◌else◌}
+use Rattle.words.specs.Words.{Bytes, whether◌then◌else◌}
 use Rattle.refusals.specs.Verdicts.{placed, ◌when◌, ◌⊳◌, ◌before◌, nowhere, not_there, unknown_edition}
 use Rattle.refusals.specs.declared.Check.{Check}
 use Rattle.refusals.specs.declared.Check.TheVariants.{Fails, Passes}
@@ -89,10 +89,10 @@ module _ (ed : Edition) (equip : Bool) (n line k at : ℕ) (cell : Bytes) where
       go true = refl
       go false = refl
 
-  text_meant : (q : Bool) → meant ed equip (if q then Text (at + 1) (length cell - 2) else Text at (length cell)) ≡ (if q then Text (at + 1) (length cell - 2) else Text at (length cell))
+  text_meant : (q : Bool) → meant ed equip (whether q then Text (at + 1) (length cell - 2) else Text at (length cell)) ≡ (whether q then Text (at + 1) (length cell - 2) else Text at (length cell))
   text_meant q = go equip q
     where
-      go : (b q : Bool) → meant ed b (if q then Text (at + 1) (length cell - 2) else Text at (length cell)) ≡ (if q then Text (at + 1) (length cell - 2) else Text at (length cell))
+      go : (b q : Bool) → meant ed b (whether q then Text (at + 1) (length cell - 2) else Text at (length cell)) ≡ (whether q then Text (at + 1) (length cell - 2) else Text at (length cell))
       go true true = refl
       go true false = refl
       go false true = refl
@@ -109,14 +109,14 @@ module _ (ed : Edition) (equip : Bool) (n line k at : ℕ) (cell : Bytes) where
           is : value (content cell) ≡ m
           is = (decimal_value x.width (content cell) m p).1
 
-          by_range : (i : Bool) → answered (placed n line (check_of k (if i then value-is.Number m else value-is.Bad 21))) (meant ed equip (cell_said sort-is.Decimal at cell))
-              ≡ answered_by (if i then value-is.Number m else value-is.Bad 21)
+          by_range : (i : Bool) → answered (placed n line (check_of k (whether i then value-is.Number m else value-is.Bad 21))) (meant ed equip (cell_said sort-is.Decimal at cell))
+              ≡ answered_by (whether i then value-is.Number m else value-is.Bad 21)
           by_range true = rw (e, is)
           by_range false = refl
 
       by_length_lem : (z : Bool) → eqb (length (content cell)) 0 ≡ z → (q w : Bool) (sort : Sort)
-          → answered (placed n line (check_of k (if z then (if q then value-is.Bad 19 else value-is.Empty) else (if w then value-is.Bad 20 else by_sort sort x (content cell))))) (meant ed equip (cell_said sort at cell))
-          ≡ answered_by (if z then (if q then value-is.Bad 19 else value-is.Empty) else (if w then value-is.Bad 20 else by_sort sort x (content cell)))
+          → answered (placed n line (check_of k (whether z then (whether q then value-is.Bad 19 else value-is.Empty) else (whether w then value-is.Bad 20 else by_sort sort x (content cell))))) (meant ed equip (cell_said sort at cell))
+          ≡ answered_by (whether z then (whether q then value-is.Bad 19 else value-is.Empty) else (whether w then value-is.Bad 20 else by_sort sort x (content cell)))
       by_length_lem true e true w sort = refl
       by_length_lem true e false w sort-is.Decimal = rw e (ap (answered Accepted) empty_meant)
       by_length_lem true e false w sort-is.Text = rw e (ap (answered Accepted) empty_meant)
@@ -148,8 +148,8 @@ offset_from i k b [] cs l n = absurd (n refl)
 offset_from i k b (x ∷ xs) [] l n = absurd (omega arith)
 offset_from i k b (x ∷ xs) (c ∷ cs) l n = go (eqb k x) n (offset_from (suc i) k (b + length c + 1) xs cs (omega arith))
   where
-    go : (q : Bool) → ((if q then suc i else place_from (suc i) k xs) ≡ 0 → ⊥) → ((place_from (suc i) k xs ≡ 0 → ⊥) → get_or (bounds_from (b + length c + 1) cs) (place_from (suc i) k xs - suc (suc i)) 0 ≡ b + length c + 1 + offset k xs cs)
-        → get_or (b ∷ bounds_from (b + length c + 1) cs) ((if q then suc i else place_from (suc i) k xs) - suc i) 0 ≡ b + (if q then 0 else length c + 1 + offset k xs cs)
+    go : (q : Bool) → ((whether q then suc i else place_from (suc i) k xs) ≡ 0 → ⊥) → ((place_from (suc i) k xs ≡ 0 → ⊥) → get_or (bounds_from (b + length c + 1) cs) (place_from (suc i) k xs - suc (suc i)) 0 ≡ b + length c + 1 + offset k xs cs)
+        → get_or (b ∷ bounds_from (b + length c + 1) cs) ((whether q then suc i else place_from (suc i) k xs) - suc i) 0 ≡ b + (whether q then 0 else length c + 1 + offset k xs cs)
     go true m ih = let e : suc i - suc i ≡ 0 = omega arith in rw e (omega arith)
     go false m ih =
         let l : suc (suc i) ≤ place_from (suc i) k xs = place_above (suc i) k xs m in
@@ -161,7 +161,7 @@ unfolding place_from
 place_most i k [] = omega arith
 place_most i k (x ∷ xs) = go (eqb k x) (place_most (suc i) k xs)
   where
-    go : (q : Bool) → place_from (suc i) k xs ≤ suc i + length xs → (if q then suc i else place_from (suc i) k xs) ≤ i + suc (length xs)
+    go : (q : Bool) → place_from (suc i) k xs ≤ suc i + length xs → (whether q then suc i else place_from (suc i) k xs) ≤ i + suc (length xs)
     go true ih = omega arith
     go false ih = omega arith
 
@@ -192,7 +192,7 @@ said_begun ed sort begin k h row bounds count m e = go (eqb (place_from 0 k h) 0
 pub begin_within : (ed : Edition) (line : Bytes) (bounds : List ℕ) (count n : ℕ) → MarksOf ed line bounds count → begin_at bounds count n ≤ length line
 begin_within ed line bounds count n m = go (eqb n 0) (ltb count n) refl refl
   where
-    go : (z w : Bool) → eqb n 0 ≡ z → ltb count n ≡ w → (if z then 0 else if w then 0 else get_or bounds (n - 1) 0) ≤ length line
+    go : (z w : Bool) → eqb n 0 ≡ z → ltb count n ≡ w → (whether z then 0 else whether w then 0 else get_or bounds (n - 1) 0) ≤ length line
     go true w p q = omega arith
     go false true p q = omega arith
     go false false p q =
@@ -326,13 +326,13 @@ offset_inside k [] cs p = absurd (omega arith)
 offset_inside k (x ∷ xs) [] p = absurd (omega arith)
 offset_inside k (x ∷ xs) (c ∷ []) p = go (eqb k x) p
   where
-    go : (q : Bool) → 0 < length (if q then c else under k xs []) → (if q then 0 else length c + 1 + offset k xs []) + length (if q then c else under k xs []) ≤ length c
+    go : (q : Bool) → 0 < length (whether q then c else under k xs []) → (whether q then 0 else length c + 1 + offset k xs []) + length (whether q then c else under k xs []) ≤ length c
     go true p = omega arith
     go false p = absurd (omega (arith, under_none k xs))
 offset_inside k (x ∷ xs) (c ∷ (e ∷ es)) p = rw length-append (go (eqb k x) p (offset_inside k xs (e ∷ es)))
   where
-    go : (q : Bool) → 0 < length (if q then c else under k xs (e ∷ es)) → (0 < length (under k xs (e ∷ es)) → offset k xs (e ∷ es) + length (under k xs (e ∷ es)) ≤ length (parted 59 (e ∷ es)))
-        → (if q then 0 else length c + 1 + offset k xs (e ∷ es)) + length (if q then c else under k xs (e ∷ es)) ≤ length c + suc (length (parted 59 (e ∷ es)))
+    go : (q : Bool) → 0 < length (whether q then c else under k xs (e ∷ es)) → (0 < length (under k xs (e ∷ es)) → offset k xs (e ∷ es) + length (under k xs (e ∷ es)) ≤ length (parted 59 (e ∷ es)))
+        → (whether q then 0 else length c + 1 + offset k xs (e ∷ es)) + length (whether q then c else under k xs (e ∷ es)) ≤ length c + suc (length (parted 59 (e ∷ es)))
     go true p ih = omega arith
     go false p ih = omega (arith, ih p)
 
@@ -348,7 +348,7 @@ said_inside : (s cell : Bytes) (sort : Sort) (at start len : ℕ) → (0 < lengt
 said_inside s cell sort at start len h = go (eqb (length (content cell)) 0) refl sort (quoted cell) refl
   where
     go : (z : Bool) → eqb (length (content cell)) 0 ≡ z → (x : Sort) (q : Bool) → quoted cell ≡ q
-        → (if z then Empty else said x at cell) ≡ Text start len → start + len ≤ length s
+        → (whether z then Empty else said x at cell) ≡ Text start len → start + len ≤ length s
     go true e x q f g = let z : ◌≡◌ {A = ℕ} 0 1 = cc in absurd (omega arith)
     go false e sort-is.Decimal q f g = let z : ◌≡◌ {A = ℕ} 0 1 = cc in absurd (omega arith)
     go false e sort-is.Text true f g =

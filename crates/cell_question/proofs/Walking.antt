@@ -7,7 +7,7 @@ use native.Mathlib.Omega.{arith}
 use lib.Dec.{eqb, ltb}
 use lib.ListN.{length, take, drop, length-take}
 use borrow.Author.Tests.{eq-eqb, ne_eqb, lt-ltb, le-ltb, ltb-true, ltb-false, eqb-true}
-use Rattle.words.specs.Words.{Bytes, if◌then◌else◌}
+use Rattle.words.specs.Words.{Bytes, whether◌then◌else◌}
 use Rattle.words.proofs.Lists.{part_length}
 use Rattle.refusals.specs.Verdicts.{placed, nowhere, not_there, ◌before◌}
 use Rattle.refusals.specs.declared.Place.{Place}
@@ -32,7 +32,7 @@ unfolding feeds
 feeds_le [] = omega arith
 feeds_le (b ∷ bs) = go (eqb b 10) (feeds_le bs)
   where
-    go : (t : Bool) → feeds bs ≤ length bs → (if t then suc (feeds bs) else feeds bs) ≤ suc (length bs)
+    go : (t : Bool) → feeds bs ≤ length bs → (whether t then suc (feeds bs) else feeds bs) ≤ suc (length bs)
     go true h = omega arith
     go false h = omega arith
 
@@ -207,7 +207,7 @@ module _ (e : Edition) (line : ℕ) (s : Bytes) where
     unfolding row_on
     inside_some on = rw found.is (go (eqb i line) refl)
       where
-        go : (b : Bool) → eqb i line ≡ b → line_start line s + length (if b then found_row else row_on e line (line_after e i found_row) (lines e (drop (line_at e s at).next s))) ≤ length s
+        go : (b : Bool) → eqb i line ≡ b → line_start line s + length (whether b then found_row else row_on e line (line_after e i found_row) (lines e (drop (line_at e s at).next s))) ≤ length s
         go true q =
             let j : i ≡ line = eqb-true i line q in
             omega (arith, part_length s at (line_at e s at).end found.high, found.low, found.high, k, ap (λ (n : ℕ). line_start n s) j)

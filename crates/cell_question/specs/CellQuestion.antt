@@ -1,6 +1,6 @@
 -- The question for one cell of one text.
 use Rattle.std.specs.Prelude.{◌≡◌, List, ◌++◌, [], ◌∷◌, Bool, true, false, not, ◌||◌, ℕ, ◌+◌, ◌-◌, length, take, drop, eqb, ltb}
-use Rattle.words.specs.Words.{Bytes, if◌then◌else◌}
+use Rattle.words.specs.Words.{Bytes, whether◌then◌else◌}
 use Rattle.refusals.specs.declared.Verdict.{Verdict}
 use Rattle.refusals.specs.declared.Verdict.TheVariants.{Accepted, Refused}
 use Rattle.refusals.specs.declared.Cell.{Cell}
@@ -39,10 +39,10 @@ cell_paper a = paper a.verdict ++ values a.cell
 -- bytes between the quotes, or the whole cell where unquoted, doubled quotes still doubled." `at` is where the cell begins in the text
 abbrev pub said : Sort → ℕ → Bytes → Cell
 said sort-is.Decimal at cell = Number (value (content cell))
-said sort-is.Text at cell = if quoted cell then Text (at + 1) (length cell - 2) else Text at (length cell)
+said sort-is.Text at cell = whether quoted cell then Text (at + 1) (length cell - 2) else Text at (length cell)
 
 abbrev pub cell_said : Sort → ℕ → Bytes → Cell
-cell_said sort at cell = if eqb (length (content cell)) 0 then Empty else said sort at cell
+cell_said sort at cell = whether eqb (length (content cell)) 0 then Empty else said sort at cell
 
 -- "A 2 there means a ramp, in 2.1 lift or ramp; the cell answer must name which": VEH_TYPE_ACCESS_EQUIP, column 11 of vehicle_type
 abbrev pub is_equip : Table → ℕ → Bool

@@ -7,7 +7,7 @@ use native.Mathlib.Omega.{arith}
 use lib.ListN.{length, get_or}
 use lib.Dec.{eqb, ltb}
 use borrow.Author.Tests.{eqb-true}
-use Rattle.words.specs.Words.{Bytes, if◌then◌else◌}
+use Rattle.words.specs.Words.{Bytes, whether◌then◌else◌}
 use Rattle.editions.specs.declared.Edition.{Edition}
 use Rattle.cells.specs.Cells.{Cut, faulty, cells, grown, after, parted, next, kind, kind_in, breakable, is_break, reached, cut_from, cut}
 use Rattle.cells.specs.declared.Kind.TheVariants.{Quote, Control, Other, Semicolon, End}
@@ -82,7 +82,7 @@ module _ (sep : ℕ) where
   whole_after (cells (c ∷ cs)) s w = (ap (λ (l : Bytes). sep ∷ l) w.0, omega arith)
 
 -- only a semicolon ends a cell before the line's end
-never_over : (s : State) (q c : Bool) (m n : ℕ) → next s (if q then Quote else if c then Control else Other) ≡ Over → m ≡ n
+never_over : (s : State) (q c : Bool) (m n : ℕ) → next s (whether q then Quote else whether c then Control else Other) ≡ Over → m ≡ n
 never_over Over q c m n e = cc
 never_over Fault q c m n e = cc
 never_over Fresh true c m n e = cc
@@ -101,14 +101,14 @@ never_over Closed false false m n e = cc
 over_by : (s : State) (b : ℕ) → next s (kind b) ≡ Over → b ≡ 59
 over_by s b e = go (eqb b 34) (eqb b 59) (ltb b 32 || eqb b 127) refl e
   where
-    go : (q m c : Bool) → eqb b 59 ≡ m → next s (if q then Quote else if m then Semicolon else if c then Control else Other) ≡ Over → b ≡ 59
+    go : (q m c : Bool) → eqb b 59 ≡ m → next s (whether q then Quote else whether m then Semicolon else whether c then Control else Other) ≡ Over → b ≡ 59
     go q true c h o = eqb-true b 59 h
     go q false c h o = never_over s q c b 59 o
 
 over_in : (e : Edition) (s : State) (b : ℕ) (bs : Bytes) → next s (kind_in e s b bs) ≡ Over → b ≡ 59
 over_in e s b bs o = go (breakable e s && is_break b bs) o
   where
-    go : (u : Bool) → next s (if u then Other else kind b) ≡ Over → b ≡ 59
+    go : (u : Bool) → next s (whether u then Other else kind b) ≡ Over → b ≡ 59
     go true q = never_over s false false b 59 q
     go false q = over_by s b q
 
@@ -139,4 +139,4 @@ faulty_from_one e line n q = rw q at (whole_from e Fresh line)
 
 -- whether a field ends at a place
 abbrev pub ends_at : Bytes → ℕ → Bool
-ends_at line i = if ltb i (length line) then eqb (get_or line i 0) 9 else true
+ends_at line i = whether ltb i (length line) then eqb (get_or line i 0) 9 else true

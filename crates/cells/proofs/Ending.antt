@@ -8,7 +8,7 @@ use lib.Dec.{eqb, ltb}
 use lib.ListN.{drop, length, get_or, drop_of_length-le, take, length-drop, set}
 use lib.Seq.{drop-drop, length-take-le}
 use borrow.Author.Tests.{eqb-true, eq-eqb, ne_eqb, lt-ltb, le-ltb}
-use Rattle.words.specs.Words.{if◌then◌else◌, Bytes}
+use Rattle.words.specs.Words.{whether◌then◌else◌, Bytes}
 use Rattle.words.proofs.Lists.{drop_step}
 use Rattle.cells.specs.declared.Kind.{Kind}
 use Rattle.cells.specs.declared.Kind.TheVariants.{Semicolon, Control, Other, Quote, End}
@@ -27,7 +27,7 @@ use Rattle.cells.proofs.Marking.{Sofar, bytes_more, cell_more}
 
 -- the kind of a byte that is no quote: by whether it is a semicolon, and a control byte
 abbrev bare : Bool → Bool → Kind
-bare m c = if m then Semicolon else if c then Control else Other
+bare m c = whether m then Semicolon else whether c then Control else Other
 
 module _ (b : ℕ) where
   kind_bare : (b ≡ 34 → ⊥) → kind b ≡ bare (eqb b 59) (ltb b 32 || eqb b 127)
@@ -51,7 +51,7 @@ module _ (b : ℕ) where
   pub inside_between : 32 ≤ b → b ≤ 34 → not (eqb b 34) ≡ stays Inside (kind b)
   inside_between l h = go (eqb b 34)
     where
-      go : (q : Bool) → not q ≡ stays Inside (if q then Quote else bare (eqb b 59) (ltb b 32 || eqb b 127))
+      go : (q : Bool) → not q ≡ stays Inside (whether q then Quote else bare (eqb b 59) (ltb b 32 || eqb b 127))
       go true = refl
       go false = rw (ne_eqb b 59 (λ e. omega arith), le-ltb b 32 l, ne_eqb b 127 (λ e. omega arith))
 
@@ -61,7 +61,7 @@ module _ (b : ℕ) where
   pub plain_as_inside : (b ≡ 59 → ⊥) → stays Inside (kind b) ≡ stays Plain (kind b)
   plain_as_inside n = rw (ne_eqb b 59 n) (go (eqb b 34) (ltb b 32 || eqb b 127))
     where
-      go : (q c : Bool) → stays Inside (if q then Quote else bare false c) ≡ stays Plain (if q then Quote else bare false c)
+      go : (q c : Bool) → stays Inside (whether q then Quote else bare false c) ≡ stays Plain (whether q then Quote else bare false c)
       go true c = refl
       go false true = refl
       go false false = refl
@@ -119,7 +119,7 @@ module _ (line : Bytes) (i : ℕ) where
   pub stop_other : i < length line → (get_or line i 0 ≡ 59 → ⊥) → stop_at i (drop i line) ≡ Nowhere
   stop_other h n = stop_byte h ∙ rw (ne_eqb (get_or line i 0) 59 n) (go (eqb (get_or line i 0) 34) (ltb (get_or line i 0) 32 || eqb (get_or line i 0) 127))
     where
-      go : (q c : Bool) → ended (next Closed (if q then Quote else bare false c)) i (λ t. Nowhere) ≡ Nowhere
+      go : (q c : Bool) → ended (next Closed (whether q then Quote else bare false c)) i (λ t. Nowhere) ≡ Nowhere
       go true c = refl
       go false true = refl
       go false false = refl
@@ -190,7 +190,7 @@ module _ (ed : Edition) where
     pub inside_on : i < length line → stays Inside (kind (get_or line i 0)) ≡ true → end_from ed Inside i (drop i line) ≡ end_from ed Inside (i + 1) (drop (i + 1) line)
     inside_on h q = end_byte Inside h ∙ go (breaks_stand ed && is_break (get_or line i 0) (drop (i + 1) line))
       where
-        go : (u : Bool) → ended (next Inside (if u then Other else kind (get_or line i 0))) i (λ t. end_from ed t (i + 1) (drop (i + 1) line)) ≡ end_from ed Inside (i + 1) (drop (i + 1) line)
+        go : (u : Bool) → ended (next Inside (whether u then Other else kind (get_or line i 0))) i (λ t. end_from ed t (i + 1) (drop (i + 1) line)) ≡ end_from ed Inside (i + 1) (drop (i + 1) line)
         go true = refl
         go false = inside_kind (kind (get_or line i 0)) i (λ t. end_from ed t (i + 1) (drop (i + 1) line)) q
 
@@ -206,7 +206,7 @@ module _ (ed : Edition) where
     inside_quote : i < length line → get_or line i 0 ≡ 34 → end_from ed Inside i (drop i line) ≡ end_from ed Closed (i + 1) (drop (i + 1) line)
     inside_quote h e = end_byte Inside h ∙ rw e (go ed)
       where
-        go : (d : Edition) → ended (next Inside (if breaks_stand d && false then Other else Quote)) i (λ t. end_from ed t (i + 1) (drop (i + 1) line)) ≡ end_from ed Closed (i + 1) (drop (i + 1) line)
+        go : (d : Edition) → ended (next Inside (whether breaks_stand d && false then Other else Quote)) i (λ t. end_from ed t (i + 1) (drop (i + 1) line)) ≡ end_from ed Closed (i + 1) (drop (i + 1) line)
         go Dino21 = refl
         go Dino23 = refl
 

@@ -1,6 +1,6 @@
 -- The cells of a line.
 use Rattle.std.specs.Prelude.{◌||◌, ◌&&◌, Bool, false, true, List, [], ◌∷◌, ◌++◌, ℕ, suc, ◌-◌, eqb, ltb, length, take, drop}
-use Rattle.words.specs.Words.{if◌then◌else◌, Bytes}
+use Rattle.words.specs.Words.{whether◌then◌else◌, Bytes}
 use Rattle.editions.specs.declared.Edition.{Edition}
 use Rattle.editions.specs.declared.Edition.TheVariants.{Dino21, Dino23}
 use Rattle.cells.specs.declared.Kind.{Kind}
@@ -11,9 +11,9 @@ use Rattle.cells.specs.declared.State.TheVariants.{Fresh, Plain, Inside, Closed,
 -- 34 is the double quote, 59 the semicolon. "So are bytes 0 to 31 and 127 in any cell" (a fault)
 abbrev pub kind : ℕ → Kind
 kind b =
-    if eqb b 34 then Quote
-    else if eqb b 59 then Semicolon
-    else if ltb b 32 || eqb b 127 then Control
+    whether eqb b 34 then Quote
+    else whether eqb b 59 then Semicolon
+    else whether ltb b 32 || eqb b 127 then Control
     else Other
 
 -- "Cells are parted by semicolons outside quotes. A cell that begins with a double quote runs to the next one that is not doubled, and
@@ -72,7 +72,7 @@ is_break b bs = eqb b 10 || eqb b 13 && feed_next bs
 
 -- "and counts as content": where it may stand, its bytes are as any other
 abbrev pub kind_in : Edition → State → ℕ → Bytes → Kind
-kind_in e s b bs = if breakable e s && is_break b bs then Other else kind b
+kind_in e s b bs = whether breakable e s && is_break b bs then Other else kind b
 
 -- the cells ---------------------------------------------------------------------------------------------------------------------
 
@@ -124,7 +124,7 @@ quoted (b ∷ bs) = eqb b 34
 
 -- "The stretch is the caller's own bytes between the quotes, or the whole cell where unquoted, doubled quotes still doubled."
 abbrev pub stretch : Bytes → Bytes
-stretch cell = if quoted cell then take (length cell - 2) (drop 1 cell) else cell
+stretch cell = whether quoted cell then take (length cell - 2) (drop 1 cell) else cell
 
 -- "doubled ones counted once"; the flag says that a quote came just before, whose double is left out
 unfoldable pub once : Bool → Bytes → Bytes
@@ -134,7 +134,7 @@ once false (b ∷ bs) = b ∷ once (eqb b 34) bs
 
 -- "Content is what stands between the quotes, doubled ones counted once."
 abbrev pub content : Bytes → Bytes
-content cell = if quoted cell then once false (stretch cell) else cell
+content cell = whether quoted cell then once false (stretch cell) else cell
 
 -- cells, or fields, parted by a byte
 unfoldable pub parted : ℕ → List Bytes → Bytes

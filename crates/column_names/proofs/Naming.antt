@@ -9,7 +9,7 @@ use lib.ListN.{length, drop, get_or, drop_of_length-le, length-drop, take}
 use lib.Dec.{eqb}
 use lib.Seq.{drop-drop}
 use borrow.Author.Tests.{eq-eqb, ne_eqb}
-use Rattle.words.specs.Words.{Bytes, if◌then◌else◌, same, bytes}
+use Rattle.words.specs.Words.{Bytes, whether◌then◌else◌, same, bytes}
 use Rattle.words.proofs.Lists.{drop_step, every, same_true, and_left, and_right}
 use Rattle.lines.specs.Lines.{onto}
 use Rattle.cells.specs.Cells.{parted}
@@ -38,7 +38,7 @@ unfolding name_length
 name_within [] = omega arith
 name_within (b ∷ bs) = go (eqb b 59) (name_within bs)
   where
-    go : (t : Bool) → name_length bs ≤ length bs → (if t then 0 else suc (name_length bs)) ≤ suc (length bs)
+    go : (t : Bool) → name_length bs ≤ length bs → (whether t then 0 else suc (name_length bs)) ≤ suc (length bs)
     go true h = omega arith
     go false h = omega arith
 
@@ -48,7 +48,7 @@ ends_within s at e h ee = omega (arith, name_within (drop at s), length-drop at 
 -- the first name, and those behind it: further ones where a semicolon ends it, none where the names end
 abbrev behind : Bytes → List Bytes
 behind [] = []
-behind (b ∷ bs) = if eqb b 59 then names_in bs else behind bs
+behind (b ∷ bs) = whether eqb b 59 then names_in bs else behind bs
 
 names_first : (s : Bytes) → names_in s ≡ take (name_length s) s ∷ behind s
 unfolding names_in name_length
@@ -56,7 +56,7 @@ names_first [] = refl
 names_first (b ∷ bs) = go (eqb b 59) (names_first bs)
   where
     go : (t : Bool) → names_in bs ≡ take (name_length bs) bs ∷ behind bs
-        → (if t then [] ∷ names_in bs else onto b (names_in bs)) ≡ take (if t then 0 else suc (name_length bs)) (b ∷ bs) ∷ (if t then names_in bs else behind bs)
+        → (whether t then [] ∷ names_in bs else onto b (names_in bs)) ≡ take (whether t then 0 else suc (name_length bs)) (b ∷ bs) ∷ (whether t then names_in bs else behind bs)
     go true ih = refl
     go false ih = rw ih
 
@@ -65,8 +65,8 @@ unfolding name_length
 behind_more [] h = absurd (omega arith)
 behind_more (b ∷ bs) h = go (eqb b 59) h (behind_more bs)
   where
-    go : (t : Bool) → (if t then 0 else suc (name_length bs)) < suc (length bs) → (name_length bs < length bs → behind bs ≡ names_in (drop (suc (name_length bs)) bs))
-        → (if t then names_in bs else behind bs) ≡ names_in (drop (if t then 0 else suc (name_length bs)) bs)
+    go : (t : Bool) → (whether t then 0 else suc (name_length bs)) < suc (length bs) → (name_length bs < length bs → behind bs ≡ names_in (drop (suc (name_length bs)) bs))
+        → (whether t then names_in bs else behind bs) ≡ names_in (drop (whether t then 0 else suc (name_length bs)) bs)
     go true l ih = refl
     go false l ih = ih (omega arith)
 
@@ -75,13 +75,13 @@ unfolding name_length
 behind_last [] h = refl
 behind_last (b ∷ bs) h = go (eqb b 59) h (behind_last bs)
   where
-    go : (t : Bool) → (if t then 0 else suc (name_length bs)) ≡ suc (length bs) → (name_length bs ≡ length bs → behind bs ≡ []) → (if t then names_in bs else behind bs) ≡ []
+    go : (t : Bool) → (whether t then 0 else suc (name_length bs)) ≡ suc (length bs) → (name_length bs ≡ length bs → behind bs ≡ []) → (whether t then names_in bs else behind bs) ≡ []
     go true l ih = absurd (omega arith)
     go false l ih = ih (omega arith)
 
 -- one name asked, from a place to its end e, as number n: it is that one, or none is left, or the search goes on behind its semicolon
 asked : (s name : Bytes) (at e n : ℕ) (b : Bool) → e ≡ at + name_length (drop at s) → b ≡ same name (take (e - at) (drop at s))
-    → number_in n (names_in (drop at s)) name ≡ (if b then n else number_in (suc n) (behind (drop at s)) name)
+    → number_in n (names_in (drop at s)) name ≡ (whether b then n else number_in (suc n) (behind (drop at s)) name)
 unfolding number_in
 asked s name at e n b ee eb =
     let w : e - at ≡ name_length (drop at s) = omega arith in
@@ -200,16 +200,16 @@ by_names o name k (x ∷ xs) h e =
     rw (by_name o name x h (and_left (spelled o x) (every (spelled o) xs) e), by_names o name (suc k) xs h (and_right (spelled o x) (every (spelled o) xs) e))
 
 -- what the code asks of a table's two texts is the column's number
-pub named : (e : Edition) (t : Table) (name : Bytes) → (if same name (other_name t) then other_column t else number_in 1 (names_in (header_of e t)) name) ≡ column_number e t name
+pub named : (e : Edition) (t : Table) (name : Bytes) → (whether same name (other_name t) then other_column t else number_in 1 (names_in (header_of e t)) name) ≡ column_number e t name
 unfolding column_number
 named e t name = go (same name (other_name t)) refl
   where
-    go : (b : Bool) → same name (other_name t) ≡ b → (if b then other_column t else number_in 1 (names_in (header_of e t)) name) ≡ column_from 1 (columns_of e t) name
+    go : (b : Bool) → same name (other_name t) ≡ b → (whether b then other_column t else number_in 1 (names_in (header_of e t)) name) ≡ column_from 1 (columns_of e t) name
     go true q = rw (same_true name (other_name t) q) (sym (other_number e t))
     go false q = rw (header_names e t) (sym (by_names (other_name t) name 1 (columns_of e t) q (all_spelled e t)))
 
 -- of a block by either edition
-pub named_block : (e : Edition) (name : Bytes) → (if same name (other_name Block) then other_column Block else number_in 1 (names_in (header_of Dino21 Block)) name) ≡ column_number e Block name
+pub named_block : (e : Edition) (name : Bytes) → (whether same name (other_name Block) then other_column Block else number_in 1 (names_in (header_of Dino21 Block)) name) ≡ column_number e Block name
 unfolding columns_of
 named_block Dino21 name = named Dino21 Block name
 named_block Dino23 name = named Dino23 Block name

@@ -2,7 +2,7 @@
 #![tactic(auto)]
 
 ghost use Rattle.std.specs.Prelude.{◌≡◌, ◌+◌, drop};
-ghost use Rattle.words.specs.Words.{same, if◌then◌else◌};
+ghost use Rattle.words.specs.Words.{same, whether◌then◌else◌};
 ghost use Rattle.tables.specs.Columns.{column_number};
 ghost use Rattle.column_names.specs.Naming.{name_length, names_in, number_in};
 
@@ -99,7 +99,7 @@ fn place_in(names: &[u8], name: &[u8]) -> usize
 
 // The same, where another name stands for a column.
 fn column_in(names: &[u8], other: &[u8], column: usize, name: &[u8]) -> usize
-    ensures { result ≡ (if same name.now other.now then column else number_in 1 (names_in names.now) name.now) }
+    ensures { result ≡ (whether same name.now other.now then column else number_in 1 (names_in names.now) name.now) }
 {
     if same_bytes(name, other) {
         return column;

@@ -2,7 +2,7 @@
 #![tactic(auto)]
 
 ghost use Rattle.std.specs.Prelude.{◌≡◌, false, ◌+◌, ◌<◌, eqb, length};
-ghost use Rattle.words.specs.Words.{if◌then◌else◌};
+ghost use Rattle.words.specs.Words.{whether◌then◌else◌};
 ghost use Rattle.cells.specs.Cells.{quoted, stretch, once, content};
 
 pub fn is_quoted(cell: &[u8]) -> bool
@@ -28,14 +28,14 @@ pub fn stretch_of(cell: &[u8]) -> &[u8]
 // What a byte adds to the content's length: nothing where it is the double of the quote before it.
 fn counted(n: usize, doubled: bool) -> usize
     requires { n < 18446744073709551615 }
-    ensures { result ≡ n + (if doubled then 0 else 1) }
+    ensures { result ≡ n + (whether doubled then 0 else 1) }
 {
     if doubled { n } else { n + 1 }
 }
 
 // Whether the byte behind this one is left out: behind a quote that is itself no double.
 fn doubles(doubled: bool, byte: u8) -> bool
-    ensures { result ≡ (if doubled then false else eqb byte 34) }
+    ensures { result ≡ (whether doubled then false else eqb byte 34) }
 {
     if doubled { false } else { byte == 34 }
 }

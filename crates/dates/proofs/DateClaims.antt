@@ -5,7 +5,7 @@ use mathlib.Core.Path.{◌≡◌, refl, ap, sym, ◌∙◌}
 use mathlib.Core.Bool.{Bool, true, false, ◌&&◌, ◌||◌}
 use lib.Dec.{ltb, eqb}
 use borrow.Author.Tests.{eqb-true, eqb-false, ltb-true, ltb-false, lt-ltb, le-ltb}
-use Rattle.words.specs.Words.{if◌then◌else◌, all}
+use Rattle.words.specs.Words.{whether◌then◌else◌, all}
 use Rattle.dates.specs.Calendar.{leap, days_in, is_date}
 use Rattle.dates.specs.Claims.{Edges, written, AllWritten, DatesExactly, DaysInOrder, months_long, YearsLong, years_long, CyclesLong}
 use Rattle.dates.proofs.Dates.{no_month, not_february}
@@ -57,7 +57,7 @@ pub years_long_lem : YearsLong
 unfolding months_long days_in
 years_long_lem year = (go (leap year), refl, λ month h. not_february year month (omega arith) ∙ no_month month (λ k. h))
   where
-    go : (l : Bool) → 31 + ((if l then 29 else 28) + (31 + (30 + (31 + (30 + (31 + (31 + (30 + (31 + (30 + (31 + 0))))))))))) ≡ (if l then 366 else 365)
+    go : (l : Bool) → 31 + ((whether l then 29 else 28) + (31 + (30 + (31 + (30 + (31 + (31 + (30 + (31 + (30 + (31 + 0))))))))))) ≡ (whether l then 366 else 365)
     go true = refl
     go false = refl
 
@@ -72,7 +72,7 @@ leap_again year =
 
 long_again : (year : ℕ) → months_long (year + 400) 1 12 ≡ months_long year 1 12
 long_again year =
-    (years_long_lem (year + 400)).0 ∙ ap (λ (l : Bool). if l then 366 else 365) (leap_again year) ∙ sym (years_long_lem year).0
+    (years_long_lem (year + 400)).0 ∙ ap (λ (l : Bool). whether l then 366 else 365) (leap_again year) ∙ sym (years_long_lem year).0
 
 -- one year more is the last one
 one_more : (n year : ℕ) → years_long year (suc n) ≡ years_long year n + months_long (year + n) 1 12

@@ -1,6 +1,6 @@
 -- What is claimed of the calendar. Each is a type; whoever has an element of it has a proof.
 use Rattle.std.specs.Prelude.{◌≡◌, List, [], ◌∷◌, true, ◌&&◌, ◌||◌, not, ℕ, zero, suc, ◌+◌, ◌*◌, ◌/◌, ◌%◌, ◌<◌, leb, ltb, eqb}
-use Rattle.words.specs.Words.{if◌then◌else◌, all}
+use Rattle.words.specs.Words.{whether◌then◌else◌, all}
 use Rattle.dates.specs.Calendar.{leap, days_in, is_date}
 
 -- the edges of the calendar: these are dates, and those are none
@@ -44,7 +44,7 @@ months_long year month (suc n) = days_in year month + months_long year (suc mont
 -- a year has 365 days or 366, and only its twelve months have days
 abbrev pub YearsLong : Type 0
 YearsLong = (year : ℕ) →
-    (months_long year 1 12 ≡ (if leap year then 366 else 365))
+    (months_long year 1 12 ≡ (whether leap year then 366 else 365))
     × (days_in year 0 ≡ 0)
     × ((month : ℕ) → 12 < month → days_in year month ≡ 0)
 

@@ -1,6 +1,6 @@
 -- What the call for a day answers, and what everything lent to it holds behind the call.
 use Rattle.std.specs.Prelude.{◌≡◌, List, ℕ, eqb, length}
-use Rattle.words.specs.Words.{Row, if◌then◌else◌, Bytes}
+use Rattle.words.specs.Words.{Row, whether◌then◌else◌, Bytes}
 use Rattle.refusals.specs.declared.Verdict.{Verdict}
 use Rattle.refusals.specs.declared.Verdict.TheVariants.{Accepted, Refused}
 use Rattle.refusals.specs.Verdicts.{nowhere, bad_loan}
@@ -15,7 +15,7 @@ use Rattle.slips.specs.Calls.{Outcome, outcome, cleared, slip_call, work_sized}
 
 -- "A refused reading leaves an empty book"; a book of another length "stays as it came"
 abbrev pub emptied : List Row → List Row
-emptied book = if eqb (length book) book_rows then laid empty else book
+emptied book = whether eqb (length book) book_rows then laid empty else book
 
 -- the slip is judged only on the book that an accepted delivery leaves
 abbrev pub then_slip : Verdict → Bytes → List Row → List Row → Outcome
@@ -25,7 +25,7 @@ then_slip (Refused p) s book work = outcome (Refused p) book (cleared work)
 -- 16 for a book or a working area of another length, "before all else"; `n` is the edition's number
 abbrev pub day_call : ℕ → Delivery → Bytes → List Row → List Row → Outcome
 day_call n d s book work =
-    if work_sized work then then_slip (read_call n d book).verdict s (read_call n d book).book work
+    whether work_sized work then then_slip (read_call n d book).verdict s (read_call n d book).book work
     else outcome (nowhere bad_loan) (emptied book) work
 
 -- what the contract of `day` permits: one verdict, one book and one working area behind it

@@ -10,7 +10,7 @@ use lib.Dec.{eqb, ltb}
 use lib.ListN.{length, get_or, take, set}
 use lib.Seq.{length-take-le, take-suc, take-suc-set, get_or-take, get_or-set_same, get_or-set_other}
 use borrow.Author.Tests.{eqb-true, eqb-false, eq-eqb, ne_eqb, ltb-true, ltb-false}
-use Rattle.words.specs.Words.{Row, if◌then◌else◌}
+use Rattle.words.specs.Words.{Row, whether◌then◌else◌}
 use Rattle.rows.specs.Rows.{column}
 use Rattle.day_tally.specs.Tally.{kind_at, seconds_at, held, shares, Rises}
 
@@ -18,7 +18,7 @@ use Rattle.day_tally.specs.Tally.{kind_at, seconds_at, held, shares, Rises}
 
 module _ (kind : ℕ) where
   abbrev share : Row → ℕ
-  share x = if eqb kind (column 1 x) then column 2 x else 0
+  share x = whether eqb kind (column 1 x) then column 2 x else 0
 
   held_behind : (xs : List Row) (x : Row) → held kind (xs ++ (x ∷ [])) ≡ held kind xs + share x
   unfolding held
@@ -58,14 +58,14 @@ module _ (tally : List Row) (at kind more : ℕ) where
   new = set tally (at + 1) (kind ∷ more ∷ [])
 
   module _ (h : at < length tally) (e : kind_at tally at ≡ kind) where
-    pub same_held : (k : ℕ) → held k (shares same at) ≡ held k (shares tally at) + (if eqb k kind then more else 0)
+    pub same_held : (k : ℕ) → held k (shares same at) ≡ held k (shares tally at) + (whether eqb k kind then more else 0)
     same_held k =
         ap (held k) (take-suc-set tally at (kind ∷ (seconds_at tally at + more) ∷ []) h)
         ∙ held_behind k (take at tally) (kind ∷ (seconds_at tally at + more) ∷ [])
-        ∙ go (eqb k kind) (held_last k tally at h ∙ ap (λ (z : ℕ). held k (take at tally) + (if eqb k z then seconds_at tally at else 0)) e)
+        ∙ go (eqb k kind) (held_last k tally at h ∙ ap (λ (z : ℕ). held k (take at tally) + (whether eqb k z then seconds_at tally at else 0)) e)
       where
-        go : (t : Bool) → held k (shares tally at) ≡ held k (take at tally) + (if t then seconds_at tally at else 0)
-            → held k (take at tally) + (if t then seconds_at tally at + more else 0) ≡ held k (shares tally at) + (if t then more else 0)
+        go : (t : Bool) → held k (shares tally at) ≡ held k (take at tally) + (whether t then seconds_at tally at else 0)
+            → held k (take at tally) + (whether t then seconds_at tally at + more else 0) ≡ held k (shares tally at) + (whether t then more else 0)
         go true q = omega arith
         go false q = omega arith
 
@@ -80,11 +80,11 @@ module _ (tally : List Row) (at kind more : ℕ) where
     same_rises r p q l m = rw (same_kind p, same_kind q) (r p q l m)
 
   module _ (h : at + 1 < length tally) where
-    pub new_held : (k : ℕ) → held k (shares new (at + 1)) ≡ held k (shares tally at) + (if eqb k kind then more else 0)
+    pub new_held : (k : ℕ) → held k (shares new (at + 1)) ≡ held k (shares tally at) + (whether eqb k kind then more else 0)
     new_held k =
         ap (held k) (take-suc-set tally (at + 1) (kind ∷ more ∷ []) h)
         ∙ held_behind k (take (at + 1) tally) (kind ∷ more ∷ [])
-        ∙ ap (λ (n : ℕ). held k (take n tally) + (if eqb k kind then more else 0)) (add-one at)
+        ∙ ap (λ (n : ℕ). held k (take n tally) + (whether eqb k kind then more else 0)) (add-one at)
 
     pub new_kind : kind_at new (at + 1) ≡ kind
     new_kind = ap (λ (r : Row). get_or r 0 0) (get_or-set_same tally (at + 1) (kind ∷ more ∷ []) [] h)

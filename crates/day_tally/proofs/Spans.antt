@@ -7,7 +7,7 @@ use native.Mathlib.Omega.{arith}
 use lib.Dec.{leb}
 use lib.ListN.{length, get_or}
 use borrow.Author.Tests.{eq-eqb, ne_eqb, le-leb, lt-leb}
-use Rattle.words.specs.Words.{Row, if◌then◌else◌}
+use Rattle.words.specs.Words.{Row, whether◌then◌else◌}
 use Rattle.day_tally.specs.Days.{in_span, falls, days_of}
 
 module _ (first last version : ℕ) (row : Row) where
@@ -21,7 +21,7 @@ module _ (first last version : ℕ) (row : Row) where
     pub from_first : first ≤ get_or row 1 0 → in_span first last version row ≡ leb (get_or row 1 0) last
     from_first h = rw (eq-eqb (get_or row 0 0) version v, le-leb first (get_or row 1 0) h)
 
-one_most : (here : Bool) → (if here then 1 else 0) ≤ 1
+one_most : (here : Bool) → (whether here then 1 else 0) ≤ 1
 one_most true = omega arith
 one_most false = omega arith
 

@@ -8,7 +8,7 @@ use native.Mathlib.Nat.{mul-suc}
 use lib.Dec.{eqb, ltb}
 use lib.ListN.{length, get_or, take, drop, set, length-set, drop_of_length-le}
 use borrow.Author.Tests.{eqb-true, eqb-false, eq-eqb, ltb-true, ltb-false}
-use Rattle.words.specs.Words.{Row, if◌then◌else◌}
+use Rattle.words.specs.Words.{Row, whether◌then◌else◌}
 use Rattle.words.proofs.Lists.{drop_step, and_left}
 use Rattle.rows.specs.Rows.{column, key_order, rising}
 use Rattle.rows.specs.declared.Order.TheVariants.{Less, More}
@@ -29,7 +29,7 @@ Short blocks = (i : ℕ) → i < length blocks → seconds (get_or blocks i []) 
 pub book_short : (xs : List Row) → keeps_rule xs ≡ true → Short (book_of xs).blocks
 book_short xs k i h = block_seconds xs k i (get_or (book_of xs).blocks i []) h refl
 
-share_most : (here : Bool) (w most : ℕ) → w ≤ most → (if here then w else 0) ≤ most
+share_most : (here : Bool) (w most : ℕ) → w ≤ most → (whether here then w else 0) ≤ most
 share_most true w most h = h
 share_most false w most h = omega arith
 
@@ -71,14 +71,14 @@ pub record Sofar (version type : ℕ) (blocks tally : List Row) (at i : ℕ) : T
 
 -- the tally and its last place behind a block, by whether it is of the type
 abbrev pub tally_with : Bool → Row → ℕ → List Row → List Row
-tally_with here row at tally = if here then added at (column 2 row) (seconds row) tally else tally
+tally_with here row at tally = whether here then added at (column 2 row) (seconds row) tally else tally
 
 abbrev pub place_with : Bool → Row → ℕ → List Row → ℕ
-place_with here row at tally = if here then last_of at (column 2 row) tally else at
+place_with here row at tally = whether here then last_of at (column 2 row) tally else at
 
 module _ (version type : ℕ) (blocks : List Row) where
   -- day type 0 without seconds holds none
-  no_seconds : (k : ℕ) (t : Bool) → held k [] + (if t then 0 else 0) ≡ 0
+  no_seconds : (k : ℕ) (t : Bool) → held k [] + (whether t then 0 else 0) ≡ 0
   unfolding held
   no_seconds k true = refl
   no_seconds k false = refl
@@ -107,14 +107,14 @@ module _ (version type : ℕ) (blocks : List Row) where
       row = get_or blocks i []
 
       step : (k : ℕ) (here : Bool) → of_type version type row ≡ here
-          → seconds_on version type k (drop i blocks) ≡ (if here then runs_on k row else 0) + seconds_on version type k (drop (i + 1) blocks)
+          → seconds_on version type k (drop i blocks) ≡ (whether here then runs_on k row else 0) + seconds_on version type k (drop (i + 1) blocks)
       unfolding total
       step k here e = rw (drop_step [] blocks i h, e)
 
       next : (here same : Bool) → of_type version type row ≡ here → eqb (kind_at tally at) (column 2 row) ≡ same
           → Sofar version type blocks
-          (if here then (if same then set tally at (column 2 row ∷ (seconds_at tally at + seconds row) ∷ []) else set tally (at + 1) (column 2 row ∷ seconds row ∷ [])) else tally)
-          (if here then (if same then at else at + 1) else at)
+          (whether here then (whether same then set tally at (column 2 row ∷ (seconds_at tally at + seconds row) ∷ []) else set tally (at + 1) (column 2 row ∷ seconds row ∷ [])) else tally)
+          (whether here then (whether same then at else at + 1) else at)
           (i + 1)
       next false same e f = record {
         few = omega (arith, sofar.few);

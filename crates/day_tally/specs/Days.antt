@@ -1,6 +1,6 @@
 -- The days of a span.
 use Rattle.std.specs.Prelude.{List, [], ◌∷◌, Bool, ◌&&◌, ℕ, ◌+◌, leb, eqb}
-use Rattle.words.specs.Words.{Row, if◌then◌else◌}
+use Rattle.words.specs.Words.{Row, whether◌then◌else◌}
 use Rattle.rows.specs.Rows.{column}
 
 -- a row of the calendar, which is a version, a day and a day type: of this version, on a day from the first to the last, "both included"
@@ -14,4 +14,4 @@ falls first last version kind row = in_span first last version row && eqb (colum
 -- "the number of days in that span" with this version and day type
 unfoldable pub days_of : ℕ → ℕ → ℕ → ℕ → List Row → ℕ
 days_of first last version kind [] = 0
-days_of first last version kind (x ∷ xs) = (if falls first last version kind x then 1 else 0) + days_of first last version kind xs
+days_of first last version kind (x ∷ xs) = (whether falls first last version kind x then 1 else 0) + days_of first last version kind xs

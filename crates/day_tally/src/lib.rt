@@ -2,7 +2,7 @@
 #![tactic(auto)]
 
 ghost use Rattle.std.specs.Prelude.{◌≡◌, true, ◌+◌, ◌*◌, ◌≤◌, ◌<◌, length};
-ghost use Rattle.words.specs.Words.{if◌then◌else◌};
+ghost use Rattle.words.specs.Words.{whether◌then◌else◌};
 ghost use Rattle.rows.specs.Rows.{column};
 ghost use Rattle.book.specs.Room.{book_of};
 ghost use Rattle.rules.specs.Rules.{seconds};
@@ -50,7 +50,7 @@ fn add(tally: &mut [Share], at: usize, kind: u64, more: u64) -> usize
 // A block more, where it is of the type.
 fn add_block(tally: &mut [Share], at: usize, row: Row, version: u64, number: u64) -> usize
     requires { (at + 1 < length tally.old) × (seconds_at tally.old at ≤ 512 * 999999) × (seconds row ≤ 999999) }
-    ensures { (tally.new ≡ (if of_type version number row then added at (column 2 row) (seconds row) tally.old else tally.old)) × (result ≡ (if of_type version number row then last_of at (column 2 row) tally.old else at)) }
+    ensures { (tally.new ≡ (whether of_type version number row then added at (column 2 row) (seconds row) tally.old else tally.old)) × (result ≡ (whether of_type version number row then last_of at (column 2 row) tally.old else at)) }
 {
     if !questions::of_type(row, version, number) {
         return at;

@@ -1,6 +1,6 @@
 -- What the read call answers, and what the lent book holds behind it.
 use Rattle.std.specs.Prelude.{◌≡◌, List, ℕ, eqb, length}
-use Rattle.words.specs.Words.{Row, if◌then◌else◌, Bytes}
+use Rattle.words.specs.Words.{Row, whether◌then◌else◌, Bytes}
 use Rattle.refusals.specs.declared.Verdict.{Verdict}
 use Rattle.refusals.specs.declared.Verdict.TheVariants.{Accepted, Refused}
 use Rattle.refusals.specs.Verdicts.{nowhere, bad_loan, unknown_edition}
@@ -35,7 +35,7 @@ read_by Unknown d = outcome (nowhere unknown_edition) (laid empty)
 -- after 16". The caller says the edition's number
 abbrev pub read_call : ℕ → Delivery → List Row → Outcome
 read_call n d slice =
-    if eqb (length slice) book_rows then read_by (choice n) d else outcome (nowhere bad_loan) slice
+    whether eqb (length slice) book_rows then read_by (choice n) d else outcome (nowhere bad_loan) slice
 
 abbrev pub delivery : Bytes → Bytes → Bytes → Bytes → Bytes → Bytes → Delivery
 delivery a b c d e f = record { types = a; depots = b; stops = c; points = d; blocks = e; days = f }

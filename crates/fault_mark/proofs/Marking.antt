@@ -6,7 +6,7 @@ use Prim.Native.Nat.{ℕ, zero, suc, ◌+◌, ◌-◌, ◌≤◌, ◌<◌}
 use native.Mathlib.Omega.{arith}
 use lib.ListN.{length, drop, get_or, drop_of_length-le, length-drop, take}
 use borrow.Author.Tests.{eq-eqb, ne_eqb, lt-ltb, le-ltb}
-use Rattle.words.specs.Words.{Bytes, if◌then◌else◌}
+use Rattle.words.specs.Words.{Bytes, whether◌then◌else◌}
 use Rattle.words.proofs.Lists.{drop_step, part_length}
 use Rattle.refusals.specs.declared.Place.{Place}
 use Rattle.lines.specs.Lines.{lines, head_line, starts_on, row_on, line_start}
@@ -39,15 +39,15 @@ module _ (line : Bytes) (i : ℕ) (s : State) (h : i < length line) where
     over_came : over (past s (kind (get_or line i 0))) ≡ o
     over_came = sym (f ∙ ap (λ (x : State). over x) came)
 
-    size_byte : size_from s (drop i line) ≡ (if over (past s (kind (get_or line i 0))) then 0 else suc (size_from (past s (kind (get_or line i 0))) (drop (i + 1) line)))
+    size_byte : size_from s (drop i line) ≡ (whether over (past s (kind (get_or line i 0))) then 0 else suc (size_from (past s (kind (get_or line i 0))) (drop (i + 1) line)))
     unfolding size_from
     size_byte = rw (drop_step 0 line i h)
 
-    size_by : size_from s (drop i line) ≡ (if o then 0 else suc (size_from t (drop (i + 1) line)))
+    size_by : size_from s (drop i line) ≡ (whether o then 0 else suc (size_from t (drop (i + 1) line)))
     size_by =
         size_byte
-        ∙ ap (λ (x : Bool). if x then 0 else suc (size_from (past s (kind (get_or line i 0))) (drop (i + 1) line))) over_came
-        ∙ ap (λ (x : State). if o then 0 else suc (size_from x (drop (i + 1) line))) (sym came)
+        ∙ ap (λ (x : Bool). whether x then 0 else suc (size_from (past s (kind (get_or line i 0))) (drop (i + 1) line))) over_came
+        ∙ ap (λ (x : State). whether o then 0 else suc (size_from x (drop (i + 1) line))) (sym came)
 
     pub size_over : o ≡ true → size_from s (drop i line) ≡ 0
     size_over g = size_by ∙ rw g
@@ -56,18 +56,18 @@ module _ (line : Bytes) (i : ℕ) (s : State) (h : i < length line) where
     size_on g = size_by ∙ rw g
 
     module _ (n : ℕ) (l : 1 ≤ n) where
-      begin_some : (m b : ℕ) (bs : Bytes) → 1 ≤ m → begin_from m s (b ∷ bs) ≡ suc (begin_from (if over (past s (kind b)) then m - 1 else m) (resumed (past s (kind b))) bs)
+      begin_some : (m b : ℕ) (bs : Bytes) → 1 ≤ m → begin_from m s (b ∷ bs) ≡ suc (begin_from (whether over (past s (kind b)) then m - 1 else m) (resumed (past s (kind b))) bs)
       unfolding begin_from
       begin_some zero b bs g = absurd (omega arith)
       begin_some (suc m) b bs g = let z : suc m - 1 ≡ m = omega arith in rw z
 
-      begin_byte : begin_from n s (drop i line) ≡ suc (begin_from (if over (past s (kind (get_or line i 0))) then n - 1 else n) (resumed (past s (kind (get_or line i 0)))) (drop (i + 1) line))
+      begin_byte : begin_from n s (drop i line) ≡ suc (begin_from (whether over (past s (kind (get_or line i 0))) then n - 1 else n) (resumed (past s (kind (get_or line i 0)))) (drop (i + 1) line))
       begin_byte = ap (λ (x : Bytes). begin_from n s x) (drop_step 0 line i h) ∙ begin_some n (get_or line i 0) (drop (i + 1) line) l
 
-      pub begin_on : (m : ℕ) (u : State) → m ≡ (if o then n - 1 else n) → u ≡ resumed t → begin_from n s (drop i line) ≡ suc (begin_from m u (drop (i + 1) line))
+      pub begin_on : (m : ℕ) (u : State) → m ≡ (whether o then n - 1 else n) → u ≡ resumed t → begin_from n s (drop i line) ≡ suc (begin_from m u (drop (i + 1) line))
       begin_on m u p q =
           begin_byte
-          ∙ ap (λ (x : Bool). suc (begin_from (if x then n - 1 else n) (resumed (past s (kind (get_or line i 0)))) (drop (i + 1) line))) over_came
+          ∙ ap (λ (x : Bool). suc (begin_from (whether x then n - 1 else n) (resumed (past s (kind (get_or line i 0)))) (drop (i + 1) line))) over_came
           ∙ ap (λ (x : ℕ). suc (begin_from x (resumed (past s (kind (get_or line i 0)))) (drop (i + 1) line))) (sym p)
           ∙ ap (λ (x : State). suc (begin_from m x (drop (i + 1) line))) (sym (q ∙ ap (λ (x : State). resumed x) came))
 
@@ -92,14 +92,14 @@ begin_within : (n : ℕ) (s : State) (bs : Bytes) → begin_from n s bs ≤ leng
 unfolding begin_from
 begin_within n s [] = omega arith
 begin_within zero s (b ∷ bs) = omega arith
-begin_within (suc n) s (b ∷ bs) = omega (arith, begin_within (if over (past s (kind b)) then n else suc n) (resumed (past s (kind b))) bs)
+begin_within (suc n) s (b ∷ bs) = omega (arith, begin_within (whether over (past s (kind b)) then n else suc n) (resumed (past s (kind b))) bs)
 
 size_within : (s : State) (bs : Bytes) → size_from s bs ≤ length bs
 unfolding size_from
 size_within s [] = omega arith
 size_within s (b ∷ bs) = go (over (past s (kind b))) (size_within (past s (kind b)) bs)
   where
-    go : (o : Bool) → size_from (past s (kind b)) bs ≤ length bs → (if o then 0 else suc (size_from (past s (kind b)) bs)) ≤ suc (length bs)
+    go : (o : Bool) → size_from (past s (kind b)) bs ≤ length bs → (whether o then 0 else suc (size_from (past s (kind b)) bs)) ≤ suc (length bs)
     go true h = omega arith
     go false h = omega arith
 
@@ -146,19 +146,19 @@ module _ (ed : Edition) (t : Table) (head : Bytes) where
   named_few l = let h : length (header ed t (cells_of (cut ed head))) ≤ 32 = omega (arith, header_length ed t (cells_of (cut ed head))) in rw (le-ltb 32 (length (header ed t (cells_of (cut ed head)))) h)
 
 module _ (second : Bool) (k : ℕ) (named : Header) where
-  pub none_found : named ≡ [] → 0 ≡ (if second then second_place k named else place_from 0 k named)
+  pub none_found : named ≡ [] → 0 ≡ (whether second then second_place k named else place_from 0 k named)
   unfolding place_from
   none_found e = rw e (go second)
     where
-      go : (b : Bool) → 0 ≡ (if b then place_from (place_from 0 k []) k (drop (place_from 0 k []) []) else place_from 0 k [])
+      go : (b : Bool) → 0 ≡ (whether b then place_from (place_from 0 k []) k (drop (place_from 0 k []) []) else place_from 0 k [])
       go true = refl
       go false = refl
 
   module _ (h : Header) (e : named ≡ h) where
-    pub second_found : second ≡ true → (first r : ℕ) → first ≡ place_from 0 k (drop 0 h) → r ≡ place_from first k (drop first h) → r ≡ (if second then second_place k named else place_from 0 k named)
+    pub second_found : second ≡ true → (first r : ℕ) → first ≡ place_from 0 k (drop 0 h) → r ≡ place_from first k (drop first h) → r ≡ (whether second then second_place k named else place_from 0 k named)
     second_found b first r f g = rw (b, e) (g ∙ ap (λ (x : ℕ). place_from x k (drop x h)) f)
 
-    pub first_found : second ≡ false → (r : ℕ) → r ≡ place_from 0 k (drop 0 h) → r ≡ (if second then second_place k named else place_from 0 k named)
+    pub first_found : second ≡ false → (r : ℕ) → r ≡ place_from 0 k (drop 0 h) → r ≡ (whether second then second_place k named else place_from 0 k named)
     first_found b r g = rw (b, e) g
 
 module _ (ed : Edition) (t : Table) (head : Bytes) (number k : ℕ) where

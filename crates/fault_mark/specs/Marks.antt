@@ -1,6 +1,6 @@
 -- Where a place of refusal stands in its table's text, for a person's eye: the line, and the cell on it.
 use Rattle.std.specs.Prelude.{Bool, true, false, ◌≡◌, [], ◌∷◌, ℕ, suc, zero, ◌-◌, ◌+◌, drop, take, length, eqb, ltb}
-use Rattle.words.specs.Words.{Bytes, if◌then◌else◌}
+use Rattle.words.specs.Words.{Bytes, whether◌then◌else◌}
 use Rattle.refusals.specs.declared.Place.{Place}
 use Rattle.lines.specs.Lines.{lines, head_line, starts_on, row_on, line_start}
 use Rattle.cells.specs.declared.State.{State}
@@ -60,13 +60,13 @@ resumed Fault = Fault
 -- how many bytes a cell has from a state on
 unfoldable pub size_from : State → Bytes → ℕ
 size_from s [] = 0
-size_from s (b ∷ bs) = if over (past s (kind b)) then 0 else suc (size_from (past s (kind b)) bs)
+size_from s (b ∷ bs) = whether over (past s (kind b)) then 0 else suc (size_from (past s (kind b)) bs)
 
 -- how many bytes stand before the cell that comes behind n others; the whole line where there are fewer
 unfoldable pub begin_from : ℕ → State → Bytes → ℕ
 begin_from n s [] = 0
 begin_from zero s (b ∷ bs) = 0
-begin_from (suc n) s (b ∷ bs) = suc (begin_from (if over (past s (kind b)) then n else suc n) (resumed (past s (kind b))) bs)
+begin_from (suc n) s (b ∷ bs) = suc (begin_from (whether over (past s (kind b)) then n else suc n) (resumed (past s (kind b))) bs)
 
 -- where a cell begins on its line, counted from 1, and where it ends
 abbrev pub cell_begin : ℕ → Bytes → ℕ
@@ -77,13 +77,13 @@ cell_end n line = cell_begin n line + size_from Fresh (drop (cell_begin n line) 
 
 -- the cell itself; 0 is no cell's number
 abbrev pub numbered_cell : ℕ → Bytes → Bytes
-numbered_cell n line = if eqb n 0 then [] else take (cell_end n line - cell_begin n line) (drop (cell_begin n line) line)
+numbered_cell n line = whether eqb n 0 then [] else take (cell_end n line - cell_begin n line) (drop (cell_begin n line) line)
 
 -- the cell that a place names ----------------------------------------------------------------------------------------------
 
 -- the columns that a header's cells name; "more than 32 header cells" are not looked at
 abbrev pub columns_named : Edition → Table → Bytes → Header
-columns_named e t head = if ltb most_cells (length (header e t (cells_of (cut e head)))) then [] else header e t (cells_of (cut e head))
+columns_named e t head = whether ltb most_cells (length (header e t (cells_of (cut e head)))) then [] else header e t (cells_of (cut e head))
 
 -- the second cell that names a column, 0 where there is none
 abbrev pub second_place : ℕ → Header → ℕ
@@ -93,10 +93,10 @@ second_place k h = place_from (place_from 0 k h) k (drop (place_from 0 k h) h)
 -- that comes twice, is of the second one; 6 names the "cell counted from 1"; any other the column by its number
 unfoldable pub cell_named : Edition → Table → Bytes → ℕ → ℕ → ℕ
 cell_named e t head number k =
-    if eqb k 0 then 0
-    else if eqb number 2 then 0
-    else if eqb number 3 then second_place k (columns_named e t head)
-    else if eqb number 6 then k
+    whether eqb k 0 then 0
+    else whether eqb number 2 then 0
+    else whether eqb number 3 then second_place k (columns_named e t head)
+    else whether eqb number 6 then k
     else place_from 0 k (columns_named e t head)
 
 -- the mark -----------------------------------------------------------------------------------------------------------------
@@ -104,14 +104,14 @@ cell_named e t head number k =
 -- a line that begins and ends at these places of its text, and its cell of that number
 abbrev pub marked_on : Bytes → ℕ → ℕ → ℕ → Mark
 marked_on line start end cell =
-    if eqb cell 0 then Line start end
+    whether eqb cell 0 then Line start end
     else Cell start end (cell_begin cell line) (cell_end cell line)
 
 -- the header or the row that starts on the place's line; nothing where the place names no line, or one on which none starts
 unfoldable pub marked_of : Edition → Table → Bytes → Place → Mark
 marked_of e t s p =
     let line = row_on e p.line 1 (lines e s) in
-    if starts_on e p.line 1 (lines e s)
+    whether starts_on e p.line 1 (lines e s)
     then marked_on line (line_start p.line s) (line_start p.line s + length line) (cell_named e t (head_line (lines e s)) p.number p.column)
     else Nothing
 

@@ -2,7 +2,7 @@
 #![tactic(auto)]
 
 ghost use Rattle.std.specs.Prelude.{◌≡◌, ◌+◌, ◌-◌, ◌≤◌, drop};
-ghost use Rattle.words.specs.Words.{if◌then◌else◌};
+ghost use Rattle.words.specs.Words.{whether◌then◌else◌};
 ghost use Rattle.cells.specs.Cells.{kind, cut, cells_of};
 ghost use Rattle.cells.specs.declared.State.TheVariants.{Fresh};
 ghost use Rattle.cells.specs.Numbered.{MarksOf};
@@ -134,7 +134,7 @@ fn cell_end(line: &[u8], from: usize) -> usize
 
 fn fewer(left: u64, passed: bool) -> u64
     requires { 1 ≤ left }
-    ensures { result ≡ (if passed then left - 1 else left) }
+    ensures { result ≡ (whether passed then left - 1 else left) }
 {
     if passed { left - 1 } else { left }
 }
@@ -188,7 +188,7 @@ fn named_behind(
 
 // The cell of a header that names a column, the first or the second one.
 fn named_cell(edition: Edition, head: &[u8], t: Table, column: u64, second: bool) -> usize
-    ensures { result ≡ (if second then second_place column (columns_named edition t head.now) else place_from 0 column (columns_named edition t head.now)) }
+    ensures { result ≡ (whether second then second_place column (columns_named edition t head.now) else place_from 0 column (columns_named edition t head.now)) }
 {
     let mut bounds = [0usize; BOUNDS];
     let answer = cells::cells_of(edition, head, &mut bounds);

@@ -7,7 +7,7 @@ use native.Mathlib.Omega.{arith}
 use lib.ListN.{length, drop, get_or, drop_of_length-le}
 use lib.Dec.{eqb, ltb}
 use borrow.Author.Tests.{eqb-true, lt-ltb, ltb-true}
-use Rattle.words.specs.Words.{Bytes, if◌then◌else◌}
+use Rattle.words.specs.Words.{Bytes, whether◌then◌else◌}
 use Rattle.words.proofs.Lists.{drop_step}
 use Rattle.lines.specs.Lines.{onto}
 use Rattle.cells.specs.Cells.{cells, grown, Cut, parted, after}
@@ -25,7 +25,7 @@ unfolding fields parted
 whole_fields [] = (refl, omega arith)
 whole_fields (b ∷ bs) = go (eqb b 9) refl (whole_fields bs)
   where
-    go : (t : Bool) → eqb b 9 ≡ t → Whole 9 (cells (fields bs)) bs → Whole 9 (cells (if t then [] ∷ fields bs else onto b (fields bs))) (b ∷ bs)
+    go : (t : Bool) → eqb b 9 ≡ t → Whole 9 (cells (fields bs)) bs → Whole 9 (cells (whether t then [] ∷ fields bs else onto b (fields bs))) (b ∷ bs)
     go true q w = rw (eqb-true b 9 q) (whole_after 9 (cells (fields bs)) bs w)
     go false q w = subst (λ (u : Cut). Whole 9 u (b ∷ bs)) (sym (onto_grown b (fields bs) w.1)) (whole_grown 9 b (cells (fields bs)) bs w)
 
@@ -36,7 +36,7 @@ pub fields_some : (line : Bytes) → 1 ≤ length (fields line)
 fields_some line = (whole_fields line).1
 
 module _ (line : Bytes) (i : ℕ) where
-  fields_byte : i < length line → fields (drop i line) ≡ (if ends_at line i then [] ∷ fields (drop (i + 1) line) else onto (get_or line i 0) (fields (drop (i + 1) line)))
+  fields_byte : i < length line → fields (drop i line) ≡ (whether ends_at line i then [] ∷ fields (drop (i + 1) line) else onto (get_or line i 0) (fields (drop (i + 1) line)))
   unfolding fields
   fields_byte h = rw (drop_step 0 line i h, lt-ltb i (length line) h)
 

@@ -1,9 +1,9 @@
 -- The fields of a slip line.
 use Rattle.std.specs.Prelude.{List, [], ◌∷◌, eqb}
-use Rattle.words.specs.Words.{Bytes, if◌then◌else◌}
+use Rattle.words.specs.Words.{Bytes, whether◌then◌else◌}
 use Rattle.lines.specs.Lines.{onto}
 
 -- "Lines of tab-parted fields": 9 is the tab
 unfoldable pub fields : Bytes → List Bytes
 fields [] = [] ∷ []
-fields (b ∷ bs) = if eqb b 9 then [] ∷ fields bs else onto b (fields bs)
+fields (b ∷ bs) = whether eqb b 9 then [] ∷ fields bs else onto b (fields bs)

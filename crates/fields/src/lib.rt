@@ -2,7 +2,7 @@
 #![tactic(auto)]
 
 ghost use Rattle.std.specs.Prelude.{◌≡◌, true, length, get_or, eqb, ltb};
-ghost use Rattle.words.specs.Words.{if◌then◌else◌};
+ghost use Rattle.words.specs.Words.{whether◌then◌else◌};
 ghost use Rattle.cells.specs.Marks.{BoundsOf};
 ghost use Rattle.fields.specs.Fields.{fields};
 ghost use Rattle.fields.specs.Marks.{field_bounds};
@@ -21,7 +21,7 @@ pub const BOUNDS: usize = MOST_FIELDS + 1;
 
 // Whether a field ends at a place: before a tab, or at the line's end.
 fn field_ends(line: &[u8], i: usize) -> bool
-    ensures { result ≡ (if ltb i (length line.now) then eqb (get_or line.now i 0) 9 else true) }
+    ensures { result ≡ (whether ltb i (length line.now) then eqb (get_or line.now i 0) 9 else true) }
 {
     if i < line.len() {
         return line[i] == 9;

@@ -9,7 +9,7 @@ use lib.Dec.{eqb, ltb}
 use lib.ListN.{length, take, drop, get_or, drop_of_length-le, set, replicate, length-map}
 use lib.Seq.{take-suc, length-take-le, take_all}
 use borrow.Author.Tests.{ne_eqb, eq-eqb, eqb-false, not-true, lt-ltb, le-ltb, ltb-true, ltb-false}
-use Rattle.words.specs.Words.{if◌then◌else◌, Bytes}
+use Rattle.words.specs.Words.{whether◌then◌else◌, Bytes}
 use Rattle.words.proofs.Lists.{drop_step, and_left}
 use Rattle.refusals.specs.Verdicts.{column_missing, column_twice, too_many_cells}
 use Rattle.refusals.specs.declared.Check.{Check}
@@ -67,7 +67,7 @@ unfolding place_from member
 place_member i k [] = refl
 place_member i k (x ∷ xs) = go (eqb k x) (place_member (suc i) k xs)
   where
-    go : (b : Bool) → eqb (place_from (suc i) k xs) 0 ≡ not (member k xs) → eqb (if b then suc i else place_from (suc i) k xs) 0 ≡ not (b || member k xs)
+    go : (b : Bool) → eqb (place_from (suc i) k xs) 0 ≡ not (member k xs) → eqb (whether b then suc i else place_from (suc i) k xs) 0 ≡ not (b || member k xs)
     go true ih = ne_eqb (suc i) 0 (λ z. omega arith)
     go false ih = ih
 
@@ -81,7 +81,7 @@ unfolding place_from member
 place_new i k [] m = rw (eq-eqb k k refl) (omega arith)
 place_new i k (x ∷ xs) m = go (eqb k x) m (place_new (suc i) k xs)
   where
-    go : (b : Bool) → (b || member k xs) ≡ false → (member k xs ≡ false → place_from (suc i) k (xs ++ (k ∷ [])) ≡ suc (suc i + length xs)) → (if b then suc i else place_from (suc i) k (xs ++ (k ∷ []))) ≡ suc (i + suc (length xs))
+    go : (b : Bool) → (b || member k xs) ≡ false → (member k xs ≡ false → place_from (suc i) k (xs ++ (k ∷ [])) ≡ suc (suc i + length xs)) → (whether b then suc i else place_from (suc i) k (xs ++ (k ∷ []))) ≡ suc (i + suc (length xs))
     go true e ih = let z : ◌≡◌ {A = ℕ} 0 1 = cc in absurd (omega arith)
     go false e ih = ih e ∙ omega arith
 
@@ -115,7 +115,7 @@ abbrev spots : ℕ → Header → List ℕ
 spots n xs = n ∷ places_from most_columns 1 xs
 
 -- one cell more that is noted
-spots_more : (n x : ℕ) (xs : Header) → x < header_places → (not (eqb x 0) && member x xs) ≡ false → (if eqb x 0 then spots n xs else set (spots n xs) x (suc (length xs))) ≡ spots n (xs ++ (x ∷ []))
+spots_more : (n x : ℕ) (xs : Header) → x < header_places → (not (eqb x 0) && member x xs) ≡ false → (whether eqb x 0 then spots n xs else set (spots n xs) x (suc (length xs))) ≡ spots n (xs ++ (x ∷ []))
 spots_more n zero xs l m = ap (λ (ps : List ℕ). n ∷ ps) (sym (places_below most_columns 1 0 xs (omega arith)))
 spots_more n (suc d) xs l m =
     let z : eqb (suc d) 0 ≡ false = ne_eqb (suc d) 0 (λ e. omega arith) in
@@ -157,11 +157,11 @@ module _ (h : Header) (at : List ℕ) (i x : ℕ) (w : Walked h at i) (l : i < l
       let n : x ≡ 0 → ⊥ = eqb-false x 0 z in
       (w.ahead ∙ repeated_here h i l (sym again ∙ q) ∙ e, positive x n)
 
-  pub walked_next : (next : List ℕ) → (not (eqb x 0) && not (eqb (get_or at x 0) 0)) ≡ false → next ≡ (if eqb x 0 then at else set at x (i + 1)) → Walked h next (i + 1)
+  pub walked_next : (next : List ℕ) → (not (eqb x 0) && not (eqb (get_or at x 0) 0)) ≡ false → next ≡ (whether eqb x 0 then at else set at x (i + 1)) → Walked h next (i + 1)
   walked_next next q g =
       let n : length (take i h) ≡ i = length-take-le i h (omega arith) in
       let m : (not (eqb x 0) && member x (take i h)) ≡ false = sym (noted_member (length h) x (take i h) few) ∙ rw w.noted at q in
-      let p : (if eqb x 0 then spots (length h) (take i h) else set (spots (length h) (take i h)) x (suc i)) ≡ spots (length h) (take i h ++ (x ∷ [])) = rw n at (spots_more (length h) x (take i h) few m) in
+      let p : (whether eqb x 0 then spots (length h) (take i h) else set (spots (length h) (take i h)) x (suc i)) ≡ spots (length h) (take i h ++ (x ∷ [])) = rw n at (spots_more (length h) x (take i h) few m) in
       record {
         noted = g ∙ rw (w.noted, add-one, take-suc h i 0 l, e) p;
         ahead = w.ahead ∙ repeated_next h i l (sym again ∙ q);

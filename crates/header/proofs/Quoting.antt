@@ -6,7 +6,7 @@ use Prim.Native.Nat.{ℕ, suc, ◌-◌}
 use lib.Dec.{eqb}
 use lib.ListN.{length, take, drop}
 use borrow.Author.Tests.{eqb-true, not-true}
-use Rattle.words.specs.Words.{Bytes, same, if◌then◌else◌}
+use Rattle.words.specs.Words.{Bytes, same, whether◌then◌else◌}
 use Rattle.words.proofs.Lists.{and_left, and_right, every}
 use Rattle.cells.specs.Cells.{once, quoted, stretch, content}
 use Rattle.editions.specs.declared.Edition.{Edition}
@@ -40,6 +40,6 @@ number_once ed t s = from_once 1 (columns_of ed t) s (all_unquoted ed t)
 pub number_of_content : (ed : Edition) (t : Table) (cell : Bytes) → column_number ed t (content cell) ≡ column_number ed t (stretch cell)
 number_of_content ed t cell = go (quoted cell)
   where
-    go : (b : Bool) → column_number ed t (if b then once false (if b then take (length cell - 2) (drop 1 cell) else cell) else cell) ≡ column_number ed t (if b then take (length cell - 2) (drop 1 cell) else cell)
+    go : (b : Bool) → column_number ed t (whether b then once false (whether b then take (length cell - 2) (drop 1 cell) else cell) else cell) ≡ column_number ed t (whether b then take (length cell - 2) (drop 1 cell) else cell)
     go true = number_once ed t (take (length cell - 2) (drop 1 cell))
     go false = refl

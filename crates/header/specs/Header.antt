@@ -1,6 +1,6 @@
 -- The header, and the cell that stands under a column.
 use Rattle.std.specs.Prelude.{List, map, [], ◌∷◌, Bool, false, ◌||◌, ◌&&◌, not, ℕ, suc, ◌+◌, eqb, ltb, length}
-use Rattle.words.specs.Words.{Bytes, if◌then◌else◌}
+use Rattle.words.specs.Words.{Bytes, whether◌then◌else◌}
 use Rattle.refusals.specs.Verdicts.{◌when◌, quote_fault, ◌⊳◌, cell_count, column_missing, column_twice, too_many_cells, ◌before◌, in_text, in_header, text_too_long, line_too_long}
 use Rattle.refusals.specs.declared.Check.{Check}
 use Rattle.refusals.specs.declared.Verdict.{Verdict}
@@ -24,12 +24,12 @@ member k (x ∷ xs) = eqb k x || member k xs
 -- the number of the known column "whose repeat is leftmost", 0 where none comes twice; `seen` are the columns to the left
 unfoldable pub repeated : List ℕ → Header → ℕ
 repeated seen [] = 0
-repeated seen (k ∷ ks) = if not (eqb k 0) && member k seen then k else repeated (k ∷ seen) ks
+repeated seen (k ∷ ks) = whether not (eqb k 0) && member k seen then k else repeated (k ∷ seen) ks
 
 -- the lowest required column that the header lacks, 0 where it lacks none
 unfoldable pub missing_from : ℕ → List Column → Header → ℕ
 missing_from k [] h = 0
-missing_from k (x ∷ xs) h = if x.rules.required && not (member k h) then k else missing_from (suc k) xs h
+missing_from k (x ∷ xs) h = whether x.rules.required && not (member k h) then k else missing_from (suc k) xs h
 
 abbrev pub missing : Edition → Table → Header → ℕ
 missing e t h = missing_from 1 (columns_of e t) h
@@ -63,13 +63,13 @@ header_check e t line =
 unfoldable pub under : ℕ → Header → List Bytes → Bytes
 under k [] cs = []
 under k (x ∷ xs) [] = []
-under k (x ∷ xs) (c ∷ cs) = if eqb k x then c else under k xs cs
+under k (x ∷ xs) (c ∷ cs) = whether eqb k x then c else under k xs cs
 
 -- where the cell of column k begins on its line
 unfoldable pub offset : ℕ → Header → List Bytes → ℕ
 offset k [] cs = 0
 offset k (x ∷ xs) [] = 0
-offset k (x ∷ xs) (c ∷ cs) = if eqb k x then 0 else length c + 1 + offset k xs cs
+offset k (x ∷ xs) (c ∷ cs) = whether eqb k x then 0 else length c + 1 + offset k xs cs
 
 -- the content of each column's cell, by column number
 unfoldable pub contents_from : ℕ → List Column → Header → List Bytes → List Bytes
@@ -92,4 +92,4 @@ top_faults e t s =
 -- the cell of column k, counted from 1, behind i cells; 0 where there is none
 unfoldable pub place_from : ℕ → ℕ → Header → ℕ
 place_from i k [] = 0
-place_from i k (x ∷ xs) = if eqb k x then suc i else place_from (suc i) k xs
+place_from i k (x ∷ xs) = whether eqb k x then suc i else place_from (suc i) k xs

@@ -2,7 +2,7 @@
 #![tactic(auto)]
 
 ghost use Rattle.std.specs.Prelude.{◌≡◌, List, ◌&&◌, not, ℕ, ◌<◌, eqb, get_or, set};
-ghost use Rattle.words.specs.Words.{if◌then◌else◌};
+ghost use Rattle.words.specs.Words.{whether◌then◌else◌};
 ghost use Rattle.cells.specs.Cells.{cut, cells_of};
 ghost use Rattle.cells.specs.Numbered.{MarksOf};
 ghost use Rattle.tables.specs.Listing.{listed};
@@ -90,7 +90,7 @@ fn comes_again(at: &Places, column: usize) -> bool
 // Notes the cell of a known column.
 fn note(at: Places, column: usize, cell: usize) -> Places
     requires { column < header_places }
-    ensures { result ≡ (if eqb column 0 then at else set at column cell) }
+    ensures { result ≡ (whether eqb column 0 then at else set at column cell) }
 {
     let mut noted = at;
     if column != 0 {

@@ -7,7 +7,7 @@ use native.Mathlib.Omega.{arith}
 use native.Mathlib.Nat.{mul-suc, mul-le-mul}
 use lib.ListN.{length, drop, get_or, drop_of_length-le}
 use lib.Ieee.{Float, binary64, add}
-use Rattle.words.specs.Words.{Row, if◌then◌else◌}
+use Rattle.words.specs.Words.{Row, whether◌then◌else◌}
 use Rattle.words.proofs.Lists.{drop_step}
 use Rattle.tables.specs.declared.Table.TheVariants.{Block, Calendar}
 use Rattle.book.specs.Room.{book_of}
@@ -30,7 +30,7 @@ module _ (version type : ℕ) where
   together_each (x ∷ xs) = go (of_type version type x) (together_each xs)
     where
       go : (here : Bool) → together (seconds_each version type xs) ≡ seconds_of version type xs
-          → together (if here then seconds x ∷ seconds_each version type xs else seconds_each version type xs) ≡ (if here then seconds x else 0) + seconds_of version type xs
+          → together (whether here then seconds x ∷ seconds_each version type xs else seconds_each version type xs) ≡ (whether here then seconds x else 0) + seconds_of version type xs
       go true e = ap (λ (n : ℕ). seconds x + n) e
       go false e = omega (arith, e)
 
@@ -40,7 +40,7 @@ module _ (version type : ℕ) where
   length_each (x ∷ xs) = go (of_type version type x) (length_each xs)
     where
       go : (here : Bool) → length (seconds_each version type xs) ≡ count_of version type xs
-          → length (if here then seconds x ∷ seconds_each version type xs else seconds_each version type xs) ≡ (if here then 1 else 0) + count_of version type xs
+          → length (whether here then seconds x ∷ seconds_each version type xs else seconds_each version type xs) ≡ (whether here then 1 else 0) + count_of version type xs
       go true e = omega (arith, e)
       go false e = omega (arith, e)
 
@@ -54,7 +54,7 @@ module _ (version type : ℕ) where
       let c = mul-suc most (length xs) in
       omega (arith, a, b, c)
     where
-      go : (here : Bool) → weight x ≤ most → (if here then weight x else 0) ≤ most
+      go : (here : Bool) → weight x ≤ most → (whether here then weight x else 0) ≤ most
       go true l = l
       go false l = omega arith
 
@@ -74,14 +74,14 @@ module _ (version type : ℕ) where
   -- along the loop -------------------------------------------------------------------------------------------------------------------------
 
   pub each_next : (xs : List Row) (sum next : Float) (i : ℕ) (row : Row) (here : Bool) (s : ℕ) → i < length xs → row ≡ get_or xs i [] → here ≡ of_type version type row → s ≡ seconds row
-      → next ≡ (if here then add binary64 sum (hours_of s) else sum) → clerk_from sum (seconds_each version type (drop i xs)) ≡ clerk_from next (seconds_each version type (drop (i + 1) xs))
+      → next ≡ (whether here then add binary64 sum (hours_of s) else sum) → clerk_from sum (seconds_each version type (drop i xs)) ≡ clerk_from next (seconds_each version type (drop (i + 1) xs))
   unfolding seconds_each clerk_from
   each_next xs sum next i row here s l e f g h = rw (drop_step [] xs i l, ← e, ← f, h, g) (go here)
     where
       rest : List ℕ
       rest = seconds_each version type (drop (i + 1) xs)
 
-      go : (b : Bool) → clerk_from sum (if b then seconds row ∷ rest else rest) ≡ clerk_from (if b then add binary64 sum (hours_of (seconds row)) else sum) rest
+      go : (b : Bool) → clerk_from sum (whether b then seconds row ∷ rest else rest) ≡ clerk_from (whether b then add binary64 sum (hours_of (seconds row)) else sum) rest
       go true = refl
       go false = refl
 
@@ -127,5 +127,5 @@ module _ (version type : ℕ) where
 
 -- one sum --------------------------------------------------------------------------------------------------------------------------------
 
-pub added_there : (sum h : Float) (here : Bool) (s : ℕ) → here ≡ true → h ≡ hours_of s → add binary64 sum h ≡ (if here then add binary64 sum (hours_of s) else sum)
+pub added_there : (sum h : Float) (here : Bool) (s : ℕ) → here ≡ true → h ≡ hours_of s → add binary64 sum h ≡ (whether here then add binary64 sum (hours_of s) else sum)
 added_there sum h here s e f = rw (e, f)

@@ -1,6 +1,6 @@
 -- What the questions for the ledger answer. Nothing that is lent to them changes.
 use Rattle.std.specs.Prelude.{◌≡◌, List, [], ◌∷◌, ℕ, Float}
-use Rattle.words.specs.Words.{Row, if◌then◌else◌}
+use Rattle.words.specs.Words.{Row, whether◌then◌else◌}
 use Rattle.refusals.specs.declared.Verdict.{Verdict}
 use Rattle.refusals.specs.declared.Verdict.TheVariants.{Accepted, Refused}
 use Rattle.book.specs.Room.{book_of}
@@ -16,7 +16,7 @@ use Rattle.hours.specs.declared.SeasonHours.{SeasonHours}
 -- the seconds of each block of a type, "in rising key order", which is the blocks' order in the book
 unfoldable pub seconds_each : ℕ → ℕ → List Row → List ℕ
 seconds_each version type [] = []
-seconds_each version type (x ∷ xs) = if of_type version type x then seconds x ∷ seconds_each version type xs else seconds_each version type xs
+seconds_each version type (x ∷ xs) = whether of_type version type x then seconds x ∷ seconds_each version type xs else seconds_each version type xs
 
 -- "No blocks gives 0 exactly, as do 16 and 15."
 abbrev pub hours_answered : Verdict → Float → Float → HoursAnswer

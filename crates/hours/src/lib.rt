@@ -4,7 +4,7 @@
 ghost use Rattle.std.specs.Prelude.{◌≡◌, true, ◌<◌, ◌^◌};
 ghost use Rattle.std.specs.Float.{binary64};
 ghost use Rattle.std.specs.Float.Ieee.{add};
-ghost use Rattle.words.specs.Words.{if◌then◌else◌};
+ghost use Rattle.words.specs.Words.{whether◌then◌else◌};
 ghost use Rattle.book.specs.Room.{book_of};
 ghost use Rattle.keeping.specs.Keeping.{keeps_rule};
 ghost use Rattle.hour_numbers.specs.Hours.{hours_of, clerk};
@@ -32,7 +32,7 @@ pub struct SeasonHours {
 // The sum with a block's hours added, where the block is of the type.
 fn added(sum: f64, here: bool, seconds: u64) -> f64
     requires { seconds < 2 ^ 53 }
-    ensures { result ≡ (if here then add binary64 sum (hours_of seconds) else sum) }
+    ensures { result ≡ (whether here then add binary64 sum (hours_of seconds) else sum) }
 {
     if here {
         return sum + hour_numbers::hours(seconds);

@@ -8,7 +8,7 @@ use lib.ListN.{length, drop, get_or, drop_of_length-le, length-drop, take}
 use lib.Dec.{eqb, ltb}
 use lib.Seq.{get_or-drop, drop-drop, drop-nil, take-nil}
 use borrow.Author.Tests.{ne_eqb, eq-eqb, eqb-true, eqb-false}
-use Rattle.words.specs.Words.{Bytes, if◌then◌else◌}
+use Rattle.words.specs.Words.{Bytes, whether◌then◌else◌}
 use Rattle.words.proofs.Lists.{drop_step}
 use Rattle.editions.specs.declared.Edition.{Edition}
 use Rattle.editions.specs.declared.Edition.TheVariants.{Dino21, Dino23}
@@ -41,8 +41,8 @@ unfolding slip_length slip_room
 slip_room_fed [] h = absurd (omega arith)
 slip_room_fed (b ∷ bs) h = go (eqb b 10) h (slip_room_fed bs)
   where
-    go : (t : Bool) → (if t then 0 else suc (slip_length bs)) < suc (length bs) → (slip_length bs < length bs → slip_room bs ≡ suc (slip_length bs))
-        → (if t then 1 else suc (slip_room bs)) ≡ suc (if t then 0 else suc (slip_length bs))
+    go : (t : Bool) → (whether t then 0 else suc (slip_length bs)) < suc (length bs) → (slip_length bs < length bs → slip_room bs ≡ suc (slip_length bs))
+        → (whether t then 1 else suc (slip_room bs)) ≡ suc (whether t then 0 else suc (slip_length bs))
     go true k ih = refl
     go false k ih = ap suc (ih (omega arith))
 
@@ -51,7 +51,7 @@ slip_not_fed : (b : ℕ) (bs : Bytes) → length (b ∷ bs) ≤ slip_length (b �
 unfolding slip_length
 slip_not_fed b bs h = go (eqb b 10) h
   where
-    go : (t : Bool) → suc (length bs) ≤ (if t then 0 else suc (slip_length bs)) → (t ≡ false) × (length bs ≤ slip_length bs)
+    go : (t : Bool) → suc (length bs) ≤ (whether t then 0 else suc (slip_length bs)) → (t ≡ false) × (length bs ≤ slip_length bs)
     go true k = absurd (omega arith)
     go false k = (refl, omega arith)
 
@@ -69,7 +69,7 @@ pub slip_lines_first : (b : ℕ) (bs : Bytes) → slip_lines (b ∷ bs) ≡ take
 unfolding slip_lines slip_length slip_room
 slip_lines_first b [] = go (eqb b 10)
   where
-    go : (t : Bool) → (if t then [] ∷ [] else (b ∷ []) ∷ []) ≡ take (if t then 0 else 1) (b ∷ []) ∷ slip_lines (drop (if t then 1 else 1) (b ∷ []))
+    go : (t : Bool) → (whether t then [] ∷ [] else (b ∷ []) ∷ []) ≡ take (whether t then 0 else 1) (b ∷ []) ∷ slip_lines (drop (whether t then 1 else 1) (b ∷ []))
     go true = refl
     go false = refl
 slip_lines_first b (c ∷ cs) = go (eqb b 10) refl (slip_lines_first c cs)
@@ -84,7 +84,7 @@ unfolding slip_length slip_room
 slip_fits [] = omega arith
 slip_fits (b ∷ bs) = go (eqb b 10) (slip_fits bs)
   where
-    go : (t : Bool) → slip_length bs ≤ slip_room bs → (if t then 0 else suc (slip_length bs)) ≤ (if t then 1 else suc (slip_room bs))
+    go : (t : Bool) → slip_length bs ≤ slip_room bs → (whether t then 0 else suc (slip_length bs)) ≤ (whether t then 1 else suc (slip_room bs))
     go true h = omega arith
     go false h = omega arith
 
@@ -93,7 +93,7 @@ unfolding slip_room
 slip_room_le [] = omega arith
 slip_room_le (b ∷ bs) = go (eqb b 10) (slip_room_le bs)
   where
-    go : (t : Bool) → slip_room bs ≤ length bs → (if t then 1 else suc (slip_room bs)) ≤ suc (length bs)
+    go : (t : Bool) → slip_room bs ≤ length bs → (whether t then 1 else suc (slip_room bs)) ≤ suc (length bs)
     go true h = omega arith
     go false h = omega arith
 
@@ -101,7 +101,7 @@ slip_room_some : (b : ℕ) (bs : Bytes) → 0 < slip_room (b ∷ bs)
 unfolding slip_room
 slip_room_some b bs = go (eqb b 10)
   where
-    go : (t : Bool) → 0 < (if t then 1 else suc (slip_room bs))
+    go : (t : Bool) → 0 < (whether t then 1 else suc (slip_room bs))
     go true = omega arith
     go false = omega arith
 
@@ -120,7 +120,7 @@ from_on Fault on = refl
 pub any_byte : (q : State) (b : ℕ) → (b ≡ 34 → ⊥) → (b ≡ 59 → ⊥) → quoting q 97 ≡ quoting q b
 any_byte q b n m = rw (ne_eqb b 34 n, ne_eqb b 59 m) (go q (ltb b 32 || eqb b 127))
   where
-    go : (s : State) (u : Bool) → resumed s (next s Other) ≡ resumed s (next s (if u then Control else Other))
+    go : (s : State) (u : Bool) → resumed s (next s Other) ≡ resumed s (next s (whether u then Control else Other))
     go Fresh true = refl
     go Fresh false = refl
     go Plain true = refl
@@ -157,7 +157,7 @@ feed_plain s [] = refl
 feed_plain s (b ∷ bs) = go (eqb b 10) (inside s) (feed_plain (quoting s b) bs)
   where
     go : (t u : Bool) → slip_length bs ≡ feed_from Dino21 (quoting s b) bs
-        → (if t then 0 else suc (slip_length bs)) ≡ (if t && not (u && false) then 0 else suc (feed_from Dino21 (quoting s b) bs))
+        → (whether t then 0 else suc (slip_length bs)) ≡ (whether t && not (u && false) then 0 else suc (feed_from Dino21 (quoting s b) bs))
     go true true h = refl
     go true false h = refl
     go false u h = ap suc h
@@ -186,11 +186,11 @@ module _ (e : Edition) (q : State) (s : Bytes) (i : ℕ) where
 
 -- the line feeds of a row, byte by byte
 module _ (s : Bytes) (i : ℕ) where
-  pub feeds_on : i < length s → feeds (drop i s) ≡ (if eqb (get_or s i 0) 10 then 1 else 0) + feeds (drop (i + 1) s)
+  pub feeds_on : i < length s → feeds (drop i s) ≡ (whether eqb (get_or s i 0) 10 then 1 else 0) + feeds (drop (i + 1) s)
   unfolding feeds
   feeds_on h = rw (drop_step 0 s i h) (go (eqb (get_or s i 0) 10))
     where
-      go : (t : Bool) → (if t then suc (feeds (drop (i + 1) s)) else feeds (drop (i + 1) s)) ≡ (if t then 1 else 0) + feeds (drop (i + 1) s)
+      go : (t : Bool) → (whether t then suc (feeds (drop (i + 1) s)) else feeds (drop (i + 1) s)) ≡ (whether t then 1 else 0) + feeds (drop (i + 1) s)
       go true = omega arith
       go false = omega arith
 
@@ -198,10 +198,10 @@ module _ (s : Bytes) (i : ℕ) where
   unfolding feeds
   feeds_none h = rw (drop_of_length-le s h)
 
-  pub one_at_most : (if eqb (get_or s i 0) 10 then 1 else 0) ≤ 1
+  pub one_at_most : (whether eqb (get_or s i 0) 10 then 1 else 0) ≤ 1
   one_at_most = go (eqb (get_or s i 0) 10)
     where
-      go : (t : Bool) → (if t then 1 else 0) ≤ 1
+      go : (t : Bool) → (whether t then 1 else 0) ≤ 1
       go true = omega arith
       go false = omega arith
 
@@ -214,8 +214,8 @@ module _ (e : Edition) where
   room_fed s [] h = absurd (omega arith)
   room_fed s (b ∷ bs) h = go (ends_row e s b) h (room_fed (quoting s b) bs)
     where
-      go : (t : Bool) → (if t then 0 else suc (feed_from e (quoting s b) bs)) < suc (length bs) → (feed_from e (quoting s b) bs < length bs → line_room e (quoting s b) bs ≡ suc (feed_from e (quoting s b) bs))
-          → (if t then 1 else suc (line_room e (quoting s b) bs)) ≡ suc (if t then 0 else suc (feed_from e (quoting s b) bs))
+      go : (t : Bool) → (whether t then 0 else suc (feed_from e (quoting s b) bs)) < suc (length bs) → (feed_from e (quoting s b) bs < length bs → line_room e (quoting s b) bs ≡ suc (feed_from e (quoting s b) bs))
+          → (whether t then 1 else suc (line_room e (quoting s b) bs)) ≡ suc (whether t then 0 else suc (feed_from e (quoting s b) bs))
       go true k ih = refl
       go false k ih = ap suc (ih (omega arith))
 
@@ -224,7 +224,7 @@ module _ (e : Edition) where
     unfolding feed_from
     feed_first h = go (ends_row e s b) h
       where
-        go : (t : Bool) → (if t then 0 else suc (feed_from e (quoting s b) bs)) ≡ 0 → t ≡ true
+        go : (t : Bool) → (whether t then 0 else suc (feed_from e (quoting s b) bs)) ≡ 0 → t ≡ true
         go true k = refl
         go false k = absurd (omega arith)
 
@@ -232,7 +232,7 @@ module _ (e : Edition) where
     unfolding feed_from
     feed_later n h = go (ends_row e s b) h
       where
-        go : (t : Bool) → (if t then 0 else suc (feed_from e (quoting s b) bs)) ≡ suc n → (t ≡ false) × (feed_from e (quoting s b) bs ≡ n)
+        go : (t : Bool) → (whether t then 0 else suc (feed_from e (quoting s b) bs)) ≡ suc n → (t ≡ false) × (feed_from e (quoting s b) bs ≡ n)
         go true k = absurd (omega arith)
         go false k = (refl, omega arith)
 
@@ -240,7 +240,7 @@ module _ (e : Edition) where
     unfolding feed_from
     not_fed h = go (ends_row e s b) h
       where
-        go : (t : Bool) → suc (length bs) ≤ (if t then 0 else suc (feed_from e (quoting s b) bs)) → (t ≡ false) × (length bs ≤ feed_from e (quoting s b) bs)
+        go : (t : Bool) → suc (length bs) ≤ (whether t then 0 else suc (feed_from e (quoting s b) bs)) → (t ≡ false) × (length bs ≤ feed_from e (quoting s b) bs)
         go true k = absurd (omega arith)
         go false k = (refl, omega arith)
 
@@ -333,8 +333,8 @@ module _ (e : Edition) where
   unfolding lines_from line_length line_room
   lines_first s b [] = go (ends_row e s b) (eqb b 13)
     where
-      go : (t u : Bool) → (if t then [] ∷ [] else if u && false then [] else from (quoting s b) (λ q. (b ∷ []) ∷ []))
-          ≡ take (if t then 0 else if u && false then 0 else 1) (b ∷ []) ∷ lines_from e Fresh (drop (if t then 1 else 1) (b ∷ []))
+      go : (t u : Bool) → (whether t then [] ∷ [] else whether u && false then [] else from (quoting s b) (λ q. (b ∷ []) ∷ []))
+          ≡ take (whether t then 0 else whether u && false then 0 else 1) (b ∷ []) ∷ lines_from e Fresh (drop (whether t then 1 else 1) (b ∷ []))
       go true u = refl
       go false true = from_on (quoting s b) (λ q. (b ∷ []) ∷ [])
       go false false = from_on (quoting s b) (λ q. (b ∷ []) ∷ [])
@@ -354,7 +354,7 @@ module _ (e : Edition) where
   length_room s [] = omega arith
   length_room s (b ∷ bs) = go (ends_row e s b) (eqb b 13 && end_next e s bs) (length_room (quoting s b) bs)
     where
-      go : (t u : Bool) → line_length e (quoting s b) bs ≤ line_room e (quoting s b) bs → (if t then 0 else if u then 0 else suc (line_length e (quoting s b) bs)) ≤ (if t then 1 else suc (line_room e (quoting s b) bs))
+      go : (t u : Bool) → line_length e (quoting s b) bs ≤ line_room e (quoting s b) bs → (whether t then 0 else whether u then 0 else suc (line_length e (quoting s b) bs)) ≤ (whether t then 1 else suc (line_room e (quoting s b) bs))
       go true u h = omega arith
       go false true h = omega arith
       go false false h = omega arith
@@ -364,7 +364,7 @@ module _ (e : Edition) where
   room_le s [] = omega arith
   room_le s (b ∷ bs) = go (ends_row e s b) (room_le (quoting s b) bs)
     where
-      go : (t : Bool) → line_room e (quoting s b) bs ≤ length bs → (if t then 1 else suc (line_room e (quoting s b) bs)) ≤ suc (length bs)
+      go : (t : Bool) → line_room e (quoting s b) bs ≤ length bs → (whether t then 1 else suc (line_room e (quoting s b) bs)) ≤ suc (length bs)
       go true h = omega arith
       go false h = omega arith
 
@@ -372,7 +372,7 @@ module _ (e : Edition) where
   unfolding line_room
   room_some b bs = go (ends_row e Fresh b)
     where
-      go : (t : Bool) → 0 < (if t then 1 else suc (line_room e (quoting Fresh b) bs))
+      go : (t : Bool) → 0 < (whether t then 1 else suc (line_room e (quoting Fresh b) bs))
       go true = omega arith
       go false = omega arith
 

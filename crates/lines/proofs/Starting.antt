@@ -8,7 +8,7 @@ use lib.Dec.{eqb, ltb}
 use lib.ListN.{length, take, drop, length-drop}
 use lib.Seq.{length-take-le}
 use borrow.Author.Tests.{eqb-true, ne_eqb, eq-eqb, ltb-true, ltb-false}
-use Rattle.words.specs.Words.{Bytes, if◌then◌else◌}
+use Rattle.words.specs.Words.{Bytes, whether◌then◌else◌}
 use Rattle.editions.specs.declared.Edition.{Edition}
 use Rattle.editions.specs.declared.Edition.TheVariants.{Dino21, Dino23}
 use Rattle.cells.specs.Cells.{inside, breakable}
@@ -42,8 +42,8 @@ start_split (suc i) n (b ∷ bs) =
   where
     go : (t : Bool) → line_start (suc (i + n)) bs ≡ line_start (suc i) bs + line_start (suc n) (drop (line_start (suc i) bs) bs)
         → line_start (suc (suc (i + n))) bs ≡ line_start (suc (suc i)) bs + line_start (suc n) (drop (line_start (suc (suc i)) bs) bs)
-        → suc (if t then line_start (suc (i + n)) bs else line_start (suc (suc (i + n))) bs)
-        ≡ suc (if t then line_start (suc i) bs else line_start (suc (suc i)) bs) + line_start (suc n) (drop (suc (if t then line_start (suc i) bs else line_start (suc (suc i)) bs)) (b ∷ bs))
+        → suc (whether t then line_start (suc (i + n)) bs else line_start (suc (suc (i + n))) bs)
+        ≡ suc (whether t then line_start (suc i) bs else line_start (suc (suc i)) bs) + line_start (suc n) (drop (suc (whether t then line_start (suc i) bs else line_start (suc (suc i)) bs)) (b ∷ bs))
     go true h k = ap suc h ∙ omega arith
     go false h k = ap suc k ∙ omega arith
 
@@ -73,7 +73,7 @@ start_le (suc (suc i)) [] = omega arith
 start_le (suc (suc i)) (b ∷ bs) = go (eqb b 10) (start_le (suc i) bs) (start_le (suc (suc i)) bs)
   where
     go : (t : Bool) → line_start (suc i) bs ≤ length bs → line_start (suc (suc i)) bs ≤ length bs
-        → suc (if t then line_start (suc i) bs else line_start (suc (suc i)) bs) ≤ suc (length bs)
+        → suc (whether t then line_start (suc i) bs else line_start (suc (suc i)) bs) ≤ suc (length bs)
     go true h k = omega arith
     go false h k = omega arith
 
@@ -114,8 +114,8 @@ module _ (e : Edition) where
     where
       go : (t : Bool) → ends_row e q b ≡ t → (u : Bool) → (eqb b 13 && end_next e q bs) ≡ u → (v : Bool) → eqb b 10 ≡ v
           → line_start (suc (suc (feeds (take (line_length e (quoting q b) bs) bs)))) bs ≡ line_room e (quoting q b) bs
-          → line_start (suc (suc (feeds (take (if t then 0 else if u then 0 else suc (line_length e (quoting q b) bs)) (b ∷ bs))))) (b ∷ bs)
-          ≡ (if t then 1 else suc (line_room e (quoting q b) bs))
+          → line_start (suc (suc (feeds (take (whether t then 0 else whether u then 0 else suc (line_length e (quoting q b) bs)) (b ∷ bs))))) (b ∷ bs)
+          ≡ (whether t then 1 else suc (line_room e (quoting q b) bs))
       go true p u k v w ih = start_fed b bs 0 (feed_ends e q b p)
       go false p true k v w ih =
           let r : (eqb b 13 ≡ true) × (line_length e (quoting q b) bs ≡ 0) = return_empty q b bs k in
@@ -134,7 +134,7 @@ none_inside q [] = refl
 none_inside q (b ∷ bs) = go (eqb b 10) refl (inside q) (eqb b 13 && end_next Dino21 q bs) (none_inside (quoting q b) bs)
   where
     go : (t : Bool) → eqb b 10 ≡ t → (v u : Bool) → feeds (take (line_length Dino21 (quoting q b) bs) bs) ≡ 0
-        → feeds (take (if t && not (v && false) then 0 else if u then 0 else suc (line_length Dino21 (quoting q b) bs)) (b ∷ bs)) ≡ 0
+        → feeds (take (whether t && not (v && false) then 0 else whether u then 0 else suc (line_length Dino21 (quoting q b) bs)) (b ∷ bs)) ≡ 0
     go true p true u ih = refl
     go true p false u ih = refl
     go false p v true ih = refl
@@ -150,7 +150,7 @@ unfolding feeds
 feeds_most [] = omega arith
 feeds_most (b ∷ bs) = go (eqb b 10) (feeds_most bs)
   where
-    go : (t : Bool) → feeds bs ≤ length bs → (if t then suc (feeds bs) else feeds bs) ≤ suc (length bs)
+    go : (t : Bool) → feeds bs ≤ length bs → (whether t then suc (feeds bs) else feeds bs) ≤ suc (length bs)
     go true h = omega arith
     go false h = omega arith
 
@@ -165,7 +165,7 @@ module _ (e : Edition) where
   breaks_under b bs = go (eqb b 10) refl (eqb b 13 && end_next e Fresh bs) (taken_most (quoting Fresh b) bs)
     where
       go : (t : Bool) → eqb b 10 ≡ t → (u : Bool) → feeds (take (line_length e (quoting Fresh b) bs) bs) ≤ line_room e (quoting Fresh b) bs
-          → feeds (take (if t && true then 0 else if u then 0 else suc (line_length e (quoting Fresh b) bs)) (b ∷ bs)) < (if t && true then 1 else suc (line_room e (quoting Fresh b) bs))
+          → feeds (take (whether t && true then 0 else whether u then 0 else suc (line_length e (quoting Fresh b) bs)) (b ∷ bs)) < (whether t && true then 1 else suc (line_room e (quoting Fresh b) bs))
       go true p u h = omega (arith, feeds_most [])
       go false p true h = omega (arith, feeds_most [])
       go false p false h = omega (arith, feeds_unfed b (take (line_length e (quoting Fresh b) bs) bs) p)

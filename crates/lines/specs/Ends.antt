@@ -1,7 +1,7 @@
 -- Where the lines of a text end.
 -- Inner: no promise and no contract of a public function speaks of it.
 use Rattle.std.specs.Prelude.{List, [], ◌∷◌, ◌≡◌, Bool, true, false, ◌&&◌, ℕ, suc, ◌+◌, ◌<◌, eqb, drop, length}
-use Rattle.words.specs.Words.{Bytes, if◌then◌else◌}
+use Rattle.words.specs.Words.{Bytes, whether◌then◌else◌}
 use Rattle.editions.specs.declared.Edition.{Edition}
 use Rattle.cells.specs.declared.State.{State}
 use Rattle.cells.specs.declared.State.TheVariants.{Fresh}
@@ -13,28 +13,28 @@ use Rattle.lines.specs.declared.Line.{Line}
 -- the length of the first line of a slip, and how many bytes it has together with its line end
 unfoldable pub slip_length : Bytes → ℕ
 slip_length [] = 0
-slip_length (b ∷ bs) = if eqb b 10 then 0 else suc (slip_length bs)
+slip_length (b ∷ bs) = whether eqb b 10 then 0 else suc (slip_length bs)
 
 unfoldable pub slip_room : Bytes → ℕ
 slip_room [] = 0
-slip_room (b ∷ bs) = if eqb b 10 then 1 else suc (slip_room bs)
+slip_room (b ∷ bs) = whether eqb b 10 then 1 else suc (slip_room bs)
 
 -- a table's lines -----------------------------------------------------------------------------------------------------------
 
 -- how many bytes stand before the line feed that ends a row whose quotes stand so, or before the text's end
 unfoldable pub feed_from : Edition → State → Bytes → ℕ
 feed_from e s [] = 0
-feed_from e s (b ∷ bs) = if ends_row e s b then 0 else suc (feed_from e (quoting s b) bs)
+feed_from e s (b ∷ bs) = whether ends_row e s b then 0 else suc (feed_from e (quoting s b) bs)
 
 -- "A line's length leaves its line end out"
 unfoldable pub line_length : Edition → State → Bytes → ℕ
 line_length e s [] = 0
-line_length e s (b ∷ bs) = if ends_row e s b then 0 else if eqb b 13 && end_next e s bs then 0 else suc (line_length e (quoting s b) bs)
+line_length e s (b ∷ bs) = whether ends_row e s b then 0 else whether eqb b 13 && end_next e s bs then 0 else suc (line_length e (quoting s b) bs)
 
 -- together with its line end
 unfoldable pub line_room : Edition → State → Bytes → ℕ
 line_room e s [] = 0
-line_room e s (b ∷ bs) = if ends_row e s b then 1 else suc (line_room e (quoting s b) bs)
+line_room e s (b ∷ bs) = whether ends_row e s b then 1 else suc (line_room e (quoting s b) bs)
 
 -- the line that begins at a place of a text: where it ends, and where the next one begins
 abbrev pub line_at : Edition → Bytes → ℕ → Line

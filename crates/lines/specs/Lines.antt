@@ -1,6 +1,6 @@
 -- The lines of a text.
 use Rattle.std.specs.Prelude.{List, [], ◌∷◌, Bool, false, not, ◌&&◌, ◌||◌, ℕ, zero, suc, ◌+◌, eqb, ltb, length}
-use Rattle.words.specs.Words.{Bytes, if◌then◌else◌}
+use Rattle.words.specs.Words.{Bytes, whether◌then◌else◌}
 use Rattle.editions.specs.declared.Edition.{Edition}
 use Rattle.editions.specs.declared.Edition.TheVariants.{Dino21, Dino23}
 use Rattle.cells.specs.Cells.{kind, next, inside, breakable}
@@ -21,7 +21,7 @@ resumed s Plain = Plain
 resumed s Inside = Inside
 resumed s Closed = Closed
 resumed s Over = Fresh
-resumed s Fault = if inside s then Inside else Plain
+resumed s Fault = whether inside s then Inside else Plain
 
 -- how the quotes of a row stand behind one more byte
 abbrev pub quoting : State → ℕ → State
@@ -57,8 +57,8 @@ end_next e s (b ∷ bs) = ends_row e s b
 unfoldable pub lines_from : Edition → State → Bytes → List Bytes
 lines_from e s [] = []
 lines_from e s (b ∷ bs) =
-    if ends_row e s b then [] ∷ lines_from e Fresh bs
-    else if eqb b 13 && end_next e s bs then lines_from e s bs
+    whether ends_row e s b then [] ∷ lines_from e Fresh bs
+    else whether eqb b 13 && end_next e s bs then lines_from e s bs
     else from (quoting s b) (λ t. onto b (lines_from e t bs))
 
 abbrev pub lines : Edition → Bytes → List Bytes
@@ -67,7 +67,7 @@ lines e s = lines_from e Fresh s
 -- a slip's lines: "each ended by a line feed (the last may lack it)"; a carriage return is a byte as any other
 unfoldable pub slip_lines : Bytes → List Bytes
 slip_lines [] = []
-slip_lines (b ∷ bs) = if eqb b 10 then [] ∷ slip_lines bs else onto b (slip_lines bs)
+slip_lines (b ∷ bs) = whether eqb b 10 then [] ∷ slip_lines bs else onto b (slip_lines bs)
 
 -- "Line 1 is the header." "A text of length 0 counts as one header line with one empty cell."
 abbrev pub head_line : List Bytes → Bytes
@@ -84,7 +84,7 @@ row_lines (l ∷ ls) = ls
 -- how many line feeds stand in a row
 unfoldable pub feeds : Bytes → ℕ
 feeds [] = 0
-feeds (b ∷ bs) = if eqb b 10 then suc (feeds bs) else feeds bs
+feeds (b ∷ bs) = whether eqb b 10 then suc (feeds bs) else feeds bs
 
 -- how many breaks: by 2.1 none does
 abbrev pub breaks : Edition → Bytes → ℕ
@@ -102,14 +102,14 @@ starts_on e line i (l ∷ ls) = eqb i line || starts_on e line (line_after e i l
 
 unfoldable pub row_on : Edition → ℕ → ℕ → List Bytes → Bytes
 row_on e line i [] = []
-row_on e line i (l ∷ ls) = if eqb i line then l else row_on e line (line_after e i l) ls
+row_on e line i (l ∷ ls) = whether eqb i line then l else row_on e line (line_after e i l) ls
 
 -- where line i of a text begins, counted from 1: behind the line feed that ends the one before
 unfoldable pub line_start : ℕ → Bytes → ℕ
 line_start zero s = 0
 line_start (suc zero) s = 0
 line_start (suc (suc i)) [] = 0
-line_start (suc (suc i)) (b ∷ bs) = suc (if eqb b 10 then line_start (suc i) bs else line_start (suc (suc i)) bs)
+line_start (suc (suc i)) (b ∷ bs) = suc (whether eqb b 10 then line_start (suc i) bs else line_start (suc (suc i)) bs)
 
 -- sizes ---------------------------------------------------------------------------------------------------------------------------
 

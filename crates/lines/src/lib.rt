@@ -2,7 +2,7 @@
 #![tactic(auto)]
 
 ghost use Rattle.std.specs.Prelude.{◌≡◌, not, ◌+◌, ◌<◌, ◌≤◌, ◌^◌, eqb, drop, length};
-ghost use Rattle.words.specs.Words.{if◌then◌else◌};
+ghost use Rattle.words.specs.Words.{whether◌then◌else◌};
 ghost use Rattle.editions.specs.declared.Edition.{Edition};
 ghost use Rattle.cells.specs.Cells.{inside, breakable};
 ghost use Rattle.cells.specs.declared.State.TheVariants.{Fresh};
@@ -204,7 +204,7 @@ pub fn next_slip_line(text: &[u8], at: usize) -> Line
 }
 
 fn feed_counted(b: u8) -> u64
-    ensures { result ≡ (if eqb b 10 then 1 else 0) }
+    ensures { result ≡ (whether eqb b 10 then 1 else 0) }
 {
     if b == LINE_FEED { 1 } else { 0 }
 }

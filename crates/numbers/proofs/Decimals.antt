@@ -9,7 +9,7 @@ use native.Mathlib.Nat.{pow-suc, pow-le-pow_right}
 use lib.ListN.{length, drop, get_or, drop_of_length-le}
 use lib.Dec.{lit<, leb}
 use borrow.Author.Tests.{le-leb, lt-leb, leb-true}
-use Rattle.words.specs.Words.{Bytes, if◌then◌else◌}
+use Rattle.words.specs.Words.{Bytes, whether◌then◌else◌}
 use Rattle.words.proofs.Lists.{drop_step}
 use Rattle.numbers.specs.Numbers.{all_digits, value_from, is_decimal, value}
 use Rattle.numbers.specs.declared.Digits.{Digits}
@@ -18,7 +18,7 @@ use Rattle.numbers.specs.Decimals.{decimal_of}
 
 -- what is read of a number n with the rest of its digits behind it
 abbrev pub read_from : ℕ → Bytes → Digits
-read_from n s = if all_digits s then Value (value_from n s) else Other
+read_from n s = whether all_digits s then Value (value_from n s) else Other
 
 -- by the length alone
 module _ (width : ℕ) (s : Bytes) where
@@ -76,7 +76,7 @@ pub decimal_value : (width : ℕ) (s : Bytes) (v : ℕ) → decimal_of width s �
 unfolding decimal_of
 decimal_value width s v e = go (is_decimal width s) refl e
   where
-    go : (t : Bool) → is_decimal width s ≡ t → (if t then Value (value s) else Other) ≡ Value v → (is_decimal width s ≡ true) × (value s ≡ v)
+    go : (t : Bool) → is_decimal width s ≡ t → (whether t then Value (value s) else Other) ≡ Value v → (is_decimal width s ≡ true) × (value s ≡ v)
     go true p q = (p, cc)
     go false p q = let w : ◌≡◌ {A = ℕ} 0 1 = cc in absurd (omega arith)
 

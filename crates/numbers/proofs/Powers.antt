@@ -10,7 +10,7 @@ use lib.ListN.{length, get_or, drop, take, set, length-set}
 use lib.Seq.{take_all}
 use lib.Dec.{leb}
 use borrow.Author.Tests.{leb-true, leb-false, lt-leb}
-use Rattle.words.specs.Words.{Bytes, if◌then◌else◌}
+use Rattle.words.specs.Words.{Bytes, whether◌then◌else◌}
 use Rattle.words.proofs.Lists.{drop_step}
 use Rattle.numbers.specs.Numbers.{decimal}
 use Rattle.numbers.specs.Powers.{powers_from, powers_of_ten}
@@ -46,7 +46,7 @@ told a l true e = leb-true a l e
 told a l false e = leb-false a l e
 
 abbrev one : Bool → ℕ
-one b = if b then 1 else 0
+one b = whether b then 1 else 0
 
 -- the multiples that are reached, added up
 pub three_multiples : (a l x y z : ℕ) → l < a * 4 → x ≡ one (leb a l) → y ≡ one (leb (a * 2) l) → z ≡ one (leb (a * 3) l) → Times a l (x + y + z)

@@ -2,7 +2,7 @@
 #![tactic(auto)]
 
 ghost use Rattle.std.specs.Prelude.{◌≡◌, ◌≤◌, ◌<◌, ◌+◌, ◌*◌, ◌^◌, length, leb};
-ghost use Rattle.words.specs.Words.{if◌then◌else◌};
+ghost use Rattle.words.specs.Words.{whether◌then◌else◌};
 ghost use Rattle.numbers.specs.Decimals.{decimal_of};
 ghost use Rattle.numbers.specs.Numbers.{decimal};
 ghost use Rattle.numbers.specs.Powers.{powers_of_ten};
@@ -109,7 +109,7 @@ pub fn powers_of_ten() -> Powers
 
 // 1 where an amount is reached, 0 where it is not: a number to add up, nothing to branch on.
 fn reached(amount: u64, left: u64) -> u64
-    ensures { (result ≡ (if leb amount left then 1 else 0)) × (result ≤ 1) }
+    ensures { (result ≡ (whether leb amount left then 1 else 0)) × (result ≤ 1) }
 {
     if amount <= left { 1 } else { 0 }
 }

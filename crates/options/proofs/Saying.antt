@@ -6,7 +6,7 @@ use Prim.Native.Nat.{ℕ}
 use native.Mathlib.Omega.{arith}
 use Rattle.std.specs.Prelude.{nat_eq}
 use Rattle.std.specs.Cmp.Lexicographic.{pointwise, same_text, other_text}
-use Rattle.words.specs.Words.{Bytes, if◌then◌else◌, same, bytes}
+use Rattle.words.specs.Words.{Bytes, whether◌then◌else◌, same, bytes}
 use Rattle.words.proofs.Lists.{same_refl, same_true}
 use Rattle.numbers.specs.Numbers.{is_decimal, value}
 use Rattle.numbers.specs.Decimals.{decimal_of}
@@ -42,6 +42,6 @@ module _ (word : Bytes) where
   unfolding decimal_of
   day_other e = go (is_decimal 8 word) e
     where
-      go : (t : Bool) → ◌≡◌ {A = Digits} (if t then Value (value word) else Other) Other → 0 ≡ (if t then value word else 0)
+      go : (t : Bool) → ◌≡◌ {A = Digits} (whether t then Value (value word) else Other) Other → 0 ≡ (whether t then value word else 0)
       go true q = let w : ◌≡◌ {A = ℕ} 0 1 = cc in absurd (omega arith)
       go false q = refl

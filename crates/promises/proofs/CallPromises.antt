@@ -7,7 +7,7 @@ use native.Mathlib.Omega.{arith}
 use lib.ListN.{length, length-replicate, length-append, length-drop, take, drop}
 use lib.Dec.{eqb, ltb}
 use borrow.Author.Tests.{eq-eqb, ne_eqb, eqb-true, ltb-false, le-ltb, lt-ltb}
-use Rattle.words.specs.Words.{Row, Bytes, if◌then◌else◌}
+use Rattle.words.specs.Words.{Row, Bytes, whether◌then◌else◌}
 use Rattle.words.proofs.Lists.{and_left, take_seam}
 use Rattle.refusals.specs.declared.Place.{Place}
 use Rattle.refusals.specs.declared.Verdict.TheVariants.{Refused, Accepted}
@@ -217,7 +217,7 @@ day_length n d s book work = go (work_sized work)
     read = read_call n d book
 
     day : Bool → Outcome
-    day q = if q then then_slip read.verdict s read.book work else outcome (nowhere bad_loan) (emptied book) work
+    day q = whether q then then_slip read.verdict s read.book work else outcome (nowhere bad_loan) (emptied book) work
 
     go : (q : Bool) → (length (day q).book ≡ length book) × (length (day q).work ≡ length work)
     go true = let l = then_length read.verdict s read.book work in (l.0 ∙ read_length n d book, l.1)

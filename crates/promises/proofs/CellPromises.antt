@@ -8,7 +8,7 @@ use lib.ListN.{length, get_or, take, replicate, length-map, get_or-append, get_o
 use lib.Dec.{eqb, ltb}
 use lib.Seq.{get_or-take, length-take-le}
 use borrow.Author.Tests.{ne_eqb, le-ltb}
-use Rattle.words.specs.Words.{Bytes, Row, if◌then◌else◌}
+use Rattle.words.specs.Words.{Bytes, Row, whether◌then◌else◌}
 use Rattle.refusals.proofs.Chaining.{both}
 use Rattle.refusals.specs.declared.Check.TheVariants.{Passes}
 use Rattle.refusals.specs.Verdicts.{◌⊳◌, ◌when◌, ◌before◌, placed, too_many_rows, cell_count}
@@ -232,7 +232,7 @@ module _ (e : Edition) (t : Table) (s : Bytes) (i n : ℕ) (checked : Checked e 
       ∙ ap (λ (k : ℕ). cell_said (column_at e t k).rules.sort begin (cell_at e t s at (suc n))) m
       ∙ ap (λ (z : Sort). cell_said z begin (cell_at e t s at (suc n))) (kept_decimal e t n kept)
       ∙ ap (λ (z : Bytes). cell_said Decimal begin z) cell_same
-      ∙ ap (λ (q : Bool). if q then Cell.Empty else Number (value (content cell))) some
+      ∙ ap (λ (q : Bool). whether q then Cell.Empty else Number (value (content cell))) some
       ∙ ap (λ (z : ℕ). Number z) (sym (row_number kept))
 
   cell_answered : n < kept_width t → table_cell e t s at (suc n) ≡ answered Accepted (Number (column (suc n) (row_read e t (header_of e t s) line)))

@@ -9,7 +9,7 @@ use lib.Dec.{eqb, ltb}
 use lib.ListN.{length, take}
 use lib.Seq.{take_all}
 use borrow.Author.Tests.{ltb-false, eqb-true, not-false, eq-eqb}
-use Rattle.words.specs.Words.{Bytes, if◌then◌else◌}
+use Rattle.words.specs.Words.{Bytes, whether◌then◌else◌}
 use Rattle.refusals.proofs.Chaining.{both}
 use Rattle.refusals.specs.Verdicts.{◌when◌, in_text, text_too_long, ◌⊳◌, ◌before◌, placed, in_header, length_differs}
 use Rattle.refusals.specs.declared.Check.{Check}
@@ -210,7 +210,7 @@ part_stopped t a n p [] = (n, refl)
 part_stopped t a n p (x ∷ s) = go (ltb n a) (part_stopped t a (counted (suc n)) p s)
   where
     go : (q : Bool) → (m : ℕ) × (part_taken s (hears t a (counted (suc n)) (stopped p)) ≡ hears t a m (stopped p))
-        → (m : ℕ) × (part_taken s (hears t a (counted (suc n)) (if q then stopped p else stopped p)) ≡ hears t a m (stopped p))
+        → (m : ℕ) × (part_taken s (hears t a (counted (suc n)) (whether q then stopped p else stopped p)) ≡ hears t a m (stopped p))
     go true h = h
     go false h = h
 
@@ -234,7 +234,7 @@ fault_answers t a n p ps =
     subst (λ (r : Result). MayAnswer t p (verdict_of r)) (sym e) (go (eqb p.table (number t)) refl (ltb most_bytes a) (not (eqb a k.0)))
   where
     go : (q : Bool) → eqb p.table (number t) ≡ q → (u v : Bool) →
-        MayAnswer t p (verdict_of (if not q then refused p else unless (in_text (number t) (text_too_long when u ⊳ length_differs when v)) (refused p)))
+        MayAnswer t p (verdict_of (whether not q then refused p else unless (in_text (number t) (text_too_long when u ⊳ length_differs when v)) (refused p)))
     go true e true v = inr (eqb-true p.table (number t) e, inr refl)
     go true e false true = inr (eqb-true p.table (number t) e, inl refl)
     go true e false false = inl refl

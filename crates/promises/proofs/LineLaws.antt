@@ -6,7 +6,7 @@ use Prim.Native.Nat.{ℕ}
 use native.Mathlib.Omega.{arith}
 use lib.Dec.{eqb, ltb}
 use borrow.Author.Tests.{not-true}
-use Rattle.words.specs.Words.{Bytes, if◌then◌else◌}
+use Rattle.words.specs.Words.{Bytes, whether◌then◌else◌}
 use Rattle.words.proofs.Lists.{and_left, and_right}
 use Rattle.editions.specs.declared.Edition.{Edition}
 use Rattle.editions.specs.declared.Edition.TheVariants.{Dino21, Dino23}
@@ -31,7 +31,7 @@ EachUnbroken (l ∷ ls) = Unbroken l × EachUnbroken ls
 unquoted_on : (s : State) (b : ℕ) → inside s ≡ false → eqb b 34 ≡ false → inside (quoting s b) ≡ false
 unquoted_on s b h n = rw n (go s (eqb b 59) (ltb b 32 || eqb b 127) h)
   where
-    go : (q : State) (m c : Bool) → inside q ≡ false → inside (resumed q (next q (if m then Semicolon else if c then Control else Other))) ≡ false
+    go : (q : State) (m c : Bool) → inside q ≡ false → inside (resumed q (next q (whether m then Semicolon else whether c then Control else Other))) ≡ false
     go Fresh true c k = refl
     go Fresh false true k = refl
     go Fresh false false k = refl

@@ -8,7 +8,7 @@ use native.Mathlib.Omega.{arith}
 use lib.ListN.{length, get_or, take}
 use lib.Dec.{eqb, leb, ltb}
 use borrow.Author.Tests.{eq-eqb, ne_eqb, eqb-true, lt-ltb, ltb-true, ltb-false, le-leb, leb-true}
-use Rattle.words.specs.Words.{Bytes, Row, if◌then◌else◌}
+use Rattle.words.specs.Words.{Bytes, Row, whether◌then◌else◌}
 use Rattle.words.proofs.Lists.{and_left, and_right, every}
 use Rattle.refusals.specs.declared.Check.{Check}
 use Rattle.refusals.specs.declared.Check.TheVariants.{Passes, Fails}
@@ -71,9 +71,9 @@ missing_required k (x ∷ cols) h m = go x.rules.required refl (member (suc k) h
     go : (q : Bool) → x.rules.required ≡ q → (p : Bool) →
         (0 < missing_from (suc (suc k)) cols h →
         (suc k < missing_from (suc (suc k)) cols h) × ((get_or cols (missing_from (suc (suc k)) cols h - suc (suc k)) no_column).rules.required ≡ true)) →
-        0 < (if q && not p then suc k else missing_from (suc (suc k)) cols h) →
-        (k < (if q && not p then suc k else missing_from (suc (suc k)) cols h))
-        × ((get_or (x ∷ cols) ((if q && not p then suc k else missing_from (suc (suc k)) cols h) - suc k) no_column).rules.required ≡ true)
+        0 < (whether q && not p then suc k else missing_from (suc (suc k)) cols h) →
+        (k < (whether q && not p then suc k else missing_from (suc (suc k)) cols h))
+        × ((get_or (x ∷ cols) ((whether q && not p then suc k else missing_from (suc (suc k)) cols h) - suc k) no_column).rules.required ≡ true)
     go true e true ih m = on (ih m)
     go true e false ih m = (omega arith, rw here e)
     go false e p ih m = on (ih m)
@@ -194,7 +194,7 @@ module _ (e : Edition) (xs : List Numbered) (t : Table)
           by_sort_lem w Text h = refl
 
           by_length_lem : (z w : Bool) → ltb x.width (length s) ≡ w
-              → given xs (if z then cell_empty (1 + i) when x.required else (cell_too_long (1 + i) when w ⊳ said_check x.sort (1 + i) x s)) ≡ true
+              → given xs (whether z then cell_empty (1 + i) when x.required else (cell_too_long (1 + i) when w ⊳ said_check x.sort (1 + i) x s)) ≡ true
           by_length_lem true w f = given_when xs 19 (1 + i) x.required (λ h. bare (1 + i) (rw (this, h, lt-ltb 0 (1 + i) (omega arith))))
           by_length_lem false true f = long (1 + i) (column_any e t (1 + i) (omega arith) (omega arith))
           by_length_lem false false f = by_sort_lem (ltb-false x.width (length s) f) x.sort refl
@@ -251,7 +251,7 @@ repeated_most e t seen (c ∷ cs) = go (not (eqb k 0) && member k seen) (repeate
     k : ℕ
     k = column_number e t (content c)
 
-    go : (q : Bool) → repeated (k ∷ seen) (header e t cs) ≤ length (columns_of e t) → (if q then k else repeated (k ∷ seen) (header e t cs)) ≤ length (columns_of e t)
+    go : (q : Bool) → repeated (k ∷ seen) (header e t cs) ≤ length (columns_of e t) → (whether q then k else repeated (k ∷ seen) (header e t cs)) ≤ length (columns_of e t)
     go true ih = column_number_most e t (content c)
     go false ih = ih
 
@@ -292,10 +292,10 @@ given_line Delete fs row b =
 -- what is given on a line of a text stands in its place on paper
 module _ (e : Edition) (t : Table) (p : Place) where
   on_paper : (xs : List Numbered) (line : ℕ) → line ≤ suc most_bytes → (among xs p.number p.column ≡ true) × (p.table ≡ number t) × (p.line ≡ line) →
-      (if eqb line 0 then text_numbers else if eqb line 1 then header_numbers e t else row_numbers e t) ≡ xs → given_in e t (paper (Refused p)) ≡ true
+      (whether eqb line 0 then text_numbers else whether eqb line 1 then header_numbers e t else row_numbers e t) ≡ xs → given_in e t (paper (Refused p)) ≡ true
   on_paper xs line n h f = rw (h.2, le-leb line (suc most_bytes) n, f, h.1, eq-eqb (number t) (number t) refl) h.0
 
-  row_line_lem : (line : ℕ) → 2 ≤ line → (if eqb line 0 then text_numbers else if eqb line 1 then header_numbers e t else row_numbers e t) ≡ row_numbers e t
+  row_line_lem : (line : ℕ) → 2 ≤ line → (whether eqb line 0 then text_numbers else whether eqb line 1 then header_numbers e t else row_numbers e t) ≡ row_numbers e t
   row_line_lem line h = rw (ne_eqb line 0 (λ f. omega arith), ne_eqb line 1 (λ f. omega arith))
 
   -- the top of a text: 1 by itself, and else a text that is not too long
@@ -355,7 +355,7 @@ reading_numbered e d p h = go ((delivery_refused e d p).0 h)
         f
 
 slip_on_paper : (e : Edition) (p : Place) (xs : List Numbered) (line : ℕ) → line ≤ suc most_bytes → (among xs p.number p.column ≡ true) × (p.table ≡ 5) × (p.line ≡ line) →
-    (if eqb line 0 then text_numbers else slip_numbers e) ≡ xs → given_in_slip e (paper (Refused p)) ≡ true
+    (whether eqb line 0 then text_numbers else slip_numbers e) ≡ xs → given_in_slip e (paper (Refused p)) ≡ true
 slip_on_paper e p xs line n h f = rw (h.2, le-leb line (suc most_bytes) n, f, h.1) h.0
 
 -- a slip's lines too leave the book its edition
@@ -413,7 +413,7 @@ among_near (x ∷ xs) n k h e = go (eqb n x.number) refl (among_near xs n k h.1)
     near = h.0
 
     go : (q : Bool) → eqb n x.number ≡ q → (among xs n k ≡ true → (n ≤ 99) × (k ≤ suc most_bytes)) →
-        (if q then x.column k else among xs n k) ≡ true → (n ≤ 99) × (k ≤ suc most_bytes)
+        (whether q then x.column k else among xs n k) ≡ true → (n ≤ 99) × (k ≤ suc most_bytes)
     go true f ih e = (omega (arith, eqb-true n x.number f, near.number), near.column k e)
     go false f ih e = ih e
 
@@ -493,18 +493,18 @@ paper_bounded home p xs h e =
     let m = among_near xs p.number p.column h k.2 in
     record { number = m.0; table = eqb-true p.table home k.1; line = leb-true p.line (suc most_bytes) k.0; column = m.1 }
 
-by_line : (e : Edition) (t : Table) (line : ℕ) → EachNear (if eqb line 0 then text_numbers else if eqb line 1 then header_numbers e t else row_numbers e t)
+by_line : (e : Edition) (t : Table) (line : ℕ) → EachNear (whether eqb line 0 then text_numbers else whether eqb line 1 then header_numbers e t else row_numbers e t)
 by_line e t line = go (eqb line 0) (eqb line 1)
   where
-    go : (p q : Bool) → EachNear (if p then text_numbers else if q then header_numbers e t else row_numbers e t)
+    go : (p q : Bool) → EachNear (whether p then text_numbers else whether q then header_numbers e t else row_numbers e t)
     go true q = text_near
     go false true = header_near e t
     go false false = row_near e t
 
-slip_by_line : (e : Edition) (line : ℕ) → EachNear (if eqb line 0 then text_numbers else slip_numbers e)
+slip_by_line : (e : Edition) (line : ℕ) → EachNear (whether eqb line 0 then text_numbers else slip_numbers e)
 slip_by_line e line = go (eqb line 0)
   where
-    go : (p : Bool) → EachNear (if p then text_numbers else slip_numbers e)
+    go : (p : Bool) → EachNear (whether p then text_numbers else slip_numbers e)
     go true = text_near
     go false = slip_near e
 

@@ -9,7 +9,7 @@ use lib.ListN.{take, length, drop, length-map, length-append}
 use lib.Dec.{lit<}
 use lib.Seq.{length-take-le, take_at}
 use borrow.Author.Tests.{le-ltb, eq-eqb}
-use Rattle.words.specs.Words.{if◌then◌else◌, Bytes, Row}
+use Rattle.words.specs.Words.{whether◌then◌else◌, Bytes, Row}
 use Rattle.words.proofs.Lists.{and_left, and_right}
 use Rattle.refusals.proofs.Chaining.{both}
 use Rattle.refusals.specs.declared.Check.TheVariants.{Passes}
@@ -46,7 +46,7 @@ use Rattle.promises.proofs.LineLaws.{Unbroken, EachUnbroken, unbroken_append, un
 
 unfoldable pub required_of : List Column → List Column
 required_of [] = []
-required_of (x ∷ xs) = if x.rules.required then x ∷ required_of xs else required_of xs
+required_of (x ∷ xs) = whether x.rules.required then x ∷ required_of xs else required_of xs
 
 abbrev pub plain_names : Table → Bytes
 plain_names t = parted 59 (map (λ x. x.name) (required_of (columns_of Dino21 t)))

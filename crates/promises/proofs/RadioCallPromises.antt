@@ -6,7 +6,7 @@ use mathlib.Core.Logic.{⊎_elim}
 use Prim.Native.Nat.{ℕ}
 use native.Mathlib.Omega.{arith}
 use lib.ListN.{length}
-use Rattle.words.specs.Words.{Bytes, if◌then◌else◌, same, all}
+use Rattle.words.specs.Words.{Bytes, whether◌then◌else◌, same, all}
 use Rattle.words.proofs.Lists.{and_left}
 use Rattle.refusals.specs.Verdicts.{nowhere, not_there, bad_loan}
 use Rattle.refusals.specs.declared.Place.{Place}
@@ -89,12 +89,12 @@ refusal_stays c s p v n = go (keeps_radio s) refl v
     k : Radio
     k = radio_in s
 
-    turn : (q : Bool) → in_turn c k ≡ q → keeps_radio s ≡ true → (if q then said c (after c k) else nowhere not_there) ≡ Refused p → laid_out (after c k) ≡ s
+    turn : (q : Bool) → in_turn c k ≡ q → keeps_radio s ≡ true → (whether q then said c (after c k) else nowhere not_there) ≡ Refused p → laid_out (after c k) ≡ s
     turn true f e w = let l = said_lawful c k p (radio_kept c k (handed s e).lawful) w in absurd (⊎_elim (λ m. unlisted p l m refl) (λ m. unlisted p l m refl) n)
     turn false f e w = ap laid_out (out_of_turn c k f).0 ∙ sym (handed s e).is
 
-    go : (q : Bool) → keeps_radio s ≡ q → (if q then outcome (answer c k) (laid_out (after c k)) else outcome (nowhere bad_loan) s).verdict ≡ Refused p
-        → (if q then outcome (answer c k) (laid_out (after c k)) else outcome (nowhere bad_loan) s).slices ≡ s
+    go : (q : Bool) → keeps_radio s ≡ q → (whether q then outcome (answer c k) (laid_out (after c k)) else outcome (nowhere bad_loan) s).verdict ≡ Refused p
+        → (whether q then outcome (answer c k) (laid_out (after c k)) else outcome (nowhere bad_loan) s).slices ≡ s
     go true e w = turn (in_turn c k) refl e w
     go false e w = refl
 

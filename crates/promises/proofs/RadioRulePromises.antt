@@ -7,7 +7,7 @@ use native.Mathlib.Omega.{arith}
 use lib.Dec.{eqb, ltb}
 use lib.ListN.{length, length-append}
 use borrow.Author.Tests.{ltb-true, ltb-false, ne_eqb, eqb-true}
-use Rattle.words.specs.Words.{Bytes, Row, if◌then◌else◌}
+use Rattle.words.specs.Words.{Bytes, Row, whether◌then◌else◌}
 use Rattle.words.proofs.Lists.{and_left, and_right, every}
 use Rattle.refusals.specs.Verdicts.{◌⊳◌, ◌when◌, placed, in_text, text_too_long, too_many_rows, line_too_long, length_differs}
 use Rattle.refusals.specs.declared.Check.{Check}
@@ -94,7 +94,7 @@ unfolding among
 among_listed [] ys n k h e = never (sym e)
 among_listed (x ∷ xs) ys n k h e = go (eqb n x.number) refl (among_listed xs ys n k (and_right (member x.number ys) (every (λ x. member x.number ys) xs) h)) e
   where
-    go : (q : Bool) → eqb n x.number ≡ q → (among xs n k ≡ true → member n ys ≡ true) → (if q then x.column k else among xs n k) ≡ true → member n ys ≡ true
+    go : (q : Bool) → eqb n x.number ≡ q → (among xs n k ≡ true → member n ys ≡ true) → (whether q then x.column k else among xs n k) ≡ true → member n ys ≡ true
     go true f ih e = ap (λ (m : ℕ). member m ys) (eqb-true n x.number f) ∙ and_left (member x.number ys) (every (λ x. member x.number ys) xs) h
     go false f ih e = ih e
 
@@ -174,7 +174,7 @@ line_lawful t n b i head rest line l k = go (eqb i 1) refl
         is_lawful t (suc n) (entered t (row_read ed t (header_in ed t head) line) b) (line_after ed i line) head []
         (record { book = lawful_entered t (header_in ed t head) line b k.book e; some = omega (arith, line_after_lem ed i line); few = omega (arith, line_before ed i line, l, k.few); top = same_head q; short = omega arith }))
 
-    go : (q : Bool) → eqb i 1 ≡ q → lawful_course t (suc n) (if q then head_heard t line b else row_heard t line b i head) ≡ true
+    go : (q : Bool) → eqb i 1 ≡ q → lawful_course t (suc n) (whether q then head_heard t line b else row_heard t line b i head) ≡ true
     go true e = top
     go false e = row e
 
@@ -187,7 +187,7 @@ long_lawful t n b i head line l = go (eqb i 1)
     row true c = table_listed t
     row false c = table_listed t
 
-    go : (q : Bool) → lawful_course t n (if q then head_heard t line b else row_heard t line b i head) ≡ true
+    go : (q : Bool) → lawful_course t n (whether q then head_heard t line b else row_heard t line b i head) ≡ true
     go true = rw (long_headed b.edition t line l) (table_listed t)
     go false = rw (long_judged t (header_in b.edition t head) line b l) (row (full t b) _)
 
@@ -197,7 +197,7 @@ byte_lawful t n x (stopped p) e = e
 byte_lawful t n x (going b i head rest) e = go (ends_line b.edition rest x) (ltb (length rest) kept_line) refl (kept t n b i head rest e)
   where
     go : (q u : Bool) → ltb (length rest) kept_line ≡ u → Kept t n b i head rest →
-        lawful_course t (suc n) (if q then line_heard t (ended rest) b i head else if u then going b i head (rest ++ (x ∷ [])) else line_heard t (rest ++ (x ∷ [])) b i head) ≡ true
+        lawful_course t (suc n) (whether q then line_heard t (ended rest) b i head else whether u then going b i head (rest ++ (x ∷ [])) else line_heard t (rest ++ (x ∷ [])) b i head) ≡ true
     go true u f k = line_lawful t n b i head rest (ended rest) (ended_short rest) k
     go false true f k =
         is_lawful t (suc n) b i head (rest ++ (x ∷ []))
@@ -208,9 +208,9 @@ byte_lawful t n x (going b i head rest) e = go (ends_line b.edition rest x) (ltb
 
 byte_keeps : (x : ℕ) (k : Radio) → lawful_radio k ≡ true → lawful_radio (byte_taken x k) ≡ true
 byte_keeps x (awaits t r) e = e
-byte_keeps x (hears t a n c) e = of_heard t a (counted (suc n)) (if ltb n a then byte_heard t x c else c) (go (ltb n a) refl (heard_of t a n c e))
+byte_keeps x (hears t a n c) e = of_heard t a (counted (suc n)) (whether ltb n a then byte_heard t x c else c) (go (ltb n a) refl (heard_of t a n c e))
   where
-    go : (q : Bool) → ltb n a ≡ q → Heard t a n c → Heard t a (counted (suc n)) (if q then byte_heard t x c else c)
+    go : (q : Bool) → ltb n a ≡ q → Heard t a n c → Heard t a (counted (suc n)) (whether q then byte_heard t x c else c)
     go true f h =
         record {
           announced = h.announced;
@@ -236,7 +236,7 @@ unfolding finished
 finished_lawful t n (stopped p) e = e
 finished_lawful t n (going b i head rest) e = go (not (eqb i 1) && none rest) (kept t n b i head rest e)
   where
-    go : (q : Bool) → Kept t n b i head rest → lawful_result (if q then leaves b else came_to (line_heard t rest b i head)) ≡ true
+    go : (q : Bool) → Kept t n b i head rest → lawful_result (whether q then leaves b else came_to (line_heard t rest b i head)) ≡ true
     go true k = k.book
     go false k = course_result t (suc n) (line_heard t rest b i head) (line_lawful t n b i head rest rest (omega arith) k)
 
@@ -244,7 +244,7 @@ closing_lawful : (t : Table) (a n : ℕ) (c : Course) → lawful_course t n c �
 unfolding closing
 closing_lawful t a n c e = go (fault_before t c)
   where
-    go : (q : Bool) → lawful_result (if q then came_to c else unless (in_text (number t) (length_check a n)) (finished t c)) ≡ true
+    go : (q : Bool) → lawful_result (whether q then came_to c else unless (in_text (number t) (length_check a n)) (finished t c)) ≡ true
     go true = course_result t n c e
     go false = text_lawful t (ltb most_bytes a) (not (eqb a n)) (finished t c) (finished_lawful t n c e)
 

@@ -5,7 +5,7 @@ use mathlib.Core.List.{List, [], ◌∷◌, map}
 use Prim.Native.Nat.{ℕ, ◌+◌, suc, ◌≤◌, zero, ◌<◌}
 use native.Mathlib.Omega.{arith}
 use lib.ListN.{length, get_or}
-use Rattle.words.specs.Words.{Row, if◌then◌else◌, Bytes, same}
+use Rattle.words.specs.Words.{Row, whether◌then◌else◌, Bytes, same}
 use Rattle.words.proofs.Lists.{same_true, same_refl}
 use Rattle.refusals.specs.Verdicts.{placed, place, ◌when◌, nowhere, not_there}
 use Rattle.refusals.specs.declared.Check.{Check}
@@ -48,7 +48,7 @@ abbrev both_stand : ℕ → Row → List Row → List Row → Bool
 both_stand k key xs ys = stands k key xs || stands k key ys
 
 abbrev both_found : ℕ → Row → List Row → List Row → Row
-both_found k key xs ys = if stands k key xs then found k key xs else found k key ys
+both_found k key xs ys = whether stands k key xs then found k key xs else found k key ys
 
 find_fresh : (k : ℕ) (key row : Row) (xs ys : List Row) → stands k row xs ≡ false →
     (both_stand k key (inserted k row xs) ys ≡ both_stand k key xs (row ∷ ys)) × (both_found k key (inserted k row xs) ys ≡ both_found k key xs (row ∷ ys))

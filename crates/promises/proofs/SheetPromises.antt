@@ -8,7 +8,7 @@ use native.Mathlib.Nat.{mul-suc}
 use lib.ListN.{length, take, drop, replicate, length-append}
 use lib.Dec.{leb}
 use borrow.Author.Tests.{eq-eqb, ne_eqb, le-ltb}
-use Rattle.words.specs.Words.{Row, Bytes, bytes, all, if◌then◌else◌}
+use Rattle.words.specs.Words.{Row, Bytes, bytes, all, whether◌then◌else◌}
 use Rattle.words.proofs.Lists.{and_left, and_right, take_seam}
 use Rattle.refusals.specs.declared.Place.{Place}
 use Rattle.refusals.specs.declared.Verdict.{Verdict}
@@ -92,7 +92,7 @@ wrong_day_loan_stays n d s book work = (
     stays i = rw (ne_eqb (length book) book_rows i)
 
     day : Bool → Outcome
-    day q = if q then then_slip (read_call n d book).verdict s (read_call n d book).book work else outcome (nowhere bad_loan) (emptied book) work
+    day q = whether q then then_slip (read_call n d book).verdict s (read_call n d book).book work else outcome (nowhere bad_loan) (emptied book) work
 
     wrong_book : (length book ≡ book_rows → ⊥) → (q : Bool) → ((day q).verdict ≡ nowhere bad_loan) × ((day q).book ≡ book)
     wrong_book i true =
@@ -191,7 +191,7 @@ total_most b weight most v n h [] e = omega arith
 total_most b weight most v n h (x ∷ xs) e =
     go (of_type v n x) (h x (and_left (lawful Block b x) (all (lawful Block b) xs) e)) (total_most b weight most v n h xs (and_right (lawful Block b x) (all (lawful Block b) xs) e))
   where
-    go : (q : Bool) → weight x ≤ most → total weight v n xs ≤ most * length xs → (if q then weight x else 0) + total weight v n xs ≤ most * suc (length xs)
+    go : (q : Bool) → weight x ≤ most → total weight v n xs ≤ most * length xs → (whether q then weight x else 0) + total weight v n xs ≤ most * suc (length xs)
     go true w ih = omega (arith, mul-suc most (length xs))
     go false w ih = omega (arith, mul-suc most (length xs))
 

@@ -7,7 +7,7 @@ use Prim.Native.Nat.{◌+◌, ℕ, ◌<◌, suc}
 use native.Mathlib.Omega.{arith}
 use lib.ListN.{length, get_or}
 use borrow.Author.Tests.{lt-leb}
-use Rattle.words.specs.Words.{Bytes, Row, if◌then◌else◌}
+use Rattle.words.specs.Words.{Bytes, Row, whether◌then◌else◌}
 use Rattle.words.proofs.Lists.{and_left, and_right}
 use Rattle.refusals.specs.Verdicts.{◌⊳◌, ◌when◌, placed, too_many_rows, passes, ends_early, no_block, place, in_text, text_too_long, nowhere, not_there}
 use Rattle.refusals.specs.declared.Check.{Check}
@@ -217,7 +217,7 @@ module _ {X : Type 0} (f : List Row → X) (does : Bytes → Book → Bool)
 -- the blocks of a type, in their order: a row of another type that comes or goes leaves them as they are
 unfoldable pub type_rows : ℕ → ℕ → List Row → List Row
 type_rows v n [] = []
-type_rows v n (x ∷ xs) = if of_type v n x then x ∷ type_rows v n xs else type_rows v n xs
+type_rows v n (x ∷ xs) = whether of_type v n x then x ∷ type_rows v n xs else type_rows v n xs
 
 module _ (v n : ℕ) (row : Row) where
   rows_inserted : (xs : List Row) → of_type v n row ≡ false → type_rows v n (inserted 4 row xs) ≡ type_rows v n xs

@@ -4,7 +4,7 @@ use native.Mathlib.Omega.{arith}
 use mathlib.Core.Path.{◌≡◌, refl, ap, sym, ◌∙◌}
 use mathlib.Core.Bool.{Bool, true, false, not}
 use mathlib.Core.List.{List, [], ◌∷◌, ◌++◌, append_assoc}
-use Rattle.words.specs.Words.{Bytes, Row, if◌then◌else◌}
+use Rattle.words.specs.Words.{Bytes, Row, whether◌then◌else◌}
 use Rattle.refusals.proofs.Chaining.{both}
 use Rattle.refusals.specs.Verdicts.{◌⊳◌, ◌when◌, place, in_text, text_too_long, too_many_rows, ends_early, key_stands, no_block, nowhere, not_there}
 use Rattle.refusals.specs.declared.Check.{Check}
@@ -74,11 +74,11 @@ module _ (many : List Row → ℕ) (h : Weighs many) where
 -- the row of each key behind it
 line_said : (b : Book) (l : Bytes) (key : Row) → rising 4 b.blocks ≡ true → slip_check l b ≡ Passes →
     found 4 key (slip_leaves l b).blocks
-    ≡ (if same_key 4 key (row_in l) then says (wish (fields l)) (row_in l) (found 4 key b.blocks) else found 4 key b.blocks)
+    ≡ (whether same_key 4 key (row_in l) then says (wish (fields l)) (row_in l) (found 4 key b.blocks) else found 4 key b.blocks)
 line_said b l key up p = go (same_key 4 key (row_in l)) refl
   where
     go : (q : Bool) → same_key 4 key (row_in l) ≡ q →
-        found 4 key (slip_leaves l b).blocks ≡ (if q then says (wish (fields l)) (row_in l) (found 4 key b.blocks) else found 4 key b.blocks)
+        found 4 key (slip_leaves l b).blocks ≡ (whether q then says (wish (fields l)) (row_in l) (found 4 key b.blocks) else found 4 key b.blocks)
     go true e =
         found_key 4 key (row_in l) e (slip_leaves l b).blocks
         ∙ own_found (wish (fields l)) (row_in l) b up (stood (numbers (fields l)) (row_in l) b (wish (fields l)) p)
@@ -146,10 +146,10 @@ taken_more i (l ∷ ls) ms b c e = rw (taken_more (suc i) ls ms (slip_leaves l b
 said_more : (key : Row) (ls ms : List Bytes) (old : Row) → last_said key (ls ++ ms) old ≡ last_said key ms (last_said key ls old)
 unfolding last_said
 said_more key [] ms old = refl
-said_more key (l ∷ ls) ms old = said_more key ls ms (if same_key 4 key (row_in l) then says (wish (fields l)) (row_in l) old else old)
+said_more key (l ∷ ls) ms old = said_more key ls ms (whether same_key 4 key (row_in l) then says (wish (fields l)) (row_in l) old else old)
 
 abbrev lines_of : Result → Bytes → List Bytes
-lines_of r s = if accepted r then slip_lines s else []
+lines_of r s = whether accepted r then slip_lines s else []
 
 run_stores : (many : List Row → ℕ) → Weighs many → RunStores run many
 unfolding run honoured all_taken all_brought

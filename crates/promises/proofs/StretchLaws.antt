@@ -8,7 +8,7 @@ use lib.ListN.{take, drop, take-append-drop, length}
 use lib.Seq.{drop-append-add, drop-drop, take-append-le}
 use lib.Dec.{eqb, ltb}
 use borrow.Author.Tests.{eqb-true, ltb-true, ltb-false}
-use Rattle.words.specs.Words.{Bytes, if◌then◌else◌}
+use Rattle.words.specs.Words.{Bytes, whether◌then◌else◌}
 use Rattle.words.proofs.Lists.{take_seam}
 use Rattle.editions.specs.declared.Edition.{Edition}
 use Rattle.lines.specs.Lines.{lines, head_line, row_lines, line_after, line_start, row_on}
@@ -64,7 +64,7 @@ row_stands e line s (l ∷ ls) i at low k is =
     go (eqb i line) refl b (row_stands e line s ls (line_after e i l) b.next (omega (arith, line_after_lem e i l)) b.start b.rest)
   where
     go : (q : Bool) → eqb i line ≡ q → Behind e s i at l ls → Begins (drop (line_start line s) s) (row_on e line (line_after e i l) ls)
-        → Begins (drop (line_start line s) s) (if q then l else row_on e line (line_after e i l) ls)
+        → Begins (drop (line_start line s) s) (whether q then l else row_on e line (line_after e i l) ls)
     go true q b ih =
         let there : at ≡ line_start line s = k ∙ ap (λ (n : ℕ). line_start n s) (eqb-true i line q) in
         subst (λ (n : ℕ). Begins (drop n s) l) there b.here

@@ -7,7 +7,7 @@ use native.Mathlib.Omega.{arith}
 use lib.ListN.{length, take, drop}
 use lib.Dec.{eqb}
 use borrow.Author.Tests.{eqb-true}
-use Rattle.words.specs.Words.{Bytes, if◌then◌else◌}
+use Rattle.words.specs.Words.{Bytes, whether◌then◌else◌}
 use Rattle.refusals.specs.declared.Cell.TheVariants.{Empty}
 use Rattle.refusals.specs.declared.Cell.TheVariants as cell-is
 use Rattle.refusals.specs.declared.Verdict.{Verdict}
@@ -46,16 +46,16 @@ said_stretch : (s cell : Bytes) (at : ℕ) → Begins (drop at s) cell → stret
 said_stretch s cell at b = go (eqb (length (content cell)) 0) refl (quoted cell) refl
   where
     go : (e : Bool) → eqb (length (content cell)) 0 ≡ e → (q : Bool) → quoted cell ≡ q → stretch_of s (cell_said Text at cell) ≡ stretch cell
-    go true e q f = ap (λ (z : Bool). stretch_of s (if z then Empty else said Text at cell)) e ∙ sym (empty_stretch cell (eqb-true (length (content cell)) 0 e))
-    go false e true f = ap (λ (z : Bool). stretch_of s (if z then Empty else said Text at cell)) e ∙ rw f (quoted_stretch s cell at f b)
-    go false e false f = ap (λ (z : Bool). stretch_of s (if z then Empty else said Text at cell)) e ∙ rw f (plain_stretch s cell at b)
+    go true e q f = ap (λ (z : Bool). stretch_of s (whether z then Empty else said Text at cell)) e ∙ sym (empty_stretch cell (eqb-true (length (content cell)) 0 e))
+    go false e true f = ap (λ (z : Bool). stretch_of s (whether z then Empty else said Text at cell)) e ∙ rw f (quoted_stretch s cell at f b)
+    go false e false f = ap (λ (z : Bool). stretch_of s (whether z then Empty else said Text at cell)) e ∙ rw f (plain_stretch s cell at b)
 
 -- a text names no edition
 text_meant : (e : Edition) (equip : Bool) (at : ℕ) (cell : Bytes) → meant e equip (cell_said Text at cell) ≡ cell_said Text at cell
 text_meant e false at cell = refl
 text_meant e true at cell = go (eqb (length (content cell)) 0) (quoted cell)
   where
-    go : (none q : Bool) → let c : Cell = if none then Empty else if q then cell-is.Text (at + 1) (length cell - 2) else cell-is.Text at (length cell) in meant e true c ≡ c
+    go : (none q : Bool) → let c : Cell = whether none then Empty else whether q then cell-is.Text (at + 1) (length cell - 2) else cell-is.Text at (length cell) in meant e true c ≡ c
     go true q = refl
     go false true = refl
     go false false = refl

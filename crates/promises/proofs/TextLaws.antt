@@ -8,7 +8,7 @@ use native.Mathlib.Omega.{arith}
 use lib.ListN.{length, get_or}
 use lib.Dec.{eqb}
 use borrow.Author.Tests.{eq-eqb, ne_eqb}
-use Rattle.words.specs.Words.{Bytes, if◌then◌else◌}
+use Rattle.words.specs.Words.{Bytes, whether◌then◌else◌}
 use Rattle.editions.specs.declared.Edition.{Edition}
 use Rattle.editions.specs.declared.Edition.TheVariants.{Dino21, Dino23}
 use Rattle.lines.specs.Lines.{lines, lines_from, quoting, ends_row, end_next, onto, head_line, row_lines, slip_lines, line_after, breaks, feeds, row_on, starts_on}
@@ -33,7 +33,7 @@ unfolding slip_lines
 slip_lines_few [] = omega arith
 slip_lines_few (b ∷ bs) = go (eqb b 10) (slip_lines_few bs)
   where
-    go : (feed : Bool) → length (slip_lines bs) ≤ length bs → length (if feed then [] ∷ slip_lines bs else onto b (slip_lines bs)) ≤ suc (length bs)
+    go : (feed : Bool) → length (slip_lines bs) ≤ length bs → length (whether feed then [] ∷ slip_lines bs else onto b (slip_lines bs)) ≤ suc (length bs)
     go true h = omega arith
     go false h = onto_few b (slip_lines bs) (length bs) h
 
@@ -55,7 +55,7 @@ module _ (e : Edition) where
   line_within q (b ∷ bs) i = rw (from_on (quoting q b) (λ t. onto b (lines_from e t bs))) (go (ends_row e q b) (eqb b 13 && end_next e q bs) i (λ t. line_within t bs))
     where
       go : (feed return : Bool) (i : ℕ) → ((t : State) (j : ℕ) → length (get_or (lines_from e t bs) j []) ≤ length bs)
-          → length (get_or (if feed then [] ∷ lines_from e Fresh bs else if return then lines_from e q bs else onto b (lines_from e (quoting q b) bs)) i []) ≤ suc (length bs)
+          → length (get_or (whether feed then [] ∷ lines_from e Fresh bs else whether return then lines_from e q bs else onto b (lines_from e (quoting q b) bs)) i []) ≤ suc (length bs)
       go true return zero h = omega arith
       go true return (suc i) h = omega (arith, h Fresh i)
       go false true i h = omega (arith, h q i)
@@ -111,7 +111,7 @@ unfolding feeds
 breaks_onto Dino21 b l = inl refl
 breaks_onto Dino23 b l = go (eqb b 10)
   where
-    go : (t : Bool) → ((if t then suc (feeds l) else feeds l) ≡ feeds l) ⊎ ((if t then suc (feeds l) else feeds l) ≡ suc (feeds l))
+    go : (t : Bool) → ((whether t then suc (feeds l) else feeds l) ≡ feeds l) ⊎ ((whether t then suc (feeds l) else feeds l) ≡ suc (feeds l))
     go true = inr refl
     go false = inl refl
 
@@ -149,7 +149,7 @@ module _ (e : Edition) where
       rw on (go (ends_row e q b) (eqb b 13 && end_next e q bs) j (λ m t. starts_few m t bs) (rw on at h))
     where
       go : (feed return : Bool) (j : ℕ) → ((m : ℕ) (t : State) (k : ℕ) → k < length (lines_from e t bs) → start_of e m (lines_from e t bs) k ≤ m + length bs)
-          → let ls = if feed then [] ∷ lines_from e Fresh bs else if return then lines_from e q bs else onto b (lines_from e (quoting q b) bs) in
+          → let ls = whether feed then [] ∷ lines_from e Fresh bs else whether return then lines_from e q bs else onto b (lines_from e (quoting q b) bs) in
           j < length ls → start_of e i ls j ≤ i + suc (length bs)
       go true return zero ih h = omega arith
       go true return (suc j) ih h = omega (arith, ap (λ (x : ℕ). start_of e x (lines_from e Fresh bs) j) (bare_after i), ih (suc i) Fresh j (omega arith))

@@ -4,7 +4,7 @@ use native.Mathlib.Omega.{arith}
 use mathlib.Core.Path.{◌≡◌, refl}
 use mathlib.Core.Bool.{Bool, true, false}
 use mathlib.Core.List.{List, [], ◌∷◌, ◌++◌}
-use Rattle.words.specs.Words.{Row, if◌then◌else◌, same}
+use Rattle.words.specs.Words.{Row, whether◌then◌else◌, same}
 use Rattle.rows.specs.declared.Order.{Order}
 use Rattle.rows.specs.declared.Order.TheVariants.{Less, Same, More}
 use Rattle.rows.specs.Rows.{key_order, same_key, stands, found, inserted, replaced, removed}
@@ -19,11 +19,11 @@ pub record Weighs (many : List Row → ℕ) : Type 0 where
 
 pub copies_weighs : (row : Row) → Weighs (copies row)
 unfolding copies
-copies_weighs row = record { one = λ x. if same row x then 1 else 0; nothing = refl; more = λ x xs. refl }
+copies_weighs row = record { one = λ x. whether same row x then 1 else 0; nothing = refl; more = λ x xs. refl }
 
 pub total_weighs : (weight : Row → ℕ) (version type : ℕ) → Weighs (total weight version type)
 unfolding total
-total_weighs weight version type = record { one = λ x. if of_type version type x then weight x else 0; nothing = refl; more = λ x xs. refl }
+total_weighs weight version type = record { one = λ x. whether of_type version type x then weight x else 0; nothing = refl; more = λ x xs. refl }
 
 module _ (many : List Row → ℕ) (h : Weighs many) where
   pub many_more : (xs ys : List Row) → many (xs ++ ys) ≡ many xs + many ys

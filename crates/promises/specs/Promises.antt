@@ -1,6 +1,6 @@
 -- The three demands, as statements over the definitions. Each is a type; whoever has an element of it has a proof.
 use Rattle.std.specs.Prelude.{◌≡◌, List, [], ◌∷◌, map, ◌++◌, ◌↔◌, ◌⊎◌, false, true, not, Bool, ◌&&◌, ◌||◌, ◌≤◌, ℕ, zero, suc, ◌<◌, ◌+◌, ◌-◌, ◌^◌, Float, length, replicate, get_or, take, drop, eqb, ltb, leb}
-use Rattle.words.specs.Words.{Bytes, Row, if◌then◌else◌, same}
+use Rattle.words.specs.Words.{Bytes, Row, whether◌then◌else◌, same}
 use Rattle.refusals.specs.declared.Place.{Place}
 use Rattle.refusals.specs.declared.Verdict.TheVariants.{Refused, Accepted}
 use Rattle.refusals.specs.declared.Verdict.{Verdict}
@@ -197,20 +197,20 @@ slip_numbers e =
 -- the number is one of these, and names such a column
 unfoldable pub among : List Numbered → ℕ → ℕ → Bool
 among [] n k = false
-among (x ∷ xs) n k = if eqb n x.number then x.column k else among xs n k
+among (x ∷ xs) n k = whether eqb n x.number then x.column k else among xs n k
 
 -- a refusal on paper: number, table, line, column. In a text of table t, by its line, of which a text has no more than bytes
 abbrev pub given_in : Edition → Table → List ℕ → Bool
 given_in e t p =
     let line = get_or p 2 0 in
-    let numbers = if eqb line 0 then text_numbers else if eqb line 1 then header_numbers e t else row_numbers e t in
+    let numbers = whether eqb line 0 then text_numbers else whether eqb line 1 then header_numbers e t else row_numbers e t in
     leb line (suc most_bytes) && eqb (get_or p 1 0) (number t) && among numbers (get_or p 0 0) (get_or p 3 0)
 
 -- in a slip, whose table number is 5
 abbrev pub given_in_slip : Edition → List ℕ → Bool
 given_in_slip e p =
     let line = get_or p 2 0 in
-    let numbers = if eqb line 0 then text_numbers else slip_numbers e in
+    let numbers = whether eqb line 0 then text_numbers else slip_numbers e in
     leb line (suc most_bytes) && eqb (get_or p 1 0) 5 && among numbers (get_or p 0 0) (get_or p 3 0)
 
 -- a reading gives no other number at no other place
@@ -418,7 +418,7 @@ text_of Calendar d = d.days
 -- how many of the rows are this row
 unfoldable pub copies : Row → List Row → ℕ
 copies row [] = 0
-copies row (x ∷ xs) = (if same row x then 1 else 0) + copies row xs
+copies row (x ∷ xs) = (whether same row x then 1 else 0) + copies row xs
 
 -- the book of an accepted delivery holds exactly the rows of its texts, by rising key
 abbrev pub RowsExactly : Type 0
@@ -594,7 +594,7 @@ SlipStores many = (b c : Book) (s : Bytes) → posting s b ≡ leaves c →
 -- the lines of the accepted slips of a run, "some refused"
 unfoldable pub honoured : List Bytes → Book → List Bytes
 honoured [] b = []
-honoured (s ∷ ss) b = (if accepted (posting s b) then slip_lines s else []) ++ honoured ss (posted s b)
+honoured (s ∷ ss) b = (whether accepted (posting s b) then slip_lines s else []) ++ honoured ss (posted s b)
 
 -- each accepted slip of a run is stored, not the first one alone. `behind` is the book behind a run: said of any, as above
 abbrev pub RunStores : (List Bytes → Book → Book) → (List Row → ℕ) → Type 0
@@ -621,7 +621,7 @@ says Delete row old = []
 -- what lines say of a key: the last of them that has it decides; where none has it, the row is the old one
 unfoldable pub last_said : Row → List Bytes → Row → Row
 last_said key [] old = old
-last_said key (l ∷ ls) old = last_said key ls (if same_key 4 key (row_in l) then says (wish (fields l)) (row_in l) old else old)
+last_said key (l ∷ ls) old = last_said key ls (whether same_key 4 key (row_in l) then says (wish (fields l)) (row_in l) old else old)
 
 -- behind an accepted slip each key has the row that the slip's lines say, and behind a run the row that its accepted slips say
 abbrev pub SlipSaid : Type 0

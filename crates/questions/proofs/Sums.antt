@@ -10,7 +10,7 @@ use lib.Dec.{eqb}
 use lib.ListN.{length, get_or, take, drop, drop_of_length-le}
 use lib.Seq.{get_or-take}
 use borrow.Author.Tests.{ne_eqb, eq-eqb}
-use Rattle.words.specs.Words.{Row, same, if◌then◌else◌}
+use Rattle.words.specs.Words.{Row, same, whether◌then◌else◌}
 use Rattle.words.proofs.Lists.{and_left, and_right, drop_step}
 use Rattle.refusals.specs.Verdicts.{passes}
 use Rattle.rows.specs.Rows.{wide}
@@ -77,13 +77,13 @@ module _ (weight : Row → ℕ) (version type : ℕ) (rs : List Row) (most : ℕ
   pub summed_none : Summed weight version type rs most 0 0
   summed_none = record { bound = omega arith; whole = omega arith }
 
-  share_most : (here : Bool) (w : ℕ) → (if here then w else 0) ≤ w
+  share_most : (here : Bool) (w : ℕ) → (whether here then w else 0) ≤ w
   share_most true w = omega arith
   share_most false w = omega arith
 
   module _ (i sum : ℕ) (sofar : Summed weight version type rs most i sum) where
     pub summed_next : i < length rs → (row : Row) → row ≡ get_or rs i [] → (here : Bool) → here ≡ of_type version type row
-        → (d : ℕ) → d ≡ (if here then weight row else 0) → weight row ≤ most → Summed weight version type rs most (i + 1) (sum + d)
+        → (d : ℕ) → d ≡ (whether here then weight row else 0) → weight row ≤ most → Summed weight version type rs most (i + 1) (sum + d)
     unfolding total
     summed_next h row e here f d g m =
         let l : d ≤ weight row = rw g (share_most here (weight row)) in

@@ -1,6 +1,6 @@
 -- What the book is asked.
 use Rattle.std.specs.Prelude.{Bool, ◌&&◌, List, [], ◌∷◌, ℕ, ◌+◌, eqb}
-use Rattle.words.specs.Words.{Row, if◌then◌else◌}
+use Rattle.words.specs.Words.{Row, whether◌then◌else◌}
 use Rattle.rows.specs.Rows.{column}
 use Rattle.rules.specs.Rules.{seconds}
 
@@ -11,7 +11,7 @@ of_type version type row = eqb (column 1 row) version && eqb (column 5 row) type
 -- what the blocks of a type weigh together
 unfoldable pub total : (Row → ℕ) → ℕ → ℕ → List Row → ℕ
 total weight version type [] = 0
-total weight version type (x ∷ xs) = (if of_type version type x then weight x else 0) + total weight version type xs
+total weight version type (x ∷ xs) = (whether of_type version type x then weight x else 0) + total weight version type xs
 
 -- "seconds and count of its blocks"
 abbrev pub seconds_of : ℕ → ℕ → List Row → ℕ

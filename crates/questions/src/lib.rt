@@ -2,7 +2,7 @@
 #![tactic(auto)]
 
 ghost use Rattle.std.specs.Prelude.{◌≡◌, true, [], ◌∷◌};
-ghost use Rattle.words.specs.Words.{if◌then◌else◌};
+ghost use Rattle.words.specs.Words.{whether◌then◌else◌};
 ghost use Rattle.refusals.specs.Verdicts.{nowhere};
 ghost use Rattle.rows.specs.Rows.{wide, found};
 ghost use Rattle.rows.specs.Spots.{row_of};
@@ -52,7 +52,7 @@ pub fn of_type(row: Row, version: u64, number: u64) -> bool
 
 // What a block adds: its weight where it is of the type.
 fn share(here: bool, weight: u64) -> u64
-    ensures { result ≡ (if here then weight else 0) }
+    ensures { result ≡ (whether here then weight else 0) }
 {
     if here { weight } else { 0 }
 }

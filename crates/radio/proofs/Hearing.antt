@@ -7,7 +7,7 @@ use native.Mathlib.Omega.{arith}
 use lib.Dec.{eqb, ltb}
 use lib.ListN.{length, length-append}
 use borrow.Author.Tests.{ltb-true, ltb-false, lt-ltb, le-ltb, eq-eqb, ne_eqb}
-use Rattle.words.specs.Words.{Bytes, if◌then◌else◌}
+use Rattle.words.specs.Words.{Bytes, whether◌then◌else◌}
 use Rattle.refusals.specs.Verdicts.{◌⊳◌, ◌when◌, placed, in_header, too_many_rows, line_too_long}
 use Rattle.refusals.specs.declared.Place.{Place}
 use Rattle.refusals.specs.declared.Check.{Check}
@@ -68,7 +68,7 @@ pub long_stops : (t : Table) (l : Bytes) (b : Book) (i : ℕ) (head : Bytes) →
 unfolding line_heard
 long_stops t l b i head n = go (eqb i 1)
   where
-    go : (q : Bool) → Stops (if q then head_heard t l b else row_heard t l b i head)
+    go : (q : Bool) → Stops (whether q then head_heard t l b else row_heard t l b i head)
     go true = rw (long_headed b.edition t l n) (record { at = _; is = refl })
     go false = rw (long_judged t (header_in b.edition t head) l b n) (stops_row t i (full t b) _)
 
@@ -80,7 +80,7 @@ long_alike t l m b i head n k = go (eqb i 1)
     same true c e = refl
     same false c e = refl
 
-    go : (q : Bool) → (if q then head_heard t l b else row_heard t l b i head) ≡ (if q then head_heard t m b else row_heard t m b i head)
+    go : (q : Bool) → (whether q then head_heard t l b else row_heard t l b i head) ≡ (whether q then head_heard t m b else row_heard t m b i head)
     go true = rw (long_headed b.edition t l n, long_headed b.edition t m k)
     go false = rw (long_judged t (header_in b.edition t head) l b n, long_judged t (header_in b.edition t head) m b k) (same (full t b) _ _)
 
@@ -126,7 +126,7 @@ module _ (t : Table) (head : Bytes) where
       go : (q : Bool) → ends_line b.edition rest x ≡ q → (u : Bool) → ltb (length rest) kept_line ≡ u → IH →
           (length (rest ++ (x ∷ [])) ≤ kept_line → finished t (bytes_heard t s (going b i head (rest ++ (x ∷ [])))) ≡ rows_read t (header_in b.edition t head) i (lines_behind b.edition (rest ++ (x ∷ [])) s) b) →
           finished t (bytes_heard t s (byte_heard t x (going b i head rest)))
-          ≡ rows_read t (header_in b.edition t head) i (if q then ended rest ∷ lines_behind b.edition [] s else lines_behind b.edition (rest ++ (x ∷ [])) s) b
+          ≡ rows_read t (header_in b.edition t head) i (whether q then ended rest ∷ lines_behind b.edition [] s else lines_behind b.edition (rest ++ (x ∷ [])) s) b
       go true e u f ih more = rw (e, row_heard_lem (ended rest) b i two) (row (ended rest) (placed (number t) i (judged t (header_in b.edition t head) (ended rest) b)) ih)
       go false e true f ih more = rw (e, f) (more (rw length-append (omega (arith, ltb-true (length rest) kept_line f))))
       go false e false f ih more =
@@ -166,7 +166,7 @@ module _ (t : Table) (head : Bytes) where
       go : (q : Bool) → ends_line b.edition rest x ≡ q → (u : Bool) → ltb (length rest) kept_line ≡ u →
           (length (rest ++ (x ∷ [])) ≤ kept_line → finished t (bytes_heard t s (going b 1 head (rest ++ (x ∷ [])))) ≡ lines_read t (lines_behind b.edition (rest ++ (x ∷ [])) s) b) →
           finished t (bytes_heard t s (byte_heard t x (going b 1 head rest)))
-          ≡ lines_read t (if q then ended rest ∷ lines_behind b.edition [] s else lines_behind b.edition (rest ++ (x ∷ [])) s) b
+          ≡ lines_read t (whether q then ended rest ∷ lines_behind b.edition [] s else lines_behind b.edition (rest ++ (x ∷ [])) s) b
       go true e u f more = rw (e, head_heard_lem (ended rest) b) (top (ended rest) (in_header (number t) (header_check b.edition t (ended rest))))
       go false e true f more = rw (e, f) (more (rw length-append (omega (arith, ltb-true (length rest) kept_line f))))
       go false e false f more =
@@ -190,7 +190,7 @@ own_line : (t : Table) (line : Bytes) (b : Book) (i : ℕ) (head : Bytes) → fa
 unfolding line_heard
 own_line t line b i head = go (eqb i 1)
   where
-    go : (q : Bool) → fault_before t (if q then head_heard t line b else row_heard t line b i head) ≡ false
+    go : (q : Bool) → fault_before t (whether q then head_heard t line b else row_heard t line b i head) ≡ false
     go true = own_onward t 1 (header_check b.edition t line) b (line_after b.edition 1 line) line []
     go false = own_onward t i (judged t (header_in b.edition t head) line b) _ (line_after b.edition i line) head []
 
@@ -199,7 +199,7 @@ unfolding byte_heard
 own_byte t x (stopped p) e = e
 own_byte t x (going b i head rest) e = go (ends_line b.edition rest x) (ltb (length rest) kept_line)
   where
-    go : (q u : Bool) → fault_before t (if q then line_heard t (ended rest) b i head else if u then going b i head (rest ++ (x ∷ [])) else line_heard t (rest ++ (x ∷ [])) b i head) ≡ false
+    go : (q u : Bool) → fault_before t (whether q then line_heard t (ended rest) b i head else whether u then going b i head (rest ++ (x ∷ [])) else line_heard t (rest ++ (x ∷ [])) b i head) ≡ false
     go true u = own_line t (ended rest) b i head
     go false true = refl
     go false false = own_line t (rest ++ (x ∷ [])) b i head
@@ -224,7 +224,7 @@ module _ (e : Edition) (t : Table) where
   unfolding line_heard
   of_line line b i head o = go (eqb i 1)
     where
-      go : (q : Bool) → Of e (if q then head_heard t line b else row_heard t line b i head)
+      go : (q : Bool) → Of e (whether q then head_heard t line b else row_heard t line b i head)
       go true = of_onward (in_header (number t) (header_check b.edition t line)) (going b (line_after b.edition 1 line) line []) o
       go false =
           let h = header_in b.edition t head in
@@ -235,7 +235,7 @@ module _ (e : Edition) (t : Table) where
   of_byte x (stopped p) o = tt
   of_byte x (going b i head rest) o = go (ends_line b.edition rest x) (ltb (length rest) kept_line)
     where
-      go : (q u : Bool) → Of e (if q then line_heard t (ended rest) b i head else if u then going b i head (rest ++ (x ∷ [])) else line_heard t (rest ++ (x ∷ [])) b i head)
+      go : (q u : Bool) → Of e (whether q then line_heard t (ended rest) b i head else whether u then going b i head (rest ++ (x ∷ [])) else line_heard t (rest ++ (x ∷ [])) b i head)
       go true u = of_line (ended rest) b i head o
       go false true = o
       go false false = of_line (rest ++ (x ∷ [])) b i head o

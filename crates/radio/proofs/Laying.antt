@@ -8,7 +8,7 @@ use lib.Dec.{eqb, ltb}
 use lib.ListN.{length, take, drop, replicate, length-append, length-replicate}
 use lib.Seq.{take-append_seam, drop_at}
 use borrow.Author.Tests.{eq-eqb, ltb-false, ltb-true}
-use Rattle.words.specs.Words.{Bytes, Row, if◌then◌else◌, same}
+use Rattle.words.specs.Words.{Bytes, Row, whether◌then◌else◌, same}
 use Rattle.words.proofs.Lists.{same_refl, same_true, and_left, and_right}
 use Rattle.refusals.specs.Verdicts.{passes, line_too_long}
 use Rattle.lines.specs.Lines.{most_line}
@@ -69,7 +69,7 @@ head_short e t i head k = go (eqb i 1) k
         absurd y
     passed_short false f p = ltb-false most_line (length head) f
 
-    go : (q : Bool) → (if q then none head else passes (header_check e t head)) ≡ true → length head ≤ most_line
+    go : (q : Bool) → (whether q then none head else passes (header_check e t head)) ≡ true → length head ≤ most_line
     go true f = none_short head f
     go false f = passed_short (ltb most_line (length head)) refl f
 

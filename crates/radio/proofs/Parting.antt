@@ -8,7 +8,7 @@ use lib.Dec.{eqb}
 use lib.ListN.{length, length-append}
 use lib.Seq.{append_snoc}
 use borrow.Author.Tests.{eqb-true}
-use Rattle.words.specs.Words.{Bytes, if◌then◌else◌}
+use Rattle.words.specs.Words.{Bytes, whether◌then◌else◌}
 use Rattle.words.proofs.Lists.{and_left}
 use Rattle.editions.specs.declared.Edition.{Edition}
 use Rattle.cells.specs.Cells.{breakable}
@@ -24,7 +24,7 @@ last_line (x ∷ xs) = (x ∷ xs) ∷ []
 
 unfoldable pub lines_behind : Edition → Bytes → Bytes → List Bytes
 lines_behind e rest [] = last_line rest
-lines_behind e rest (x ∷ s) = if ends_line e rest x then ended rest ∷ lines_behind e [] s else lines_behind e (rest ++ (x ∷ [])) s
+lines_behind e rest (x ∷ s) = whether ends_line e rest x then ended rest ∷ lines_behind e [] s else lines_behind e (rest ++ (x ∷ [])) s
 
 -- how the quotes of a row stand behind more of its bytes
 pub behind_more : (q : State) (xs ys : Bytes) → quoting_behind q (xs ++ ys) ≡ quoting_behind (quoting_behind q xs) ys
@@ -72,7 +72,7 @@ module _ (e : Edition) where
   lines_last q [] h = refl
   lines_last q (b ∷ []) h = rw h.0 (go (eqb b 13))
     where
-      go : (u : Bool) → (if u && false then [] else from (quoting q b) (λ t. (b ∷ []) ∷ [])) ≡ (b ∷ []) ∷ []
+      go : (u : Bool) → (whether u && false then [] else from (quoting q b) (λ t. (b ∷ []) ∷ [])) ≡ (b ∷ []) ∷ []
       go true = from_on (quoting q b) (λ t. (b ∷ []) ∷ [])
       go false = from_on (quoting q b) (λ t. (b ∷ []) ∷ [])
   lines_last q (b ∷ (c ∷ cs)) h = lines_on q b c cs h.0 h.1.0 ∙ ap (onto b) (lines_last (quoting q b) (c ∷ cs) h.1)
@@ -83,7 +83,7 @@ module _ (e : Edition) where
   lines_fed q [] x s h k = rw k
   lines_fed q (b ∷ []) x s h k = rw h.0 (go (eqb b 13) refl)
     where
-      go : (u : Bool) → eqb b 13 ≡ u → (if u && ends_row e q x then lines_from e q (x ∷ s) else from (quoting q b) (λ t. onto b (lines_from e t (x ∷ s)))) ≡ (if u then [] else b ∷ []) ∷ lines_from e Fresh s
+      go : (u : Bool) → eqb b 13 ≡ u → (whether u && ends_row e q x then lines_from e q (x ∷ s) else from (quoting q b) (λ t. onto b (lines_from e t (x ∷ s)))) ≡ (whether u then [] else b ∷ []) ∷ lines_from e Fresh s
       go true r = let z : ends_row e q x ≡ true = sym (return_ends e q b x r) ∙ k in rw z
       go false r = from_on (quoting q b) (λ t. onto b (lines_from e t (x ∷ s))) ∙ rw k
   lines_fed q (b ∷ (c ∷ cs)) x s h k = lines_on q b c (cs ++ (x ∷ s)) h.0 h.1.0 ∙ ap (onto b) (lines_fed (quoting q b) (c ∷ cs) x s h.1 k)
@@ -94,7 +94,7 @@ module _ (e : Edition) where
   lines_from_lem rest (x ∷ s) h = go (ends_row e (quoting_behind Fresh rest) x) refl (lines_from_lem [] s tt) (lines_from_lem (rest ++ (x ∷ [])) s)
     where
       go : (t : Bool) → ends_row e (quoting_behind Fresh rest) x ≡ t → lines_behind e [] s ≡ lines e s → (Unfed e Fresh (rest ++ (x ∷ [])) → lines_behind e (rest ++ (x ∷ [])) s ≡ lines e ((rest ++ (x ∷ [])) ++ s))
-          → (if t then ended rest ∷ lines_behind e [] s else lines_behind e (rest ++ (x ∷ [])) s) ≡ lines e (rest ++ (x ∷ s))
+          → (whether t then ended rest ∷ lines_behind e [] s else lines_behind e (rest ++ (x ∷ [])) s) ≡ lines e (rest ++ (x ∷ s))
       go true k f g = ap (λ (l : List Bytes). ended rest ∷ l) f ∙ sym (lines_fed Fresh rest x s h k)
       go false k f g = g (unfed_more Fresh rest x h k) ∙ ap (lines e) (append_snoc rest x s)
 
@@ -109,7 +109,7 @@ unfolding ended
 ended_long [] = omega arith
 ended_long (x ∷ []) = go (eqb x 13)
   where
-    go : (q : Bool) → 1 ≤ suc (length (if q then [] else x ∷ []))
+    go : (q : Bool) → 1 ≤ suc (length (whether q then [] else x ∷ []))
     go true = omega arith
     go false = omega arith
 ended_long (x ∷ (y ∷ ys)) = omega (arith, ended_long (y ∷ ys))
@@ -119,7 +119,7 @@ unfolding ended
 ended_short [] = omega arith
 ended_short (x ∷ []) = go (eqb x 13)
   where
-    go : (q : Bool) → length (if q then [] else x ∷ []) ≤ 1
+    go : (q : Bool) → length (whether q then [] else x ∷ []) ≤ 1
     go true = omega arith
     go false = omega arith
 ended_short (x ∷ (y ∷ ys)) = omega (arith, ended_short (y ∷ ys))
@@ -136,6 +136,6 @@ first_long e [] [] h = absurd (omega arith)
 first_long e (y ∷ ys) [] h = record { line = y ∷ ys; behind = []; is = refl; long = omega arith }
 first_long e rest (x ∷ s) h = go (ends_line e rest x) (first_long e (rest ++ (x ∷ [])) s (rw length-append (omega arith)))
   where
-    go : (q : Bool) → FirstLong (lines_behind e (rest ++ (x ∷ [])) s) → FirstLong (if q then ended rest ∷ lines_behind e [] s else lines_behind e (rest ++ (x ∷ [])) s)
+    go : (q : Bool) → FirstLong (lines_behind e (rest ++ (x ∷ [])) s) → FirstLong (whether q then ended rest ∷ lines_behind e [] s else lines_behind e (rest ++ (x ∷ [])) s)
     go true f = record { line = ended rest; behind = lines_behind e [] s; is = refl; long = omega (arith, ended_long rest) }
     go false f = f

@@ -8,7 +8,7 @@ use lib.Dec.{ltb, leb}
 use lib.ListN.{length, length-append, take, drop, take-append-drop}
 use lib.Seq.{append_snoc, take_all}
 use borrow.Author.Tests.{ltb-true, ltb-false, le-leb, lt-leb}
-use Rattle.words.specs.Words.{Bytes, if◌then◌else◌}
+use Rattle.words.specs.Words.{Bytes, whether◌then◌else◌}
 use Rattle.editions.specs.declared.Edition.{Edition}
 use Rattle.cells.specs.declared.State.{State}
 use Rattle.cells.specs.declared.State.TheVariants.{Fresh}
@@ -34,13 +34,13 @@ over_join t (x ∷ p) q c = over_join t p q (byte_heard t x c)
 
 -- bytes that end no line are kept, or are too many
 pub stretch_over : (t : Table) (l : Bytes) (b : Book) (i : ℕ) (head rest : Bytes) → Unended b.edition rest l → length rest ≤ kept_line →
-    bytes_heard t l (going b i head rest) ≡ (if leb (length (rest ++ l)) kept_line then going b i head (rest ++ l) else line_heard t (rest ++ l) b i head)
+    bytes_heard t l (going b i head rest) ≡ (whether leb (length (rest ++ l)) kept_line then going b i head (rest ++ l) else line_heard t (rest ++ l) b i head)
 unfolding bytes_heard Unended byte_heard
 stretch_over t [] b i head rest h few = rw (append-nil, le-leb (length rest) kept_line few)
 stretch_over t (x ∷ l) b i head rest h few = go (ltb (length rest) kept_line) refl (stretch_over t l b i head (rest ++ (x ∷ [])) h.1)
   where
     whole : Bytes → Course
-    whole s = if leb (length s) kept_line then going b i head s else line_heard t s b i head
+    whole s = whether leb (length s) kept_line then going b i head s else line_heard t s b i head
 
     go : (q : Bool) → ltb (length rest) kept_line ≡ q → (length (rest ++ (x ∷ [])) ≤ kept_line → bytes_heard t l (going b i head (rest ++ (x ∷ []))) ≡ whole ((rest ++ (x ∷ [])) ++ l)) →
         bytes_heard t l (byte_heard t x (going b i head rest)) ≡ whole (rest ++ (x ∷ l))
@@ -83,7 +83,7 @@ module _ (e : Edition) where
   front_unfed q [] = tt
   front_unfed q (x ∷ s) = go (ends_row e q x) refl (front_unfed (quoting q x) s)
     where
-      go : (t : Bool) → ends_row e q x ≡ t → Unfed e (quoting q x) (front e (quoting q x) s) → Unfed e q (take (if t then 0 else suc (feed_from e (quoting q x) s)) (x ∷ s))
+      go : (t : Bool) → ends_row e q x ≡ t → Unfed e (quoting q x) (front e (quoting q x) s) → Unfed e q (take (whether t then 0 else suc (feed_from e (quoting q x) s)) (x ∷ s))
       go true k h = tt
       go false k h = (k, h)
 
@@ -98,8 +98,8 @@ module _ (e : Edition) where
       n : ℕ
       n = feed_from e (quoting q x) s
 
-      go : (t : Bool) → ends_row e q x ≡ t → (if t then 0 else suc n) < suc (length s) → (n < length s → s ≡ take n s ++ (10 ∷ drop (suc n) s)) →
-          x ∷ s ≡ take (if t then 0 else suc n) (x ∷ s) ++ (10 ∷ drop (suc (if t then 0 else suc n)) (x ∷ s))
+      go : (t : Bool) → ends_row e q x ≡ t → (whether t then 0 else suc n) < suc (length s) → (n < length s → s ≡ take n s ++ (10 ∷ drop (suc n) s)) →
+          x ∷ s ≡ take (whether t then 0 else suc n) (x ∷ s) ++ (10 ∷ drop (suc (whether t then 0 else suc n)) (x ∷ s))
       go true k l ih = ap (λ (y : ℕ). y ∷ s) (feed_is e q x k)
       go false k l ih = ap (λ (z : Bytes). x ∷ z) (ih (omega arith))
 
@@ -112,8 +112,8 @@ module _ (e : Edition) where
       n : ℕ
       n = feed_from e (quoting q x) s
 
-      go : (t : Bool) → ends_row e q x ≡ t → (if t then 0 else suc n) < suc (length s) → (n < length s → ends_row e (quoting_behind (quoting q x) (take n s)) 10 ≡ true) →
-          ends_row e (quoting_behind q (take (if t then 0 else suc n) (x ∷ s))) 10 ≡ true
+      go : (t : Bool) → ends_row e q x ≡ t → (whether t then 0 else suc n) < suc (length s) → (n < length s → ends_row e (quoting_behind (quoting q x) (take n s)) 10 ≡ true) →
+          ends_row e (quoting_behind q (take (whether t then 0 else suc n) (x ∷ s))) 10 ≡ true
       go true k l ih = subst (λ (y : ℕ). ends_row e q y ≡ true) (feed_is e q x k) k
       go false k l ih = ih (omega arith)
 
@@ -150,7 +150,7 @@ module _ (t : Table) (s : Bytes) (b : Book) (i : ℕ) (head rest : Bytes) where
       ∙ ap (bytes_heard t (drop feed s)) (stretch_over t before b i head rest unended few ∙ kept_long ∙ k.is)
       ∙ over_stopped t (drop feed s) k.at ∙ sym k.is
     where
-      kept_long : (if leb (length (rest ++ before)) kept_line then going b i head (rest ++ before) else line_heard t (rest ++ before) b i head) ≡ line_heard t (rest ++ before) b i head
+      kept_long : (whether leb (length (rest ++ before)) kept_line then going b i head (rest ++ before) else line_heard t (rest ++ before) b i head) ≡ line_heard t (rest ++ before) b i head
       kept_long = rw (lt-leb (length (rest ++ before)) kept_line h)
 
   -- a line that does not end in the part

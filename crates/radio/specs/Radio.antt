@@ -1,6 +1,6 @@
 -- The delivery by radio: what is kept between parts, and what each call makes of it.
 use Rattle.std.specs.Prelude.{[], ◌∷◌, ◌++◌, Bool, true, false, ◌&&◌, not, ℕ, suc, ltb, eqb, length}
-use Rattle.words.specs.Words.{Bytes, if◌then◌else◌}
+use Rattle.words.specs.Words.{Bytes, whether◌then◌else◌}
 use Rattle.refusals.specs.Verdicts.{◌⊳◌, ◌when◌, placed, in_text, in_header, nowhere, text_too_long, not_there, length_differs}
 use Rattle.refusals.specs.declared.Place.{Place}
 use Rattle.refusals.specs.declared.Check.{Check}
@@ -72,7 +72,7 @@ abbrev pub most_counted : ℕ
 most_counted = suc most_bytes
 
 abbrev pub counted : ℕ → ℕ
-counted n = if ltb most_bytes n then most_counted else n
+counted n = whether ltb most_bytes n then most_counted else n
 
 -- of an unfinished line so many bytes are kept: the last may be a carriage return that is dropped
 abbrev pub kept_line : ℕ
@@ -99,7 +99,7 @@ row_heard t line b i head =
     onward (placed (number t) i (judged t h line b)) (going (entered t (row_read b.edition t h line) b) (line_after b.edition i line) head [])
 
 unfoldable pub line_heard : Table → Bytes → Book → ℕ → Bytes → Course
-line_heard t line b i head = if eqb i 1 then head_heard t line b else row_heard t line b i head
+line_heard t line b i head = whether eqb i 1 then head_heard t line b else row_heard t line b i head
 
 -- whether a byte behind these of a line ends it: "A line feed ends a line"; 2.3: "A row ends at the first line feed outside a cell's quotes"
 unfoldable pub ends_line : Edition → Bytes → ℕ → Bool
@@ -108,7 +108,7 @@ ends_line e rest x = ends_row e (quoting_behind Fresh rest) x
 -- "one carriage return just before it is dropped"
 unfoldable pub ended : Bytes → Bytes
 ended [] = []
-ended (x ∷ []) = if eqb x 13 then [] else x ∷ []
+ended (x ∷ []) = whether eqb x 13 then [] else x ∷ []
 ended (x ∷ (y ∷ ys)) = x ∷ ended (y ∷ ys)
 
 -- a byte of the table: it ends the line, or is kept with it; where no more are kept the line is too long whatever follows, and its 17, or 5, is
@@ -116,8 +116,8 @@ ended (x ∷ (y ∷ ys)) = x ∷ ended (y ∷ ys)
 unfoldable pub byte_heard : Table → ℕ → Course → Course
 byte_heard t x (stopped p) = stopped p
 byte_heard t x (going b i head rest) =
-    if ends_line b.edition rest x then line_heard t (ended rest) b i head
-    else if ltb (length rest) kept_line then going b i head (rest ++ (x ∷ []))
+    whether ends_line b.edition rest x then line_heard t (ended rest) b i head
+    else whether ltb (length rest) kept_line then going b i head (rest ++ (x ∷ []))
     else line_heard t (rest ++ (x ∷ [])) b i head
 
 -- all bytes have come -----------------------------------------------------------------------------------------------------------
@@ -134,7 +134,7 @@ came_to (going b i head rest) = leaves b
 -- empty cell."
 unfoldable pub finished : Table → Course → Result
 finished t (stopped p) = refused p
-finished t (going b i head rest) = if not (eqb i 1) && none rest then leaves b else came_to (line_heard t rest b i head)
+finished t (going b i head rest) = whether not (eqb i 1) && none rest then leaves b else came_to (line_heard t rest b i head)
 
 -- whether a fault of an earlier table stands: it is told by its place
 abbrev pub fault_before : Table → Course → Bool
@@ -143,7 +143,7 @@ fault_before t (going b i head rest) = false
 
 -- what a table comes to when it is closed: "The first fault ends the reading", and 1 or 18 stands "in place of that table's other faults"
 unfoldable pub closing : Table → ℕ → ℕ → Course → Result
-closing t a n c = if fault_before t c then came_to c else unless (in_text (number t) (length_check a n)) (finished t c)
+closing t a n c = whether fault_before t c then came_to c else unless (in_text (number t) (length_check a n)) (finished t c)
 
 -- the calls -------------------------------------------------------------------------------------------------------------------
 
@@ -178,7 +178,7 @@ announced a (over r) = over r
 -- a byte is counted, and read unless all that were announced have come
 abbrev pub byte_taken : ℕ → Radio → Radio
 byte_taken x (awaits t r) = awaits t r
-byte_taken x (hears t a n c) = hears t a (counted (suc n)) (if ltb n a then byte_heard t x c else c)
+byte_taken x (hears t a n c) = hears t a (counted (suc n)) (whether ltb n a then byte_heard t x c else c)
 byte_taken x (over r) = over r
 
 -- "Please take each table in parts, cut anywhere"
@@ -225,4 +225,4 @@ said (part s) k = Accepted
 said close k = verdict_of (standing k)
 
 abbrev pub answer : Call → Radio → Verdict
-answer c k = if in_turn c k then said c (after c k) else nowhere not_there
+answer c k = whether in_turn c k then said c (after c k) else nowhere not_there

@@ -1,6 +1,6 @@
 -- What is kept between parts, in three lent slices: the book, numbers, and lines. "What is kept between parts is no working area".
 use Rattle.std.specs.Prelude.{List, [], ◌∷◌, ◌++◌, Bool, ◌&&◌, ℕ, suc, ◌+◌, ◌-◌, ltb, eqb, length, get_or, take, drop, replicate}
-use Rattle.words.specs.Words.{Bytes, Row, if◌then◌else◌, same}
+use Rattle.words.specs.Words.{Bytes, Row, whether◌then◌else◌, same}
 use Rattle.refusals.specs.Verdicts.{place, nowhere, bad_loan, unknown_edition}
 use Rattle.refusals.specs.declared.Place.{Place}
 use Rattle.refusals.specs.declared.Verdict.{Verdict}
@@ -134,19 +134,19 @@ abbrev pub fault_in : Slices → Place
 fault_in s = place_of s.numbers
 
 abbrev pub result_in : Slices → Result
-result_in s = if eqb (flag_of s.numbers) 0 then leaves (book_of s.book) else refused (fault_in s)
+result_in s = whether eqb (flag_of s.numbers) 0 then leaves (book_of s.book) else refused (fault_in s)
 
 abbrev pub course_in : Slices → Course
 course_in s =
     let ns = s.numbers in
-    if eqb (flag_of ns) 0 then going (book_of s.book) (line_of ns) (take (head_of ns) s.lines) (take (rest_of ns) (drop most_line s.lines))
+    whether eqb (flag_of ns) 0 then going (book_of s.book) (line_of ns) (take (head_of ns) s.lines) (take (rest_of ns) (drop most_line s.lines))
     else stopped (fault_in s)
 
 unfoldable pub radio_in : Slices → Radio
 radio_in s =
     let turn = turn_of s.numbers in
-    if ltb turn all_closed then awaits (table_at turn) (result_in s)
-    else if eqb turn all_closed then over (result_in s)
+    whether ltb turn all_closed then awaits (table_at turn) (result_in s)
+    else whether eqb turn all_closed then over (result_in s)
     else hears (table_at (turn - first_heard)) (announced_of s.numbers) (come_of s.numbers) (course_in s)
 
 -- the rule, and the calls ------------------------------------------------------------------------------------------------------------
@@ -172,7 +172,7 @@ outcome v s = record { verdict = v; slices = s }
 -- "handed in against that rule it is 16, before 15, and stays as it came"
 unfoldable pub radio_call : Call → Slices → Outcome
 radio_call c s =
-    if keeps_radio s then outcome (answer c (radio_in s)) (laid_out (after c (radio_in s)))
+    whether keeps_radio s then outcome (answer c (radio_in s)) (laid_out (after c (radio_in s)))
     else outcome (nowhere bad_loan) s
 
 -- the opening: what the slices held does not matter; "an unknown edition is 22, right after 16", "one lent at another length is 16", and then all
@@ -182,4 +182,4 @@ open_by (Chosen e) s = outcome Accepted (laid_out (start e))
 open_by Unknown s = outcome (nowhere unknown_edition) s
 
 abbrev pub open_call : ℕ → Slices → Outcome
-open_call n s = if fits s then open_by (choice n) s else outcome (nowhere bad_loan) s
+open_call n s = whether fits s then open_by (choice n) s else outcome (nowhere bad_loan) s

@@ -1,6 +1,6 @@
 -- The rule of what is kept between parts: "has a rule of its own, which every call keeps".
 use Rattle.std.specs.Prelude.{Bool, ◌&&◌, List, [], ◌∷◌, map, ℕ, suc, ◌+◌, leb, eqb, length}
-use Rattle.words.specs.Words.{Bytes, if◌then◌else◌}
+use Rattle.words.specs.Words.{Bytes, whether◌then◌else◌}
 use Rattle.refusals.specs.Verdicts.{passes}
 use Rattle.refusals.specs.declared.Place.{Place}
 use Rattle.editions.specs.declared.Edition.{Edition}
@@ -28,7 +28,7 @@ lawful_result (leaves b) = lawful_book b
 
 -- a header line that is kept has passed its checks
 abbrev pub lawful_head : Edition → Table → ℕ → Bytes → Bool
-lawful_head e t i head = if eqb i 1 then none head else passes (header_check e t head)
+lawful_head e t i head = whether eqb i 1 then none head else passes (header_check e t head)
 
 -- no more lines, and bytes behind them, than bytes came; and room for the unfinished line
 abbrev pub lawful_course : Table → ℕ → Course → Bool

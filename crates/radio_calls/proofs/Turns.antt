@@ -7,7 +7,7 @@ use native.Mathlib.Omega.{arith}
 use lib.Dec.{ltb, leb, eqb}
 use lib.ListN.{length, take}
 use borrow.Author.Tests.{eqb-true, eqb-false, ltb-true, ltb-false, leb-true, leb-false, le-leb, lt-leb}
-use Rattle.words.specs.Words.{Bytes, if◌then◌else◌}
+use Rattle.words.specs.Words.{Bytes, whether◌then◌else◌}
 use Rattle.words.proofs.Lists.{and_left, and_right}
 use Rattle.refusals.specs.Verdicts.{nowhere, not_there, bad_loan}
 use Rattle.refusals.specs.declared.Place.{Place}
@@ -100,7 +100,7 @@ pub record LetIn (first last : ℕ) (s : Slices) : Type 0 where
   pub high : turn_of s.numbers ≤ last
 
 abbrev answered : Bool → Bool → Verdict
-answered kept due = if kept then (if due then Accepted else nowhere not_there) else nowhere bad_loan
+answered kept due = whether kept then (whether due then Accepted else nowhere not_there) else nowhere bad_loan
 
 module _ (first last : ℕ) (s : Slices) (v : Verdict) (is : v ≡ admitted first last s) where
   pub let_in : v ≡ Accepted → LetIn first last s

@@ -8,7 +8,7 @@ use lib.Dec.{eqb}
 use lib.ListN.{length, take, drop, length-drop}
 use lib.Seq.{length-take-le, take-append_seam}
 use borrow.Author.Tests.{eq-eqb, ne_eqb}
-use Rattle.words.specs.Words.{Bytes, Row, if◌then◌else◌}
+use Rattle.words.specs.Words.{Bytes, Row, whether◌then◌else◌}
 use Rattle.refusals.specs.Verdicts.{in_text}
 use Rattle.refusals.specs.declared.Place.{Place}
 use Rattle.refusals.specs.declared.Verdict.{Verdict}
@@ -73,7 +73,7 @@ module _ (t : Table) (b : List Row) (k : List ℕ) (l : Bytes) (h : Hears b k l)
     left : none last_one ≡ eqb (rest_of k) 0
     left = none_of last_one ∙ ap (λ (n : ℕ). eqb n 0) (rest_long b k l h e)
 
-    finished_going : (q : Bool) → none_left k ≡ q → finished t (course_in (slices b k l)) ≡ (if q then leaves (book_of b) else came_to (line_heard t last_one (book_of b) (line_of k) (take (head_of k) l)))
+    finished_going : (q : Bool) → none_left k ≡ q → finished t (course_in (slices b k l)) ≡ (whether q then leaves (book_of b) else came_to (line_heard t last_one (book_of b) (line_of k) (take (head_of k) l)))
     unfolding finished
     finished_going q f = ap (finished t) (course_going b k l h e) ∙ rw (left, f)
 
@@ -101,7 +101,7 @@ module _ (t : Table) (b : List Row) (k : List ℕ) (l : Bytes) where
   earlier : fault_before t (course_in (slices b k l)) ≡ earlier_fault (number t) k
   earlier = go (eqb (flag_of k) 0)
     where
-      go : (q : Bool) → fault_before t (if q then hearing.kept (taken k) b l else stopped (fault_in (slices b k l))) ≡ (if q then false else not (eqb (place_of k).table (number t)))
+      go : (q : Bool) → fault_before t (whether q then hearing.kept (taken k) b l else stopped (fault_in (slices b k l))) ≡ (whether q then false else not (eqb (place_of k).table (number t)))
       go true = refl
       go false = refl
 
@@ -109,7 +109,7 @@ module _ (t : Table) (b : List Row) (k : List ℕ) (l : Bytes) where
   unfolding closing
   closed_before f p e = record { is = rw (earlier, f) (go (eqb (flag_of k) 0) f); sound = λ g. let z : ◌≡◌ {A = ℕ} 0 1 = cc in let y : ⊥ = omega arith in absurd y }
     where
-      go : (q : Bool) → (if q then false else not (eqb (place_of k).table (number t))) ≡ true → refused p ≡ came_to (if q then hearing.kept (taken k) b l else stopped (fault_in (slices b k l)))
+      go : (q : Bool) → (whether q then false else not (eqb (place_of k).table (number t))) ≡ true → refused p ≡ came_to (whether q then hearing.kept (taken k) b l else stopped (fault_in (slices b k l)))
       go true g = let z : ◌≡◌ {A = ℕ} 0 1 = cc in let y : ⊥ = omega arith in absurd y
       go false g = ap refused e
 

@@ -1,7 +1,7 @@
 -- What the code of a close asks and leaves.
 -- Inner: no promise and no contract of a public function speaks of it.
 use Rattle.std.specs.Prelude.{◌≡◌, List, Bool, false, not, ◌&&◌, ℕ, eqb}
-use Rattle.words.specs.Words.{Bytes, Row, if◌then◌else◌}
+use Rattle.words.specs.Words.{Bytes, Row, whether◌then◌else◌}
 use Rattle.refusals.specs.declared.Verdict.{Verdict}
 use Rattle.refusals.specs.declared.Verdict.TheVariants.{Accepted}
 use Rattle.book.specs.Holding.{Sound, result_of}
@@ -13,7 +13,7 @@ use Rattle.radio_slices.specs.Hearing.{table_of}
 
 -- a fault is kept, and it is not this table's
 abbrev pub earlier_fault : ℕ → List ℕ → Bool
-earlier_fault table kept = if eqb (flag_of kept) 0 then false else not (eqb (place_of kept).table table)
+earlier_fault table kept = whether eqb (flag_of kept) 0 then false else not (eqb (place_of kept).table table)
 
 -- whether no line is left: "after a final line feed no further line begins", and the header line always is one
 abbrev pub none_left : List ℕ → Bool

@@ -7,7 +7,7 @@ use native.Mathlib.Omega.{arith}
 use lib.ListN.{length, get_or, take, drop, length-append, length-drop, take-append-drop}
 use lib.Seq.{take-append-le, take-take, take-add, take_at, drop_at, drop-drop, length-take-le}
 use borrow.Author.Tests.{eq-eqb, ne_eqb}
-use Rattle.words.specs.Words.{Bytes, if◌then◌else◌}
+use Rattle.words.specs.Words.{Bytes, whether◌then◌else◌}
 use Rattle.numbers.specs.Putting.{put}
 use Rattle.numbers.proofs.Putting.{rest, back, lent}
 use Rattle.editions.specs.declared.Edition.{Edition}
@@ -117,16 +117,16 @@ module _ (e : Edition) where
       q : State
       q = quoting_behind Fresh rest
 
-      go : (t : Bool) → ends_row e q x ≡ t → (if t then 0 else suc (feed_from e (quoting q x) s)) < suc (length s) →
+      go : (t : Bool) → ends_row e q x ≡ t → (whether t then 0 else suc (feed_from e (quoting q x) s)) < suc (length s) →
           (feed_from e (quoting_behind Fresh (rest ++ (x ∷ []))) s < length s → Finished e (rest ++ (x ∷ [])) (take (suc (feed_from e (quoting_behind Fresh (rest ++ (x ∷ []))) s)) s)) →
-          Finished e (if t then [] else rest ++ (x ∷ [])) (take (if t then 0 else suc (feed_from e (quoting q x) s)) s)
+          Finished e (whether t then [] else rest ++ (x ∷ [])) (take (whether t then 0 else suc (feed_from e (quoting q x) s)) s)
       go true k l ih = refl
       go false k l ih = (rw (behind_one Fresh rest x) at ih) (omega arith)
 
   finished_join : (rest xs ys : Bytes) → Finished e rest xs → Finished e [] ys → Finished e rest (xs ++ ys)
   unfolding Finished
   finished_join rest [] ys h k = subst (λ (z : Bytes). Finished e z ys) (sym h) k
-  finished_join rest (x ∷ xs) ys h k = finished_join (if ends_line e rest x then [] else rest ++ (x ∷ [])) xs ys h k
+  finished_join rest (x ∷ xs) ys h k = finished_join (whether ends_line e rest x then [] else rest ++ (x ∷ [])) xs ys h k
 
   -- from a place of a part
   module _ (s : Bytes) (from : ℕ) where

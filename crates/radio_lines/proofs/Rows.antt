@@ -7,7 +7,7 @@ use native.Mathlib.Omega.{arith}
 use lib.Dec.{ltb}
 use lib.ListN.{length, length-append}
 use borrow.Author.Tests.{ltb-true, ltb-false, ne_eqb}
-use Rattle.words.specs.Words.{Bytes, Row, if◌then◌else◌}
+use Rattle.words.specs.Words.{Bytes, Row, whether◌then◌else◌}
 use Rattle.refusals.specs.Verdicts.{◌⊳◌, ◌when◌, placed, too_many_rows, line_too_long}
 use Rattle.refusals.specs.declared.Verdict.{Verdict}
 use Rattle.refusals.specs.declared.Verdict.TheVariants.{Accepted, Refused}
@@ -83,10 +83,10 @@ module _ (t : Table) (head : Bytes) where
       row line Accepted ih f = ih _ (line_after b.edition i line) (omega (arith, line_after_lem b.edition i line)) f
       row line (Refused p) ih f = over_stopped t s p
 
-      go : (q : Bool) → ends_line b.edition rest x ≡ q → (u : Bool) → ltb (length rest) kept_line ≡ u → Finished b.edition (if q then [] else rest ++ (x ∷ [])) s → IH →
+      go : (q : Bool) → ends_line b.edition rest x ≡ q → (u : Bool) → ltb (length rest) kept_line ≡ u → Finished b.edition (whether q then [] else rest ++ (x ∷ [])) s → IH →
           (length (rest ++ (x ∷ [])) ≤ kept_line → Finished b.edition (rest ++ (x ∷ [])) s → bytes_heard t s (going b i head (rest ++ (x ∷ []))) ≡ came (lines_behind b.edition (rest ++ (x ∷ [])) s) i b) →
           bytes_heard t s (byte_heard t x (going b i head rest))
-          ≡ came (if q then ended rest ∷ lines_behind b.edition [] s else lines_behind b.edition (rest ++ (x ∷ [])) s) i b
+          ≡ came (whether q then ended rest ∷ lines_behind b.edition [] s else lines_behind b.edition (rest ++ (x ∷ [])) s) i b
       go true e u f fin ih more = rw (e, row_heard_lem t (ended rest) b i head (λ z. omega arith)) (row (ended rest) (placed (number t) i (judged t (header_in b.edition t head) (ended rest) b)) ih fin)
       go false e true f fin ih more = rw (e, f) (more (rw length-append (omega (arith, ltb-true (length rest) kept_line f))) fin)
       go false e false f fin ih more =

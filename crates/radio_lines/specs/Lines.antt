@@ -1,7 +1,7 @@
 -- What the code keeps of a table between its lines, in a lent book and a lent slice of bytes.
 -- Inner: no promise and no contract of a public function speaks of it.
 use Rattle.std.specs.Prelude.{◌≡◌, List, [], ◌∷◌, ◌++◌, true, ℕ, ◌≤◌, length, take, drop}
-use Rattle.words.specs.Words.{Bytes, Row, if◌then◌else◌}
+use Rattle.words.specs.Words.{Bytes, Row, whether◌then◌else◌}
 use Rattle.refusals.specs.declared.Check.TheVariants.{Passes}
 use Rattle.refusals.specs.declared.Place.{Place}
 use Rattle.refusals.specs.declared.Verdict.{Verdict}
@@ -51,4 +51,4 @@ pub record Stopping (v : Verdict) (c : Course) : Type 0 where
 -- these bytes, behind some of a line, are lines that are finished
 unfoldable pub Finished : Edition → Bytes → Bytes → Type 0
 Finished e rest [] = rest ≡ []
-Finished e rest (x ∷ s) = Finished e (if ends_line e rest x then [] else rest ++ (x ∷ [])) s
+Finished e rest (x ∷ s) = Finished e (whether ends_line e rest x then [] else rest ++ (x ∷ [])) s

@@ -7,7 +7,7 @@ use native.Mathlib.Omega.{arith}
 use lib.Dec.{eqb}
 use lib.ListN.{length, get_or, drop, drop_of_length-le}
 use borrow.Author.Tests.{eq-eqb, ne_eqb, eqb-true}
-use Rattle.words.specs.Words.{if◌then◌else◌}
+use Rattle.words.specs.Words.{whether◌then◌else◌}
 use Rattle.words.proofs.Lists.{drop_step, and_left}
 use Rattle.tables.specs.Columns.{number, numbered}
 use Rattle.tables.specs.Parts.{tables}
@@ -46,7 +46,7 @@ unfolding member
 known_number n = go (eqb n 1) (eqb n 2) (eqb n 3) (eqb n 4) (eqb n 6) (eqb n 7)
   where
     go : (a b c d e f : Bool) →
-        known (if a then Known VehicleType else if b then Known Depot else if c then Known Stop else if d then Known Block else if e then Known StopPoint else if f then Known Calendar else Unknown)
+        known (whether a then Known VehicleType else whether b then Known Depot else whether c then Known Stop else whether d then Known Block else whether e then Known StopPoint else whether f then Known Calendar else Unknown)
         ≡ (a || (b || (c || (e || (d || (f || false))))))
     go true b c d e f = refl
     go false true c d e f = refl
@@ -86,6 +86,6 @@ module _ (ns : List ℕ) where
   pub flag_small : fault_keeps ns ≡ true → fault ns ≤ 1
   flag_small = go (eqb (fault ns) 0) refl
     where
-      go : (q : Bool) → eqb (fault ns) 0 ≡ q → (if q then zeros (stretch 7 11 ns) else eqb (fault ns) 1 && lawful_fault (fault_place ns)) ≡ true → fault ns ≤ 1
+      go : (q : Bool) → eqb (fault ns) 0 ≡ q → (whether q then zeros (stretch 7 11 ns) else eqb (fault ns) 1 && lawful_fault (fault_place ns)) ≡ true → fault ns ≤ 1
       go true e f = let z : fault ns ≡ 0 = eqb-true (fault ns) 0 e in omega arith
       go false e f = let z : fault ns ≡ 1 = eqb-true (fault ns) 1 (and_left (eqb (fault ns) 1) (lawful_fault (fault_place ns)) f) in omega arith

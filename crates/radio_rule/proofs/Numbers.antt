@@ -7,7 +7,7 @@ use native.Mathlib.Omega.{arith}
 use lib.Dec.{eqb, ltb, leb}
 use lib.ListN.{length, get_or, drop, replicate, drop_of_length-le}
 use borrow.Author.Tests.{lt-ltb, le-ltb, le-leb, lt-leb, eq-eqb, ne_eqb, leb-true, ltb-true, ltb-false, eqb-true, eqb-false}
-use Rattle.words.specs.Words.{if◌then◌else◌}
+use Rattle.words.specs.Words.{whether◌then◌else◌}
 use Rattle.words.proofs.Lists.{drop_step, and_left, and_right}
 use Rattle.radio.specs.Room.{first_heard, last_heard}
 use Rattle.radio_rule.specs.Testing.{stretch, zeros, turn, announced, come, line, head_length, rest_length, fault, fault_keeps, course_keeps, heard_keeps, numbers_keep}
@@ -90,7 +90,7 @@ module _ (ns : List ℕ) where
         course_head h = rw (le-leb 1 (line ns) a, le-leb (rest_length ns) 2049 b, le-leb (line ns + rest_length ns) (suc (come ns)) c, lt-leb (head_length ns) 2048 h)
 
         module _ (d : head_length ns ≤ 2048) where
-          course_last : course_keeps ns ≡ (if eqb (line ns) 1 then eqb (head_length ns) 0 else true)
+          course_last : course_keeps ns ≡ (whether eqb (line ns) 1 then eqb (head_length ns) 0 else true)
           course_last = rw (le-leb 1 (line ns) a, le-leb (rest_length ns) 2049 b, le-leb (line ns + rest_length ns) (suc (come ns)) c, le-leb (head_length ns) 2048 d)
 
           pub course_first : line ns ≡ 1 → course_keeps ns ≡ eqb (head_length ns) 0
@@ -106,7 +106,7 @@ pub record Course (ns : List ℕ) : Type 0 where
   pub rest : rest_length ns ≤ 2049
   pub came : line ns + rest_length ns ≤ suc (come ns)
   pub head : head_length ns ≤ 2048
-  pub first : (if eqb (line ns) 1 then eqb (head_length ns) 0 else true) ≡ true
+  pub first : (whether eqb (line ns) 1 then eqb (head_length ns) 0 else true) ≡ true
 
 pub course : (ns : List ℕ) → course_keeps ns ≡ true → Course ns
 course ns e =
@@ -114,7 +114,7 @@ course ns e =
     let b = leb (rest_length ns) 2049 in
     let c = leb (line ns + rest_length ns) (suc (come ns)) in
     let d = leb (head_length ns) 2048 in
-    let f = if eqb (line ns) 1 then eqb (head_length ns) 0 else true in
+    let f = whether eqb (line ns) 1 then eqb (head_length ns) 0 else true in
     let k = and_three (a && b && c) d f e in
     let l = and_three a b c k.0 in
     record { some = leb-true 1 (line ns) l.0; rest = leb-true (rest_length ns) 2049 l.1; came = leb-true (line ns + rest_length ns) (suc (come ns)) l.2; head = leb-true (head_length ns) 2048 k.1; first = k.2 }
@@ -127,7 +127,7 @@ pub record Heard (ns : List ℕ) : Type 0 where
 
 pub heard : (ns : List ℕ) → heard_keeps ns ≡ true → Heard ns
 heard ns e =
-    let f = if eqb (fault ns) 0 then course_keeps ns else zeros (stretch 3 6 ns) in
+    let f = whether eqb (fault ns) 0 then course_keeps ns else zeros (stretch 3 6 ns) in
     let k = and_three (leb (announced ns) 65537) (leb (come ns) 65537) f e in
     record { announced = k.0; came = k.1; going = λ z. course ns (rw (eq-eqb (fault ns) 0 z) at k.2); stopped = λ n. rw (ne_eqb (fault ns) 0 n) at k.2 }
 
@@ -140,7 +140,7 @@ pub record Numbers (ns : List ℕ) : Type 0 where
 pub numbers : (ns : List ℕ) → numbers_keep ns ≡ true → Numbers ns
 unfolding numbers_keep
 numbers ns e =
-    let f = if ltb (turn ns) first_heard then zeros (stretch 1 6 ns) else heard_keeps ns in
+    let f = whether ltb (turn ns) first_heard then zeros (stretch 1 6 ns) else heard_keeps ns in
     let k = and_three (leb (turn ns) last_heard) (fault_keeps ns) f e in
     record { turns = leb-true (turn ns) last_heard k.0; faults = k.1; between = λ h. rw (lt-ltb (turn ns) first_heard h) at k.2; hears = λ h. heard ns (rw (le-ltb (turn ns) first_heard h) at k.2) }
 

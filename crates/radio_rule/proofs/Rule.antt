@@ -7,7 +7,7 @@ use native.Mathlib.Omega.{arith}
 use lib.Dec.{eqb, ltb, leb}
 use lib.ListN.{length, get_or, take, drop, replicate}
 use borrow.Author.Tests.{lt-ltb, le-ltb, le-leb, eq-eqb, ne_eqb, ltb-true, ltb-false, eqb-true, eqb-false, leb-true}
-use Rattle.words.specs.Words.{Bytes, Row, if◌then◌else◌, same}
+use Rattle.words.specs.Words.{Bytes, Row, whether◌then◌else◌, same}
 use Rattle.words.proofs.Lists.{and_left, and_right, same_refl, same_true}
 use Rattle.refusals.specs.Verdicts.{passes, place}
 use Rattle.rows.specs.Room.{same_rows}
@@ -71,22 +71,22 @@ module _ (t : Table) (a n : ℕ) where
   going_keeps i h r f g e = rw (le-leb (first_heard + part_of t) last_heard (omega (arith, part_below t)), le-ltb (first_heard + part_of t) first_heard (omega arith), f, g, e)
 
 -- a header line that is lawful is none on the first line
-first_head : (ed : Edition) (t : Table) (i : ℕ) (head : Bytes) → lawful_head ed t i head ≡ true → (if eqb i 1 then eqb (length head) 0 else true) ≡ true
+first_head : (ed : Edition) (t : Table) (i : ℕ) (head : Bytes) → lawful_head ed t i head ≡ true → (whether eqb i 1 then eqb (length head) 0 else true) ≡ true
 first_head ed t i head e = go (eqb i 1) e
   where
     no_bytes : (s : Bytes) → none s ≡ true → eqb (length s) 0 ≡ true
     no_bytes [] f = refl
     no_bytes (x ∷ xs) f = let z : ◌≡◌ {A = ℕ} 0 1 = cc in let y : ⊥ = omega arith in absurd y
 
-    go : (q : Bool) → (if q then none head else passes (header_check ed t head)) ≡ true → (if q then eqb (length head) 0 else true) ≡ true
+    go : (q : Bool) → (whether q then none head else passes (header_check ed t head)) ≡ true → (whether q then eqb (length head) 0 else true) ≡ true
     go true f = no_bytes head f
     go false f = refl
 
 -- and behind it it has passed
-later_head : (ed : Edition) (t : Table) (i : ℕ) (head : Bytes) → lawful_head ed t i head ≡ true → (if ltb 1 i then passes (header_check ed t head) else true) ≡ true
+later_head : (ed : Edition) (t : Table) (i : ℕ) (head : Bytes) → lawful_head ed t i head ≡ true → (whether ltb 1 i then passes (header_check ed t head) else true) ≡ true
 later_head ed t i head e = go (ltb 1 i) refl
   where
-    go : (q : Bool) → ltb 1 i ≡ q → (if q then passes (header_check ed t head) else true) ≡ true
+    go : (q : Bool) → ltb 1 i ≡ q → (whether q then passes (header_check ed t head) else true) ≡ true
     go true f = let h : 1 < i = ltb-true 1 i f in rw (ne_eqb i 1 (λ (z : i ≡ 1). omega arith)) at e
     go false f = refl
 
@@ -153,8 +153,8 @@ lines_laid ed (hears t a n (going b i head rest)) e l o =
     let h = heard_of t a n (going b i head rest) e in
     let g : Going b.edition t n i head rest = going_of t a n b.edition i head rest (lawful_book b) h.2 l in
     lines_laid_as ed (laid_numbers (hears t a n (going b i head rest))) head rest refl refl g.room g.fit
-    (ap (λ (s : Bytes). if ltb 1 i then passes (header_check ed (table_at ((first_heard + part_of t) - first_heard)) s) else true) (head_back 2048 2049 head rest g.room)
-    ∙ ap (λ (u : Table). if ltb 1 i then passes (header_check ed u head) else true) (table_back t)
+    (ap (λ (s : Bytes). whether ltb 1 i then passes (header_check ed (table_at ((first_heard + part_of t) - first_heard)) s) else true) (head_back 2048 2049 head rest g.room)
+    ∙ ap (λ (u : Table). whether ltb 1 i then passes (header_check ed u head) else true) (table_back t)
     ∙ later_head ed t i head (subst (λ (x : Edition). lawful_head x t i head ≡ true) o g.top))
 lines_laid ed (over r) e l o = lines_none ed all_closed r
 
@@ -179,8 +179,8 @@ module _ (s : Slices) where
   course_in_lem : came_to (course_in s) ≡ result_in s
   course_in_lem = go (eqb (fault ns) 0)
     where
-      go : (q : Bool) → came_to (if q then going (book_of s.book) (line ns) (take (head_length ns) s.lines) (take (rest_length ns) (drop 2048 s.lines)) else stopped (fault_in s))
-          ≡ (if q then leaves (book_of s.book) else refused (fault_in s))
+      go : (q : Bool) → came_to (whether q then going (book_of s.book) (line ns) (take (head_length ns) s.lines) (take (rest_length ns) (drop 2048 s.lines)) else stopped (fault_in s))
+          ≡ (whether q then leaves (book_of s.book) else refused (fault_in s))
       go true = refl
       go false = refl
 
@@ -188,7 +188,7 @@ module _ (s : Slices) where
   unfolding radio_in
   standing_in = go (ltb (turn ns) all_closed) (eqb (turn ns) all_closed)
     where
-      go : (p q : Bool) → standing (if p then awaits (table_at (turn ns)) (result_in s) else if q then over (result_in s) else hears (table_at (turn ns - first_heard)) (announced ns) (come ns) (course_in s)) ≡ result_in s
+      go : (p q : Bool) → standing (whether p then awaits (table_at (turn ns)) (result_in s) else whether q then over (result_in s) else hears (table_at (turn ns - first_heard)) (announced ns) (come ns) (course_in s)) ≡ result_in s
       go true q = refl
       go false true = refl
       go false false = course_in_lem
@@ -199,20 +199,20 @@ module _ (s : Slices) where
   of_in : Of ed (standing (radio_in s))
   of_in = subst (Of ed) (sym standing_in) (go (eqb (fault ns) 0))
     where
-      go : (q : Bool) → Of ed (if q then leaves (book_of s.book) else refused (fault_in s))
+      go : (q : Bool) → Of ed (whether q then leaves (book_of s.book) else refused (fault_in s))
       go true = refl
       go false = tt
 
   -- the book's test, with the fault's
   abbrev fault_lawful : Bool
-  fault_lawful = if eqb (fault ns) 0 then true else lawful_fault (fault_in s)
+  fault_lawful = whether eqb (fault ns) 0 then true else lawful_fault (fault_in s)
 
   book_result : length s.book ≡ book_rows → (fault_lawful && book_keeps ns s.book) ≡ (lawful_result (result_in s) && same_rows s.book (laid_book (result_in s)))
   unfolding book_keeps
   book_result l = go (eqb (fault ns) 0)
     where
-      go : (q : Bool) → ((if q then true else lawful_fault (fault_in s)) && (if q then keeps_rule s.book else same_rows s.book (laid empty)))
-          ≡ (lawful_result (if q then leaves (book_of s.book) else refused (fault_in s)) && same_rows s.book (laid_book (if q then leaves (book_of s.book) else refused (fault_in s))))
+      go : (q : Bool) → ((whether q then true else lawful_fault (fault_in s)) && (whether q then keeps_rule s.book else same_rows s.book (laid empty)))
+          ≡ (lawful_result (whether q then leaves (book_of s.book) else refused (fault_in s)) && same_rows s.book (laid_book (whether q then leaves (book_of s.book) else refused (fault_in s))))
       go true = rw (eq-eqb (length s.book) book_rows l)
       go false = refl
 
@@ -265,19 +265,19 @@ rule_passes s e =
 fault_back : (b : List Row) (l : Bytes) (ms : List ℕ) → length ms ≡ 11 → fault_keeps ms ≡ true → drop 6 ms ≡ laid_fault (result_in (slices b ms l))
 fault_back b l ms e = of_eleven (λ xs. fault_keeps xs ≡ true → drop 6 xs ≡ laid_fault (result_in (slices b xs l))) all ms e
   where
-    all : (n0 n1 n2 n3 n4 n5 n6 n7 n8 n9 n10 : ℕ) → (if eqb n6 0 then zeros (n7 ∷ n8 ∷ n9 ∷ n10 ∷ []) else eqb n6 1 && lawful_fault (place n7 n8 n9 n10)) ≡ true
-        → (n6 ∷ n7 ∷ n8 ∷ n9 ∷ n10 ∷ []) ≡ laid_fault (if eqb n6 0 then leaves (book_of b) else refused (place n7 n8 n9 n10))
+    all : (n0 n1 n2 n3 n4 n5 n6 n7 n8 n9 n10 : ℕ) → (whether eqb n6 0 then zeros (n7 ∷ n8 ∷ n9 ∷ n10 ∷ []) else eqb n6 1 && lawful_fault (place n7 n8 n9 n10)) ≡ true
+        → (n6 ∷ n7 ∷ n8 ∷ n9 ∷ n10 ∷ []) ≡ laid_fault (whether eqb n6 0 then leaves (book_of b) else refused (place n7 n8 n9 n10))
     all n0 n1 n2 n3 n4 n5 n6 n7 n8 n9 n10 = go (eqb n6 0) refl
       where
-        go : (q : Bool) → eqb n6 0 ≡ q → (if q then zeros (n7 ∷ n8 ∷ n9 ∷ n10 ∷ []) else eqb n6 1 && lawful_fault (place n7 n8 n9 n10)) ≡ true
-            → (n6 ∷ n7 ∷ n8 ∷ n9 ∷ n10 ∷ []) ≡ laid_fault (if q then leaves (book_of b) else refused (place n7 n8 n9 n10))
+        go : (q : Bool) → eqb n6 0 ≡ q → (whether q then zeros (n7 ∷ n8 ∷ n9 ∷ n10 ∷ []) else eqb n6 1 && lawful_fault (place n7 n8 n9 n10)) ≡ true
+            → (n6 ∷ n7 ∷ n8 ∷ n9 ∷ n10 ∷ []) ≡ laid_fault (whether q then leaves (book_of b) else refused (place n7 n8 n9 n10))
         go true p f = ap (λ (x : ℕ). x ∷ n7 ∷ n8 ∷ n9 ∷ n10 ∷ []) (eqb-true n6 0 p) ∙ ap (λ (x : List ℕ). 0 ∷ x) (zeros_true (n7 ∷ n8 ∷ n9 ∷ n10 ∷ []) 4 refl f)
         go false p f = ap (λ (x : ℕ). x ∷ n7 ∷ n8 ∷ n9 ∷ n10 ∷ []) (eqb-true n6 1 (and_left (eqb n6 1) (lawful_fault (place n7 n8 n9 n10)) f))
 
 fault_lawful_lem : (s : Slices) → fault_keeps s.numbers ≡ true → fault_lawful s ≡ true
 fault_lawful_lem s = go (eqb (fault s.numbers) 0)
   where
-    go : (q : Bool) → (if q then zeros (stretch 7 11 s.numbers) else eqb (fault s.numbers) 1 && lawful_fault (fault_in s)) ≡ true → (if q then true else lawful_fault (fault_in s)) ≡ true
+    go : (q : Bool) → (whether q then zeros (stretch 7 11 s.numbers) else eqb (fault s.numbers) 1 && lawful_fault (fault_in s)) ≡ true → (whether q then true else lawful_fault (fault_in s)) ≡ true
     go true e = refl
     go false e = and_right (eqb (fault s.numbers) 1) (lawful_fault (fault_in s)) e
 

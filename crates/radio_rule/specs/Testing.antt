@@ -1,7 +1,7 @@
 -- The rule of what is kept between parts, as tests on the numbers, the lines and the book.
 -- Inner: no promise and no contract of a public function speaks of it.
 use Rattle.std.specs.Prelude.{List, Bool, true, ◌&&◌, ℕ, suc, ◌+◌, ◌-◌, ltb, leb, eqb, length, get_or, take, drop, replicate}
-use Rattle.words.specs.Words.{Bytes, Row, if◌then◌else◌, same}
+use Rattle.words.specs.Words.{Bytes, Row, whether◌then◌else◌, same}
 use Rattle.refusals.specs.Verdicts.{passes, place}
 use Rattle.refusals.specs.declared.Place.{Place}
 use Rattle.editions.specs.declared.Edition.{Edition}
@@ -52,7 +52,7 @@ fault_place ns = place (get_or ns 7 0) (get_or ns 8 0) (get_or ns 9 0) (get_or n
 
 -- 1 and a lawful fault, or zeros
 abbrev pub fault_keeps : List ℕ → Bool
-fault_keeps ns = if eqb (fault ns) 0 then zeros (stretch 7 radio_numbers ns) else eqb (fault ns) 1 && lawful_fault (fault_place ns)
+fault_keeps ns = whether eqb (fault ns) 0 then zeros (stretch 7 radio_numbers ns) else eqb (fault ns) 1 && lawful_fault (fault_place ns)
 
 -- of a table that is heard, without a fault
 abbrev pub course_keeps : List ℕ → Bool
@@ -61,24 +61,24 @@ course_keeps ns =
     && leb (rest_length ns) kept_line
     && leb (line ns + rest_length ns) (suc (come ns))
     && leb (head_length ns) most_line
-    && (if eqb (line ns) 1 then eqb (head_length ns) 0 else true)
+    && (whether eqb (line ns) 1 then eqb (head_length ns) 0 else true)
 
 -- of a table that is heard
 abbrev pub heard_keeps : List ℕ → Bool
 heard_keeps ns =
     leb (announced ns) most_counted
     && leb (come ns) most_counted
-    && (if eqb (fault ns) 0 then course_keeps ns else zeros (stretch 3 6 ns))
+    && (whether eqb (fault ns) 0 then course_keeps ns else zeros (stretch 3 6 ns))
 
 -- a turn that there is, the fault, and what is kept of a table that is heard
 unfoldable pub numbers_keep : List ℕ → Bool
-numbers_keep ns = leb (turn ns) last_heard && fault_keeps ns && (if ltb (turn ns) first_heard then zeros (stretch 1 6 ns) else heard_keeps ns)
+numbers_keep ns = leb (turn ns) last_heard && fault_keeps ns && (whether ltb (turn ns) first_heard then zeros (stretch 1 6 ns) else heard_keeps ns)
 
 -- the lines ---------------------------------------------------------------------------------------------------------------------
 
 -- there is a header line where the unfinished line is not the first, by the edition of the book that is lent
 abbrev pub header_keeps : Edition → List ℕ → Bytes → Bool
-header_keeps e ns l = if ltb 1 (line ns) then passes (header_check e (table_at (turn ns - first_heard)) (take (head_length ns) l)) else true
+header_keeps e ns l = whether ltb 1 (line ns) then passes (header_check e (table_at (turn ns - first_heard)) (take (head_length ns) l)) else true
 
 -- zeros behind each line, and the header line
 unfoldable pub lines_keep : Edition → List ℕ → Bytes → Bool
@@ -87,4 +87,4 @@ lines_keep e ns l = zeros (stretch (head_length ns) most_line l) && zeros (stret
 -- the book ----------------------------------------------------------------------------------------------------------------------
 
 unfoldable pub book_keeps : List ℕ → List Row → Bool
-book_keeps ns book = if eqb (fault ns) 0 then keeps_rule book else same_rows book (laid empty)
+book_keeps ns book = whether eqb (fault ns) 0 then keeps_rule book else same_rows book (laid empty)

@@ -5,7 +5,7 @@ use Prim.Native.Nat.{ℕ, suc, ◌+◌, ◌-◌, ◌<◌, ◌≤◌}
 use native.Mathlib.Omega.{arith}
 use borrow.Author.Tests.{ltb-true}
 use lib.Dec.{ltb}
-use Rattle.words.specs.Words.{if◌then◌else◌}
+use Rattle.words.specs.Words.{whether◌then◌else◌}
 use Rattle.lines.specs.Lines.{most_bytes}
 use Rattle.radio.specs.Radio.{counted, most_counted}
 use Rattle.radio.proofs.Counting.{counted_long}
@@ -17,6 +17,6 @@ module _ (n m : ℕ) where
   pub within_the_count : n + m ≤ most_counted → counted (n + m) ≡ n + m
   within_the_count h = go (ltb most_bytes (n + m)) refl
     where
-      go : (q : Bool) → ltb most_bytes (n + m) ≡ q → (if q then suc most_bytes else n + m) ≡ n + m
+      go : (q : Bool) → ltb most_bytes (n + m) ≡ q → (whether q then suc most_bytes else n + m) ≡ n + m
       go true e = let l : most_bytes < n + m = ltb-true most_bytes (n + m) e in omega arith
       go false e = refl

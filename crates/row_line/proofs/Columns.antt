@@ -7,7 +7,7 @@ use native.Mathlib.Omega.{arith}
 use lib.Dec.{eqb}
 use lib.ListN.{get_or, length, drop, drop_of_length-le}
 use borrow.Author.Tests.{ne_eqb, eqb-false, eq-eqb}
-use Rattle.words.specs.Words.{if◌then◌else◌, Bytes}
+use Rattle.words.specs.Words.{whether◌then◌else◌, Bytes}
 use Rattle.words.proofs.Lists.{drop_step}
 use Rattle.refusals.proofs.Chaining.{both}
 use Rattle.refusals.specs.Verdicts.{◌⊳◌, cell_count}
@@ -35,29 +35,29 @@ unfolding place_from
 place_above i k [] n = absurd (n refl)
 place_above i k (x ∷ xs) n = go (eqb k x) n (place_above (suc i) k xs)
   where
-    go : (b : Bool) → ((if b then suc i else place_from (suc i) k xs) ≡ 0 → ⊥) → ((place_from (suc i) k xs ≡ 0 → ⊥) → suc (suc i) ≤ place_from (suc i) k xs) → suc i ≤ (if b then suc i else place_from (suc i) k xs)
+    go : (b : Bool) → ((whether b then suc i else place_from (suc i) k xs) ≡ 0 → ⊥) → ((place_from (suc i) k xs ≡ 0 → ⊥) → suc (suc i) ≤ place_from (suc i) k xs) → suc i ≤ (whether b then suc i else place_from (suc i) k xs)
     go true m ih = omega arith
     go false m ih = let l : suc (suc i) ≤ place_from (suc i) k xs = ih m in omega arith
 
-no_cell : (b : Bool) (n : ℕ) → ◌≡◌ {A = Bytes} [] (if b then [] else get_or [] n [])
+no_cell : (b : Bool) (n : ℕ) → ◌≡◌ {A = Bytes} [] (whether b then [] else get_or [] n [])
 no_cell true n = refl
 no_cell false n = refl
 
-under_from : (i k : ℕ) (h : Header) (cs : List Bytes) → under k h cs ≡ (if eqb (place_from i k h) 0 then [] else get_or cs (place_from i k h - suc i) [])
+under_from : (i k : ℕ) (h : Header) (cs : List Bytes) → under k h cs ≡ (whether eqb (place_from i k h) 0 then [] else get_or cs (place_from i k h - suc i) [])
 unfolding place_from under
 under_from i k [] cs = refl
-under_from i k (x ∷ xs) [] = no_cell (eqb (if eqb k x then suc i else place_from (suc i) k xs) 0) ((if eqb k x then suc i else place_from (suc i) k xs) - suc i)
+under_from i k (x ∷ xs) [] = no_cell (eqb (whether eqb k x then suc i else place_from (suc i) k xs) 0) ((whether eqb k x then suc i else place_from (suc i) k xs) - suc i)
 under_from i k (x ∷ xs) (c ∷ cs) = go (eqb k x) (under_from (suc i) k xs cs)
   where
-    behind : (z : Bool) → eqb (place_from (suc i) k xs) 0 ≡ z → (if z then [] else get_or cs (place_from (suc i) k xs - suc (suc i)) []) ≡ (if z then [] else get_or (c ∷ cs) (place_from (suc i) k xs - suc i) [])
+    behind : (z : Bool) → eqb (place_from (suc i) k xs) 0 ≡ z → (whether z then [] else get_or cs (place_from (suc i) k xs - suc (suc i)) []) ≡ (whether z then [] else get_or (c ∷ cs) (place_from (suc i) k xs - suc i) [])
     behind true q = refl
     behind false q =
         let l : suc (suc i) ≤ place_from (suc i) k xs = place_above (suc i) k xs (eqb-false (place_from (suc i) k xs) 0 q) in
         let e : place_from (suc i) k xs - suc i ≡ suc (place_from (suc i) k xs - suc (suc i)) = omega arith in
         rw e
 
-    go : (b : Bool) → under k xs cs ≡ (if eqb (place_from (suc i) k xs) 0 then [] else get_or cs (place_from (suc i) k xs - suc (suc i)) [])
-        → (if b then c else under k xs cs) ≡ (if eqb (if b then suc i else place_from (suc i) k xs) 0 then [] else get_or (c ∷ cs) ((if b then suc i else place_from (suc i) k xs) - suc i) [])
+    go : (b : Bool) → under k xs cs ≡ (whether eqb (place_from (suc i) k xs) 0 then [] else get_or cs (place_from (suc i) k xs - suc (suc i)) [])
+        → (whether b then c else under k xs cs) ≡ (whether eqb (whether b then suc i else place_from (suc i) k xs) 0 then [] else get_or (c ∷ cs) ((whether b then suc i else place_from (suc i) k xs) - suc i) [])
     go true ih =
         let e : suc i - suc i ≡ 0 = omega arith in
         rw (ne_eqb (suc i) 0 (λ z. omega arith), e)

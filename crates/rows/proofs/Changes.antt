@@ -5,7 +5,7 @@ use mathlib.Core.Bool.{true, Bool, false, ◌||◌}
 use Prim.Native.Nat.{ℕ, ◌≤◌, suc}
 use native.Mathlib.Omega.{arith}
 use lib.ListN.{get_or, length}
-use Rattle.words.specs.Words.{Row, if◌then◌else◌}
+use Rattle.words.specs.Words.{Row, whether◌then◌else◌}
 use Rattle.rows.specs.Rows.{same_key, stands, found, removed, column, rising, by_order, key_order, inserted, replaced}
 use Rattle.rows.specs.Spots.{row_of, spot}
 use Rattle.rows.specs.declared.Spot.TheVariants.{At, Gap}
@@ -50,7 +50,7 @@ found_versioned k row [] v e = let z : ◌≡◌ {A = ℕ} 0 1 = cc in absurd (o
 found_versioned k row (x ∷ xs) v e = go (same_key k row x) refl e (found_versioned k row xs v.1)
   where
     go : (b : Bool) → same_key k row x ≡ b → (b || stands k row xs) ≡ true → (stands k row xs ≡ true → 1 ≤ column 1 (found k row xs))
-        → 1 ≤ column 1 (if b then x else found k row xs)
+        → 1 ≤ column 1 (whether b then x else found k row xs)
     go true f g ih = v.0
     go false f g ih = ih g
 

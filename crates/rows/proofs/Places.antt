@@ -8,7 +8,7 @@ use native.Mathlib.Nat.{not-suc-le-zero}
 use lib.ListN.{length, get_or, take, drop, set}
 use lib.Dec.{eqb}
 use borrow.Author.Tests.{eqb-true, eqb-false}
-use Rattle.words.specs.Words.{Row, if◌then◌else◌}
+use Rattle.words.specs.Words.{Row, whether◌then◌else◌}
 use Rattle.rows.specs.declared.Order.TheVariants.{Less, More, Same}
 use Rattle.rows.specs.declared.Spot.TheVariants.{Gap, At}
 use Rattle.rows.specs.Rows.{key_order, rising, column, stands, found, replaced, removed, inserted}
@@ -101,7 +101,7 @@ module _ (k : ℕ) (row : Row) (xs : List Row) (low high : ℕ) (rises : rising 
 
 -- the same by the order to a row of the slice, where an unused row lies above every key
 abbrev pub order_at : ℕ → Row → List Row → ℕ → Order
-order_at k row slice m = if eqb (column 1 (get_or slice m [])) 0 then Less else key_order k row (get_or slice m [])
+order_at k row slice m = whether eqb (column 1 (get_or slice m [])) 0 then Less else key_order k row (get_or slice m [])
 
 module _ (k : ℕ) (row : Row) (slice : List Row) (low high : ℕ) (table : Holds k slice) (b : Bracket k row (used slice) low high) (m : ℕ) (h : m < length slice) where
   in_use : eqb (column 1 (get_or slice m [])) 0 ≡ false → m < length (used slice)

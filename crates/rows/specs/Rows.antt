@@ -1,6 +1,6 @@
 -- Rows, and the order of their keys. A row's key is its first k numbers.
 use Rattle.std.specs.Prelude.{List, ◌++◌, [], ◌∷◌, Bool, true, false, ◌||◌, ◌&&◌, ℕ, ◌-◌, zero, suc, length, replicate, get_or, ltb}
-use Rattle.words.specs.Words.{Row, if◌then◌else◌}
+use Rattle.words.specs.Words.{Row, whether◌then◌else◌}
 use Rattle.rows.specs.declared.Order.{Order}
 use Rattle.rows.specs.declared.Order.TheVariants.{Less, Same, More}
 
@@ -25,8 +25,8 @@ by_order More a b c = c
 unfoldable pub order_from : ℕ → ℕ → Row → Row → Order
 order_from zero i x y = Same
 order_from (suc n) i x y =
-    if ltb (get_or x i 0) (get_or y i 0) then Less
-    else if ltb (get_or y i 0) (get_or x i 0) then More
+    whether ltb (get_or x i 0) (get_or y i 0) then Less
+    else whether ltb (get_or y i 0) (get_or x i 0) then More
     else order_from n (suc i) x y
 
 abbrev pub key_order : ℕ → Row → Row → Order
@@ -43,7 +43,7 @@ stands k row (x ∷ xs) = same_key k row x || stands k row xs
 -- the row of that key, or no numbers
 unfoldable pub found : ℕ → Row → List Row → Row
 found k row [] = []
-found k row (x ∷ xs) = if same_key k row x then x else found k row xs
+found k row (x ∷ xs) = whether same_key k row x then x else found k row xs
 
 -- the rows with one more, before the first of a larger key; where the key stands they stay
 unfoldable pub inserted : ℕ → Row → List Row → List Row
@@ -53,12 +53,12 @@ inserted k row (x ∷ xs) = by_order (key_order k row x) (row ∷ (x ∷ xs)) (x
 -- the rows with the one of that key replaced
 unfoldable pub replaced : ℕ → Row → List Row → List Row
 replaced k row [] = []
-replaced k row (x ∷ xs) = if same_key k row x then row ∷ xs else x ∷ replaced k row xs
+replaced k row (x ∷ xs) = whether same_key k row x then row ∷ xs else x ∷ replaced k row xs
 
 -- the rows without the one of that key
 unfoldable pub removed : ℕ → Row → List Row → List Row
 removed k row [] = []
-removed k row (x ∷ xs) = if same_key k row x then xs else x ∷ removed k row xs
+removed k row (x ∷ xs) = whether same_key k row x then xs else x ∷ removed k row xs
 
 -- each key is below the next one
 unfoldable pub rising : ℕ → List Row → Bool

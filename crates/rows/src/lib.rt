@@ -2,7 +2,7 @@
 #![tactic(auto)]
 
 ghost use Rattle.std.specs.Prelude.{◌≡◌, [], true, false, ◌<◌, ◌≤◌, ◌-◌, length, get_or, take, drop, replicate, eqb};
-ghost use Rattle.words.specs.Words.{if◌then◌else◌, same};
+ghost use Rattle.words.specs.Words.{whether◌then◌else◌, same};
 ghost use Rattle.rows.specs.Rows.{key_order, stands, found, column, by_order, rising};
 ghost use Rattle.rows.specs.Room.{filled, used, zeros, same_rows};
 ghost use Rattle.rows.specs.Spots.{Holds, spot, row_of, holds};
@@ -161,7 +161,7 @@ pub fn copy(from: &[Row], to: &mut [Row])
 // The order of a row to the one at a place; an unused row lies above every key.
 fn order_at(list: &[Row], at: usize, k: usize, row: &Row) -> Order
     requires { at < length list.now }
-    ensures { result ≡ (if eqb (column 1 (get_or list.now at [])) 0 then Less else key_order k row.now (get_or list.now at [])) }
+    ensures { result ≡ (whether eqb (column 1 (get_or list.now at [])) 0 then Less else key_order k row.now (get_or list.now at [])) }
 {
     if list[at][0] == 0 {
         return Order::Less;

@@ -6,7 +6,7 @@ use native.Mathlib.Omega.{arith}
 use lib.Dec.{ltb}
 use lib.ListN.{get_or}
 use borrow.Author.Tests.{ltb-true, lt-ltb, le-ltb}
-use Rattle.words.specs.Words.{Row, if◌then◌else◌}
+use Rattle.words.specs.Words.{Row, whether◌then◌else◌}
 use Rattle.words.proofs.Lists.{and_left, and_right}
 use Rattle.tables.specs.declared.Table.{Table}
 use Rattle.tables.specs.declared.Table.TheVariants.{VehicleType, Depot, Stop, StopPoint, Block, Calendar}
@@ -66,6 +66,6 @@ module _ (row : Row) where
   pub seconds_most : (most : ℕ) → day ≤ most → ends ≤ most → seconds row ≤ most
   seconds_most most d h = go (overnight row) refl
     where
-      go : (o : Bool) → overnight row ≡ o → (if o then ends + day - begins else ends - begins) ≤ most
+      go : (o : Bool) → overnight row ≡ o → (whether o then ends + day - begins else ends - begins) ≤ most
       go true e = omega (arith, d, (overnight_ends e).2)
       go false e = omega (arith, h)

@@ -1,6 +1,6 @@
 -- The rules that a row meets in its book.
 use Rattle.std.specs.Prelude.{Bool, ◌&&◌, false, not, [], ◌∷◌, List, ℕ, ◌-◌, ◌+◌, ltb}
-use Rattle.words.specs.Words.{Row, if◌then◌else◌}
+use Rattle.words.specs.Words.{Row, whether◌then◌else◌}
 use Rattle.refusals.specs.Verdicts.{◌⊳◌, ◌when◌, no_row, key_stands, ends_early}
 use Rattle.refusals.specs.declared.Check.{Check}
 use Rattle.refusals.specs.declared.Check.TheVariants.{Passes}
@@ -68,4 +68,4 @@ ruled t row b =
 
 -- "Seconds of a block: END minus BEGIN."; of one that runs into the next day "end plus 86,400 minus begin seconds"
 abbrev pub seconds : Row → ℕ
-seconds row = if overnight row then column 11 row + day - column 8 row else column 11 row - column 8 row
+seconds row = whether overnight row then column 11 row + day - column 8 row else column 11 row - column 8 row

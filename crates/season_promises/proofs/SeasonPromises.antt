@@ -4,7 +4,7 @@ use mathlib.Core.List.{List, [], ◌∷◌}
 use mathlib.Core.Bool.{Bool, true, false, ◌&&◌, not}
 use Prim.Native.Nat.{ℕ, suc, ◌+◌, ◌*◌, ◌≤◌, ◌<◌}
 use native.Mathlib.Omega.{arith}
-use Rattle.words.specs.Words.{Row, if◌then◌else◌}
+use Rattle.words.specs.Words.{Row, whether◌then◌else◌}
 use Rattle.refusals.specs.Verdicts.{◌when◌, ◌before◌, nowhere, bad_loan, not_there, no_date}
 use Rattle.dates.specs.Calendar.{is_date}
 use Rattle.editions.specs.declared.Edition.{Edition}
@@ -39,7 +39,7 @@ use Rattle.season_promises.specs.Seasons.{SeasonsExactly, SeasonsAnswered, Seaso
 -- the days of a day type are counted one by one
 days_weighs : (first last version kind : ℕ) → Weighs (days_of first last version kind)
 unfolding days_of
-days_weighs first last version kind = record { one = λ x. if falls first last version kind x then 1 else 0; nothing = refl; more = λ x xs. refl }
+days_weighs first last version kind = record { one = λ x. whether falls first last version kind x then 1 else 0; nothing = refl; more = λ x xs. refl }
 
 -- blocks that weigh alike one by one do so together
 total_alike : (f g : Row → ℕ) (version type : ℕ) → ((x : Row) → f x ≡ g x) → (xs : List Row) → total f version type xs ≡ total g version type xs

@@ -8,7 +8,7 @@ use mathlib.Core.Bool.{Bool, true, false, ◌&&◌, ◌||◌, not}
 use lib.Dec.{leb, eqb}
 use lib.ListN.{length}
 use borrow.Author.Tests.{eqb-true, leb-true, leb-false, le-leb, lt-leb}
-use Rattle.words.specs.Words.{Row, if◌then◌else◌, all}
+use Rattle.words.specs.Words.{Row, whether◌then◌else◌, all}
 use Rattle.words.proofs.Lists.{and_left, and_right}
 use Rattle.dates.specs.Calendar.{is_date}
 use Rattle.rows.specs.Rows.{column}
@@ -22,11 +22,11 @@ use Rattle.seasons.specs.Claims.{Backward, Split, SplitDates, over, ByDays, NoDa
 -- sums over a type's blocks -------------------------------------------------------------------------------------------------------------
 
 module _ (version type : ℕ) where
-  share_add : (here : Bool) (a b : ℕ) → (if here then a + b else 0) ≡ (if here then a else 0) + (if here then b else 0)
+  share_add : (here : Bool) (a b : ℕ) → (whether here then a + b else 0) ≡ (whether here then a else 0) + (whether here then b else 0)
   share_add true a b = refl
   share_add false a b = refl
 
-  share_none : (here : Bool) → ◌≡◌ {A = ℕ} (if here then 0 else 0) 0
+  share_none : (here : Bool) → ◌≡◌ {A = ℕ} (whether here then 0 else 0) 0
   share_none true = refl
   share_none false = refl
 
@@ -45,7 +45,7 @@ module _ (version type : ℕ) where
 
 -- a row of the calendar: its version and its day type are asked, and its day d
 abbrev asked : Bool → Bool → ℕ → ℕ → ℕ → ℕ
-asked v k first last d = if v && leb first d && leb d last && k then 1 else 0
+asked v k first last d = whether v && leb first d && leb d last && k then 1 else 0
 
 asked_before : (v k : Bool) (first last d : ℕ) → d < first → asked v k first last d ≡ 0
 asked_before true k first last d h = rw (lt-leb first d h)
@@ -54,19 +54,19 @@ asked_before false k first last d h = refl
 asked_behind : (v k : Bool) (first last d : ℕ) → last < d → asked v k first last d ≡ 0
 asked_behind v k first last d h = go v (leb first d)
   where
-    go : (a b : Bool) → ◌≡◌ {A = ℕ} (if a && b && leb d last && k then 1 else 0) 0
+    go : (a b : Bool) → ◌≡◌ {A = ℕ} (whether a && b && leb d last && k then 1 else 0) 0
     go true true = rw (lt-leb d last h)
     go true false = refl
     go false b = refl
 
-asked_from : (v k : Bool) (first last d : ℕ) → first ≤ d → asked v k first last d ≡ (if v && leb d last && k then 1 else 0)
+asked_from : (v k : Bool) (first last d : ℕ) → first ≤ d → asked v k first last d ≡ (whether v && leb d last && k then 1 else 0)
 asked_from true k first last d h = rw (le-leb first d h)
 asked_from false k first last d h = refl
 
-asked_to : (v k : Bool) (first last d : ℕ) → d ≤ last → asked v k first last d ≡ (if v && leb first d && k then 1 else 0)
+asked_to : (v k : Bool) (first last d : ℕ) → d ≤ last → asked v k first last d ≡ (whether v && leb first d && k then 1 else 0)
 asked_to v k first last d h = go v (leb first d)
   where
-    go : (a b : Bool) → ◌≡◌ {A = ℕ} (if a && b && leb d last && k then 1 else 0) (if a && b && k then 1 else 0)
+    go : (a b : Bool) → ◌≡◌ {A = ℕ} (whether a && b && leb d last && k then 1 else 0) (whether a && b && k then 1 else 0)
     go true true = rw (le-leb d last h)
     go true false = refl
     go false b = refl
@@ -182,7 +182,7 @@ one_day_type first last version type kind (x ∷ xs) days h =
 
     go : (here : Bool) → of_type version type x ≡ here → (not here || eqb (column 2 x) kind) ≡ true
         → total (runs first last days) version type xs ≡ seconds_of version type xs * often
-        → (if here then runs first last days x else 0) + total (runs first last days) version type xs ≡ ((if here then seconds x else 0) + seconds_of version type xs) * often
+        → (whether here then runs first last days x else 0) + total (runs first last days) version type xs ≡ ((whether here then seconds x else 0) + seconds_of version type xs) * often
     go true e k ih =
         let v : column 1 x ≡ version = eqb-true (column 1 x) version (and_left (eqb (column 1 x) version) (eqb (column 5 x) type) e) in
         let d : column 2 x ≡ kind = eqb-true (column 2 x) kind k in
@@ -196,6 +196,6 @@ at_most first last version type [] days = omega arith
 at_most first last version type (x ∷ xs) days = go (of_type version type x) (at_most first last version type xs days)
   where
     go : (here : Bool) → total (runs first last days) version type xs ≤ seconds_of version type xs * length days
-        → (if here then runs first last days x else 0) + total (runs first last days) version type xs ≤ ((if here then seconds x else 0) + seconds_of version type xs) * length days
+        → (whether here then runs first last days x else 0) + total (runs first last days) version type xs ≤ ((whether here then seconds x else 0) + seconds_of version type xs) * length days
     go true ih = omega (arith, ih, add-mul (seconds x) (seconds_of version type xs) (length days), mul-le-mul_left (seconds x) (days_few first last (column 1 x) (column 2 x) days))
     go false ih = rw (zero-add (total (runs first last days) version type xs), zero-add (seconds_of version type xs)) ih

@@ -9,7 +9,7 @@ use native.Mathlib.Nat.{mul-add, mul-one, mul-zero, mul-suc}
 use lib.Dec.{eqb}
 use lib.ListN.{length, get_or, drop, drop_of_length-le}
 use borrow.Author.Tests.{eqb-true}
-use Rattle.words.specs.Words.{Row, if◌then◌else◌}
+use Rattle.words.specs.Words.{Row, whether◌then◌else◌}
 use Rattle.words.proofs.Lists.{drop_step, and_left}
 use Rattle.rows.specs.Rows.{column}
 use Rattle.rules.specs.Rules.{seconds}
@@ -22,24 +22,24 @@ use Rattle.seasons.specs.Summing.{on_day, on_days}
 -- one day more ------------------------------------------------------------------------------------------------------------------------
 
 -- what a block runs on a day of its day type
-one_day : (s : ℕ) (span kind : Bool) → s * (if span && kind then 1 else 0) ≡ (if span then (if kind then s else 0) else 0)
+one_day : (s : ℕ) (span kind : Bool) → s * (whether span && kind then 1 else 0) ≡ (whether span then (whether kind then s else 0) else 0)
 one_day s true true = mul-one s
 one_day s true false = mul-zero s
 one_day s false kind = mul-zero s
 
 module _ (first last version type : ℕ) (day : Row) (days : List Row) where
   block_day : (x : Row) → of_type version type x ≡ true
-      → runs first last (day ∷ days) x ≡ (if in_span first last version day then runs_on (column 3 day) x else 0) + runs first last days x
+      → runs first last (day ∷ days) x ≡ (whether in_span first last version day then runs_on (column 3 day) x else 0) + runs first last days x
   unfolding days_of
   block_day x t =
       let v : column 1 x ≡ version = eqb-true (column 1 x) version (and_left (eqb (column 1 x) version) (eqb (column 5 x) type) t) in
       ap (λ (w : ℕ). seconds x * days_of first last w (column 2 x) (day ∷ days)) v
-      ∙ mul-add (seconds x) (if falls first last version (column 2 x) day then 1 else 0) (days_of first last version (column 2 x) days)
+      ∙ mul-add (seconds x) (whether falls first last version (column 2 x) day then 1 else 0) (days_of first last version (column 2 x) days)
       ∙ ap (λ (n : ℕ). n + seconds x * days_of first last version (column 2 x) days) (one_day (seconds x) (in_span first last version day) (eqb (column 3 day) (column 2 x)))
-      ∙ ap (λ (w : ℕ). (if in_span first last version day then runs_on (column 3 day) x else 0) + seconds x * days_of first last w (column 2 x) days) (sym v)
+      ∙ ap (λ (w : ℕ). (whether in_span first last version day then runs_on (column 3 day) x else 0) + seconds x * days_of first last w (column 2 x) days) (sym v)
 
-  add_blocks : (span here : Bool) (all own ran more rest on : ℕ) → all ≡ (if span then own else 0) + ran → more ≡ (if span then on else 0) + rest
-      → (if here then all else 0) + more ≡ (if span then (if here then own else 0) + on else 0) + ((if here then ran else 0) + rest)
+  add_blocks : (span here : Bool) (all own ran more rest on : ℕ) → all ≡ (whether span then own else 0) + ran → more ≡ (whether span then on else 0) + rest
+      → (whether here then all else 0) + more ≡ (whether span then (whether here then own else 0) + on else 0) + ((whether here then ran else 0) + rest)
   add_blocks true true all own ran more rest on e f = omega arith
   add_blocks true false all own ran more rest on e f = omega arith
   add_blocks false true all own ran more rest on e f = omega arith
@@ -47,11 +47,11 @@ module _ (first last version type : ℕ) (day : Row) (days : List Row) where
 
   pub season_day : (blocks : List Row)
       → season first last version type blocks (day ∷ days)
-      ≡ (if in_span first last version day then seconds_on version type (column 3 day) blocks else 0) + season first last version type blocks days
+      ≡ (whether in_span first last version day then seconds_on version type (column 3 day) blocks else 0) + season first last version type blocks days
   unfolding total
   season_day [] = go (in_span first last version day)
     where
-      go : (t : Bool) → ◌≡◌ {A = ℕ} 0 ((if t then 0 else 0) + 0)
+      go : (t : Bool) → ◌≡◌ {A = ℕ} 0 ((whether t then 0 else 0) + 0)
       go true = refl
       go false = refl
   season_day (x ∷ xs) = go (of_type version type x) refl (season_day xs)
@@ -60,10 +60,10 @@ module _ (first last version type : ℕ) (day : Row) (days : List Row) where
       span = in_span first last version day
 
       go : (here : Bool) → of_type version type x ≡ here
-          → season first last version type xs (day ∷ days) ≡ (if span then seconds_on version type (column 3 day) xs else 0) + season first last version type xs days
-          → (if here then runs first last (day ∷ days) x else 0) + season first last version type xs (day ∷ days)
-          ≡ (if span then (if here then runs_on (column 3 day) x else 0) + seconds_on version type (column 3 day) xs else 0)
-          + ((if here then runs first last days x else 0) + season first last version type xs days)
+          → season first last version type xs (day ∷ days) ≡ (whether span then seconds_on version type (column 3 day) xs else 0) + season first last version type xs days
+          → (whether here then runs first last (day ∷ days) x else 0) + season first last version type xs (day ∷ days)
+          ≡ (whether span then (whether here then runs_on (column 3 day) x else 0) + seconds_on version type (column 3 day) xs else 0)
+          + ((whether here then runs first last days x else 0) + season first last version type xs days)
       go true e ih =
           add_blocks span true (runs first last (day ∷ days) x) (runs_on (column 3 day) x) (runs first last days x) (season first last version type xs (day ∷ days))
           (season first last version type xs days) (seconds_on version type (column 3 day) xs) (block_day x e) ih
@@ -71,7 +71,7 @@ module _ (first last version type : ℕ) (day : Row) (days : List Row) where
           add_blocks span false (0) (0) (0) (season first last version type xs (day ∷ days))
           (season first last version type xs days) (seconds_on version type (column 3 day) xs) (nothing span) ih
         where
-          nothing : (t : Bool) → ◌≡◌ {A = ℕ} 0 ((if t then 0 else 0) + 0)
+          nothing : (t : Bool) → ◌≡◌ {A = ℕ} 0 ((whether t then 0 else 0) + 0)
           nothing true = refl
           nothing false = refl
 
@@ -81,7 +81,7 @@ unfolding total days_of
 no_days first last version type [] = refl
 no_days first last version type (x ∷ xs) = go (of_type version type x) (no_days first last version type xs)
   where
-    go : (here : Bool) → season first last version type xs [] ≡ 0 → (if here then seconds x * 0 else 0) + season first last version type xs [] ≡ 0
+    go : (here : Bool) → season first last version type xs [] ≡ 0 → (whether here then seconds x * 0 else 0) + season first last version type xs [] ≡ 0
     go true ih = omega (arith, mul-zero (seconds x), ih)
     go false ih = omega (arith, ih)
 
@@ -92,8 +92,8 @@ module _ (first last version type : ℕ) (blocks tally : List Row) (at : ℕ) (t
   unfolding on_days
   season_tallied [] = sym (no_days first last version type blocks)
   season_tallied (x ∷ xs) =
-      let own : on_day first last version (shares tally at) x ≡ (if in_span first last version x then seconds_on version type (column 3 x) blocks else 0) =
-      ap (λ (s : ℕ). if in_span first last version x then s else 0) (t.counts (column 3 x)) in
+      let own : on_day first last version (shares tally at) x ≡ (whether in_span first last version x then seconds_on version type (column 3 x) blocks else 0) =
+      ap (λ (s : ℕ). whether in_span first last version x then s else 0) (t.counts (column 3 x)) in
       omega (arith, own, season_tallied xs, season_day first last version type x xs blocks)
 
 -- the first i days are summed up ------------------------------------------------------------------------------------------------------
@@ -116,7 +116,7 @@ module _ (first last version : ℕ) (shares days : List Row) where
         let p : 512 * 999999 * (i + 1) ≡ 512 * 999999 * i + 512 * 999999 = rw (add-one i) (mul-suc (512 * 999999) i) in
         record { bound = omega (arith, sofar.bound); whole = omega (arith, sofar.whole) }
       where
-        few : (here : Bool) (w : ℕ) → w ≤ 512 * 999999 → (if here then w else 0) ≤ 512 * 999999
+        few : (here : Bool) (w : ℕ) → w ≤ 512 * 999999 → (whether here then w else 0) ≤ 512 * 999999
         few true w h = h
         few false w h = omega arith
 

@@ -7,7 +7,7 @@ use native.Mathlib.Omega.{arith}
 use lib.Dec.{eqb, lit≤}
 use lib.ListN.{length, get_or}
 use borrow.Author.Tests.{eqb-true, ne_eqb}
-use Rattle.words.specs.Words.{Bytes, same, bytes, if◌then◌else◌, Row}
+use Rattle.words.specs.Words.{Bytes, same, bytes, whether◌then◌else◌, Row}
 use Rattle.refusals.specs.Verdicts.{◌⊳◌}
 use Rattle.refusals.specs.declared.Check.{Check}
 use Rattle.refusals.specs.declared.Check.TheVariants.{Passes, Fails}
@@ -65,20 +65,20 @@ size Replace = 11
 size Delete = 4
 size Unknown = 0
 
-counted_size : (w : Wish) (n : ℕ) → counted w n ≡ (if eqb n (size w) then w else Unknown)
+counted_size : (w : Wish) (n : ℕ) → counted w n ≡ (whether eqb n (size w) then w else Unknown)
 counted_size Add n = refl
 counted_size Replace n = refl
 counted_size Delete n = refl
 counted_size Unknown n = go (eqb n 0)
   where
-    go : (t : Bool) → Unknown ≡ (if t then Unknown else Unknown)
+    go : (t : Bool) → Unknown ≡ (whether t then Unknown else Unknown)
     go true = refl
     go false = refl
 
 sized : (w : Wish) (n : ℕ) (v : Wish) → counted w n ≡ v → (v ≡ Unknown → ⊥) → n ≡ size v
 sized w n v e known = go (eqb n (size w)) refl (sym (counted_size w n) ∙ e)
   where
-    go : (t : Bool) → eqb n (size w) ≡ t → (if t then w else Unknown) ≡ v → n ≡ size v
+    go : (t : Bool) → eqb n (size w) ≡ t → (whether t then w else Unknown) ≡ v → n ≡ size v
     go true q p = eqb-true n (size w) q ∙ ap size p
     go false q p = absurd (known (sym p))
 

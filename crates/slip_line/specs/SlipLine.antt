@@ -1,6 +1,6 @@
 -- A line of a slip: what it asks for, and its numbers.
 use Rattle.std.specs.Prelude.{List, [], ◌∷◌, map, ℕ, eqb, length}
-use Rattle.words.specs.Words.{Bytes, if◌then◌else◌, bytes, same, Row}
+use Rattle.words.specs.Words.{Bytes, whether◌then◌else◌, bytes, same, Row}
 use Rattle.refusals.specs.declared.Check.{Check}
 use Rattle.numbers.specs.Numbers.{value}
 use Rattle.fields.specs.Fields.{fields}
@@ -18,13 +18,13 @@ numbers (f ∷ fs) = fs
 
 -- the kind that a first field names
 abbrev pub letter : Bytes → Wish
-letter f = if same f (bytes "A") then Add else if same f (bytes "R") then Replace else if same f (bytes "D") then Delete else Unknown
+letter f = whether same f (bytes "A") then Add else whether same f (bytes "R") then Replace else whether same f (bytes "D") then Delete else Unknown
 
 -- "`A` and 11 numbers: add. `R` and 11: replace. `D` and the 4 key numbers: delete."
 abbrev pub counted : Wish → ℕ → Wish
-counted Add n = if eqb n (kept_width Block) then Add else Unknown
-counted Replace n = if eqb n (kept_width Block) then Replace else Unknown
-counted Delete n = if eqb n (key_width Block) then Delete else Unknown
+counted Add n = whether eqb n (kept_width Block) then Add else Unknown
+counted Replace n = whether eqb n (kept_width Block) then Replace else Unknown
+counted Delete n = whether eqb n (key_width Block) then Delete else Unknown
 counted Unknown n = Unknown
 
 -- 12, where it is Unknown: "slip line of unknown kind or field count"

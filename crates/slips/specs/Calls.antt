@@ -1,6 +1,6 @@
 -- What the slip call answers, and what everything lent to it holds behind the call.
 use Rattle.std.specs.Prelude.{◌≡◌, List, Bool, ◌&&◌, not, ℕ, eqb, length, replicate}
-use Rattle.words.specs.Words.{Row, if◌then◌else◌, Bytes}
+use Rattle.words.specs.Words.{Row, whether◌then◌else◌, Bytes}
 use Rattle.refusals.specs.declared.Verdict.{Verdict}
 use Rattle.refusals.specs.declared.Verdict.TheVariants.{Accepted, Refused}
 use Rattle.refusals.specs.Verdicts.{◌when◌, nowhere, bad_loan}
@@ -30,7 +30,7 @@ work_sized work = eqb (length work) work_rows
 
 -- "A working area lent to a call ends all zero"; "one lent at another length .. stays as it came"
 abbrev pub cleared : List Row → List Row
-cleared work = if work_sized work then replicate work_rows zeros else work
+cleared work = whether work_sized work then replicate work_rows zeros else work
 
 -- "All other refusals leave book and output as handed in."
 abbrev pub slip_outcome : Result → List Row → List Row → Outcome

@@ -6,7 +6,7 @@ use Prim.Native.Nat.{ℕ, zero, suc, ◌<◌}
 use native.Mathlib.Omega.{arith}
 use lib.Dec.{eqb}
 use lib.ListN.{get_or}
-use Rattle.words.specs.Words.{if◌then◌else◌}
+use Rattle.words.specs.Words.{whether◌then◌else◌}
 use Rattle.tables.specs.declared.Sort.TheVariants.{Decimal, Text}
 use Rattle.tables.specs.declared.Rules.{Rules}
 use Rattle.tables.specs.declared.Sort.{Sort}
@@ -19,7 +19,7 @@ use Rattle.tables.specs.declared.Table.{Table}
 -- a column read back from its seven numbers
 abbrev pub rules_of : List ℕ → Rules
 rules_of ns =
-    record { sort = if eqb (get_or ns 0 0) 0 then Decimal else Text; width = get_or ns 1 0; low = get_or ns 2 0; high = get_or ns 3 0; key = eqb (get_or ns 4 0) 1; required = eqb (get_or ns 5 0) 1; date = eqb (get_or ns 6 0) 1 }
+    record { sort = whether eqb (get_or ns 0 0) 0 then Decimal else Text; width = get_or ns 1 0; low = get_or ns 2 0; high = get_or ns 3 0; key = eqb (get_or ns 4 0) 1; required = eqb (get_or ns 5 0) 1; date = eqb (get_or ns 6 0) 1 }
 
 seven_back : (x : Rules) → rules_of (seven x) ≡ x
 seven_back x = go x.sort x.width x.low x.high x.key x.required x.date

@@ -6,7 +6,7 @@ use Prim.Native.Nat.{ℕ, suc, ◌+◌, ◌≤◌}
 use native.Mathlib.Omega.{arith}
 use lib.ListN.{length}
 use lib.Dec.{eqb}
-use Rattle.words.specs.Words.{Bytes, if◌then◌else◌, same, bytes}
+use Rattle.words.specs.Words.{Bytes, whether◌then◌else◌, same, bytes}
 use Rattle.words.proofs.Lists.{every}
 use Rattle.tables.specs.Columns.{Column, column_from, columns_of, column_number}
 use Rattle.editions.specs.declared.Edition.{Edition}
@@ -20,7 +20,7 @@ unfolding column_from
 number_from k [] name = omega arith
 number_from k (x ∷ xs) name = go (same name x.name || same name x.other) (number_from (suc k) xs name)
   where
-    go : (b : Bool) → column_from (suc (suc k)) xs name ≤ suc k + length xs → (if b then suc k else column_from (suc (suc k)) xs name) ≤ k + suc (length xs)
+    go : (b : Bool) → column_from (suc (suc k)) xs name ≤ suc k + length xs → (whether b then suc k else column_from (suc (suc k)) xs name) ≤ k + suc (length xs)
     go true h = omega arith
     go false h = omega arith
 

@@ -1,7 +1,7 @@
 -- The tables of columns.
 use Rattle.std.specs.Prelude.{false, true, ◌||◌, Bool, ◌&&◌, not, List, [], ◌∷◌, ℕ, ◌-◌, ◌^◌, suc, eqb, leb, get_or}
 use Prim.Native.String.{String}
-use Rattle.words.specs.Words.{Bytes, bytes, if◌then◌else◌, same}
+use Rattle.words.specs.Words.{Bytes, bytes, whether◌then◌else◌, same}
 use Rattle.dates.specs.Calendar.{is_date}
 use Rattle.rows.specs.Rows.{row_numbers}
 use Rattle.tables.specs.declared.Rules.{Rules}
@@ -133,12 +133,12 @@ number Calendar = 7
 -- the table of a number
 abbrev pub numbered : ℕ → Named
 numbered n =
-    if eqb n 1 then Known VehicleType
-    else if eqb n 2 then Known Depot
-    else if eqb n 3 then Known Stop
-    else if eqb n 4 then Known Block
-    else if eqb n 6 then Known StopPoint
-    else if eqb n 7 then Known Calendar
+    whether eqb n 1 then Known VehicleType
+    else whether eqb n 2 then Known Depot
+    else whether eqb n 3 then Known Stop
+    else whether eqb n 4 then Known Block
+    else whether eqb n 6 then Known StopPoint
+    else whether eqb n 7 then Known Calendar
     else Unknown
 
 -- how many columns are keys, which come first
@@ -179,7 +179,7 @@ references Calendar = []
 -- the number of the column of that name, the first of the list being number k; 0 for an unknown one
 unfoldable pub column_from : ℕ → List Column → Bytes → ℕ
 column_from k [] name = 0
-column_from k (x ∷ xs) name = if same name x.name || same name x.other then k else column_from (suc k) xs name
+column_from k (x ∷ xs) name = whether same name x.name || same name x.other then k else column_from (suc k) xs name
 
 -- "Header names are compared byte for byte, in any column order. Unknown columns, unnamed ones too, are passed over"
 unfoldable pub column_number : Edition → Table → Bytes → ℕ

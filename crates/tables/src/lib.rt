@@ -2,7 +2,7 @@
 #![tactic(auto)]
 
 ghost use Rattle.std.specs.Prelude.{◌≡◌, ◌<◌, get_or, length, eqb};
-ghost use Rattle.words.specs.Words.{if◌then◌else◌};
+ghost use Rattle.words.specs.Words.{whether◌then◌else◌};
 ghost use Rattle.tables.specs.Columns.{column_at, references, ref, columns_of, number, key_width, kept_width, numbered};
 ghost use Rattle.tables.specs.Listing.{column_room, listed, figures_of, chosen};
 ghost use Rattle.tables.specs.Parts.{tables, room, begin};
@@ -461,7 +461,7 @@ fn choose(edition: Edition, by21: Columns, by23: Columns) -> Columns
 impl Sort {
     // The sort of a column, by its first number.
     fn of(n: u64) -> Sort
-        ensures { result ≡ (if eqb n 0 then Sort.Decimal else Sort.Text) }
+        ensures { result ≡ (whether eqb n 0 then Sort.Decimal else Sort.Text) }
     {
         if n == 0 { Sort::Decimal } else { Sort::Text }
     }

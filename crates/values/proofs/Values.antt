@@ -6,7 +6,7 @@ use native.Mathlib.Omega.{arith}
 use lib.Dec.{eqb, ltb}
 use lib.ListN.{length}
 use borrow.Author.Tests.{le-leb, eqb-false, ltb-false}
-use Rattle.words.specs.Words.{Bytes, if◌then◌else◌}
+use Rattle.words.specs.Words.{Bytes, whether◌then◌else◌}
 use Rattle.refusals.specs.Verdicts.{◌when◌, ◌⊳◌, passes, cell_empty, cell_too_long, not_digits, out_of_range}
 use Rattle.refusals.specs.declared.Check.TheVariants.{Passes}
 use Rattle.numbers.specs.Numbers.{all_digits, value}
@@ -27,7 +27,7 @@ use Rattle.values.specs.declared.Value.{Value}
 use Rattle.values.specs.declared.Value.TheVariants as value-is
 
 -- content that is neither empty nor too long is a decimal if it is digits
-fits_digits : (w : ℕ) (s : Bytes) → eqb (length s) 0 ≡ false → ltb w (length s) ≡ false → decimal_of w s ≡ (if all_digits s then digits_are.Value (value s) else digits_are.Other)
+fits_digits : (w : ℕ) (s : Bytes) → eqb (length s) 0 ≡ false → ltb w (length s) ≡ false → decimal_of w s ≡ (whether all_digits s then digits_are.Value (value s) else digits_are.Other)
 unfolding decimal_of
 fits_digits w s e l = rw (le-leb 1 (length s) (omega (arith, eqb-false (length s) 0 e)), le-leb (length s) w (ltb-false w (length s) l))
 
@@ -35,11 +35,11 @@ fits_digits w s e l = rw (le-leb 1 (length s) (omega (arith, eqb-false (length s
 pub check_of_value : (k : ℕ) (x : Rules) (s : Bytes) → check_of k (value_of x s) ≡ cell_check k x s
 check_of_value k x s = by_length_lem (eqb (length s) 0) refl x.required (ltb x.width (length s)) refl
   where
-    by_range : (b : Bool) → check_of k (if b then value-is.Number (value s) else value-is.Bad 21) ≡ (out_of_range k when not b)
+    by_range : (b : Bool) → check_of k (whether b then value-is.Number (value s) else value-is.Bad 21) ≡ (out_of_range k when not b)
     by_range true = refl
     by_range false = refl
 
-    by_digits_lem : (b : Bool) → check_of k (by_digits x (if b then digits_are.Value (value s) else digits_are.Other)) ≡ (not_digits k when not b ⊳ out_of_range k when not (in_range x (value s)))
+    by_digits_lem : (b : Bool) → check_of k (by_digits x (whether b then digits_are.Value (value s) else digits_are.Other)) ≡ (not_digits k when not b ⊳ out_of_range k when not (in_range x (value s)))
     by_digits_lem true = by_range (in_range x (value s))
     by_digits_lem false = refl
 
@@ -48,8 +48,8 @@ check_of_value k x s = by_length_lem (eqb (length s) 0) refl x.required (ltb x.w
     by_sort_lem e l Text = refl
 
     by_length_lem : (z : Bool) → eqb (length s) 0 ≡ z → (q : Bool) → (w : Bool) → ltb x.width (length s) ≡ w
-        → check_of k (if z then (if q then value-is.Bad 19 else value-is.Empty) else (if w then value-is.Bad 20 else by_sort x.sort x s))
-        ≡ (if z then cell_empty k when q else (cell_too_long k when w ⊳ said_check x.sort k x s))
+        → check_of k (whether z then (whether q then value-is.Bad 19 else value-is.Empty) else (whether w then value-is.Bad 20 else by_sort x.sort x s))
+        ≡ (whether z then cell_empty k when q else (cell_too_long k when w ⊳ said_check x.sort k x s))
     by_length_lem true e true w l = refl
     by_length_lem true e false w l = refl
     by_length_lem false e q true l = refl
@@ -87,12 +87,12 @@ module _ (x : Rules) (s : Bytes) (e : x.sort ≡ Decimal) (q : x.required ≡ tr
   number_kept : (value_of x s ≡ value-is.Number (value s)) × (in_range x (value s) ≡ true)
   number_kept = by_length_lem (eqb (length s) 0) refl (ltb x.width (length s)) refl (kept_check 0 x s b)
     where
-      by_range : (i : Bool) → (out_of_range 0 when not i) ≡ Passes → ((if i then value-is.Number (value s) else value-is.Bad 21) ≡ value-is.Number (value s)) × (i ≡ true)
+      by_range : (i : Bool) → (out_of_range 0 when not i) ≡ Passes → ((whether i then value-is.Number (value s) else value-is.Bad 21) ≡ value-is.Number (value s)) × (i ≡ true)
       by_range true p = (refl, refl)
       by_range false p = let z : ◌≡◌ {A = ℕ} 0 1 = cc in absurd (omega arith)
 
       by_digits_lem : (d : Bool) → (not_digits 0 when not d ⊳ out_of_range 0 when not (in_range x (value s))) ≡ Passes
-          → (by_digits x (if d then digits_are.Value (value s) else digits_are.Other) ≡ value-is.Number (value s)) × (in_range x (value s) ≡ true)
+          → (by_digits x (whether d then digits_are.Value (value s) else digits_are.Other) ≡ value-is.Number (value s)) × (in_range x (value s) ≡ true)
       by_digits_lem true p = by_range (in_range x (value s)) p
       by_digits_lem false p = let z : ◌≡◌ {A = ℕ} 0 1 = cc in absurd (omega arith)
 
@@ -102,8 +102,8 @@ module _ (x : Rules) (s : Bytes) (e : x.sort ≡ Decimal) (q : x.required ≡ tr
       by_sort_lem f l Text d p = let z : ◌≡◌ {A = ℕ} 0 1 = cc in absurd (omega arith)
 
       by_length_lem : (z : Bool) → eqb (length s) 0 ≡ z → (w : Bool) → ltb x.width (length s) ≡ w
-          → (if z then cell_empty 0 when x.required else (cell_too_long 0 when w ⊳ said_check x.sort 0 x s)) ≡ Passes
-          → ((if z then (if x.required then value-is.Bad 19 else value-is.Empty) else (if w then value-is.Bad 20 else by_sort x.sort x s)) ≡ value-is.Number (value s)) × (in_range x (value s) ≡ true)
+          → (whether z then cell_empty 0 when x.required else (cell_too_long 0 when w ⊳ said_check x.sort 0 x s)) ≡ Passes
+          → ((whether z then (whether x.required then value-is.Bad 19 else value-is.Empty) else (whether w then value-is.Bad 20 else by_sort x.sort x s)) ≡ value-is.Number (value s)) × (in_range x (value s) ≡ true)
       by_length_lem true f w l p = let z : ◌≡◌ {A = ℕ} 0 1 = cc in absurd (omega arith)
       by_length_lem false f true l p = let z : ◌≡◌ {A = ℕ} 0 1 = cc in absurd (omega arith)
       by_length_lem false f false l p = by_sort_lem f l x.sort e p

@@ -1,7 +1,7 @@
 -- What the code takes content, and a line, for.
 -- Inner: no promise and no contract of a public function speaks of it.
 use Rattle.std.specs.Prelude.{Bool, not, ℕ, eqb, ltb, length}
-use Rattle.words.specs.Words.{Bytes, if◌then◌else◌, Row}
+use Rattle.words.specs.Words.{Bytes, whether◌then◌else◌, Row}
 use Rattle.refusals.specs.Verdicts.{passes, cell_empty, cell_too_long, not_digits, out_of_range}
 use Rattle.refusals.specs.declared.Check.{Check}
 use Rattle.refusals.specs.declared.Check.TheVariants.{Passes, Fails}
@@ -30,14 +30,14 @@ against (Fails n k) = value-is.Bad n
 -- a value by the length of its content: what is empty, what is too long, and else what is given
 abbrev pub by_length : Rules → ℕ → Value → Value
 by_length x n v =
-    if eqb n 0
-    then (if x.required then against (cell_empty 0) else value-is.Empty)
-    else (if ltb x.width n then against (cell_too_long 0) else v)
+    whether eqb n 0
+    then (whether x.required then against (cell_empty 0) else value-is.Empty)
+    else (whether ltb x.width n then against (cell_too_long 0) else v)
 
 -- what digits are to a column
 abbrev pub by_digits : Rules → Digits → Value
 by_digits x digits_are.Other = against (not_digits 0)
-by_digits x (digits_are.Value n) = if in_range x n then value-is.Number n else against (out_of_range 0)
+by_digits x (digits_are.Value n) = whether in_range x n then value-is.Number n else against (out_of_range 0)
 
 abbrev pub by_sort : Sort → Rules → Bytes → Value
 by_sort Decimal x s = by_digits x (decimal_of x.width s)

@@ -1,6 +1,6 @@
 -- What content is to a column.
 use Rattle.std.specs.Prelude.{not, List, [], ◌∷◌, ℕ, suc, eqb, ltb, length}
-use Rattle.words.specs.Words.{Bytes, if◌then◌else◌}
+use Rattle.words.specs.Words.{Bytes, whether◌then◌else◌}
 use Rattle.refusals.specs.Verdicts.{◌when◌, ◌⊳◌, cell_empty, cell_too_long, not_digits, out_of_range}
 use Rattle.refusals.specs.declared.Check.{Check}
 use Rattle.refusals.specs.declared.Check.TheVariants.{Passes}
@@ -18,7 +18,7 @@ said_check Text k x s = Passes
 -- what is wrong with the content of column k: "19 empty where required; 20 content longer than the width; .. where two hold, 20 comes first"
 abbrev pub cell_check : ℕ → Rules → Bytes → Check
 cell_check k x s =
-    if eqb (length s) 0
+    whether eqb (length s) 0
     then cell_empty k when x.required
     else (cell_too_long k when ltb x.width (length s) ⊳ said_check x.sort k x s)
 

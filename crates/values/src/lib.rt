@@ -2,7 +2,7 @@
 #![tactic(auto)]
 
 ghost use Rattle.std.specs.Prelude.{◌≡◌, ◌≤◌};
-ghost use Rattle.words.specs.Words.{if◌then◌else◌};
+ghost use Rattle.words.specs.Words.{whether◌then◌else◌};
 ghost use Rattle.refusals.specs.Verdicts.{cell_empty, out_of_range};
 ghost use Rattle.cells.specs.Cells.{content};
 ghost use Rattle.numbers.specs.Decimals.{decimal_of};
@@ -41,7 +41,7 @@ pub fn number_in(cell: &[u8], width: usize) -> Digits
 impl Value {
     // Empty content is nothing, unless the column is required.
     fn of_nothing(rules: Rules) -> Value
-        ensures { result ≡ (if rules.required then against (cell_empty 0) else Value.Empty) }
+        ensures { result ≡ (whether rules.required then against (cell_empty 0) else Value.Empty) }
     {
         if rules.required {
             Value::Bad(Place::CELL_EMPTY)
@@ -64,7 +64,7 @@ impl Value {
     }
 
     fn of_number(rules: Rules, n: u64) -> Value
-        ensures { result ≡ (if in_range rules n then Value.Number n else against (out_of_range 0)) }
+        ensures { result ≡ (whether in_range rules n then Value.Number n else against (out_of_range 0)) }
     {
         if ranges::takes(rules, n) {
             Value::Number(n)

@@ -11,11 +11,11 @@ Bytes = List ℕ
 abbrev pub Row : Type 0
 Row = List ℕ
 
-abbrev pub if◌then◌else◌ {ℓ} : {A : Type ℓ} → Bool → A → A → A
-if true then a else b = a
-if false then a else b = b
+abbrev pub whether◌then◌else◌ {ℓ} : {A : Type ℓ} → Bool → A → A → A
+whether true then a else b = a
+whether false then a else b = b
 
-infix 10 if◌then◌else◌
+infix 10 whether◌then◌else◌
 -- the bytes of a quoted text: a character stands for the byte of its code
 unfoldable pub bytes : String → Bytes
 bytes none = []

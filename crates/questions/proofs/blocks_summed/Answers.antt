@@ -2,7 +2,7 @@ use mathlib.Core.Path.{ap, ◌∙◌}
 use Prim.Native.Nat.{ℕ, ◌≤◌, ◌<◌}
 use native.Mathlib.Omega.{arith}
 use lib.ListN.{length}
-use Rattle.words.specs.Words.{if◌then◌else◌}
+use Rattle.words.specs.Words.{whether◌then◌else◌}
 use Rattle.book.specs.Room.{book_of}
 use Rattle.rules.specs.Rules as questions
 use Rattle.keeping.proofs.Keeping.{keeps_sound}
@@ -35,7 +35,7 @@ overflow_add-seconds c =
     let i = at.blocks-2.i in
     let more : i < length (book_of xs).blocks = omega (arith, at.blocks-2.invariant.1, ty.blocks-2-test.true) in
     let most = sums.block_seconds xs st.requires i row.result more row.ensures in
-    omega (arith, at.blocks-2.invariant.0, at.blocks-2.invariant.2, (sums.summed_next questions.seconds st.args.version st.args.number (book_of xs).blocks 999999 i at.blocks-2.seconds at.blocks-2.invariant.3 more row.result row.ensures ty.of_type-here.result ty.of_type-here.ensures c.share-seconds.result (c.share-seconds.ensures ∙ ap (λ (w : ℕ). if ty.of_type-here.result then w else 0) c.seconds_of.ensures) most).bound)
+    omega (arith, at.blocks-2.invariant.0, at.blocks-2.invariant.2, (sums.summed_next questions.seconds st.args.version st.args.number (book_of xs).blocks 999999 i at.blocks-2.seconds at.blocks-2.invariant.3 more row.result row.ensures ty.of_type-here.result ty.of_type-here.ensures c.share-seconds.result (c.share-seconds.ensures ∙ ap (λ (w : ℕ). whether ty.of_type-here.result then w else 0) c.seconds_of.ensures) most).bound)
 
 pub overflow_add-count : goal.overflow_add-count
 overflow_add-count c =
@@ -61,7 +61,7 @@ blocks-2-preserved c =
       omega arith,
       at.blocks-2.invariant.1,
       at.blocks-2.invariant.2,
-      sums.summed_next questions.seconds st.args.version st.args.number (book_of xs).blocks 999999 i at.blocks-2.seconds at.blocks-2.invariant.3 more row.result row.ensures ty.of_type-here.result ty.of_type-here.ensures c.share-seconds.result (c.share-seconds.ensures ∙ ap (λ (w : ℕ). if ty.of_type-here.result then w else 0) c.seconds_of.ensures) most,
+      sums.summed_next questions.seconds st.args.version st.args.number (book_of xs).blocks 999999 i at.blocks-2.seconds at.blocks-2.invariant.3 more row.result row.ensures ty.of_type-here.result ty.of_type-here.ensures c.share-seconds.result (c.share-seconds.ensures ∙ ap (λ (w : ℕ). whether ty.of_type-here.result then w else 0) c.seconds_of.ensures) most,
       sums.summed_next (λ x. 1) st.args.version st.args.number (book_of xs).blocks 1 i at.blocks-2.count at.blocks-2.invariant.4 more row.result row.ensures ty.of_type-here.result ty.of_type-here.ensures c.share-count.result c.share-count.ensures (omega arith),
     )
 
