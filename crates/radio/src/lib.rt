@@ -1,3 +1,2 @@
 // The delivery by radio.
 #![tactic(auto)]
-

@@ -44,12 +44,12 @@ returns c =
     let n = c.count_rows-used in
     let xs = c.args.book.now in
     let s =
-        ap (λ (l : List Row). l ++ drop n.result c.args.slots.now)
-        (c.copy.ensures ∙ lent_first c.args.t xs c.requires.0 _ c.table_of-table.ensures n.result n.ensures.0)
+    ap (λ (l : List Row). l ++ drop n.result c.args.slots.now)
+    (c.copy.ensures ∙ lent_first c.args.t xs c.requires.0 _ c.table_of-table.ensures n.result n.ensures.0)
     in
     let within : n.result ≤ length c.args.slots.now = omega (arith, n.ensures.1, c.requires.2) in
     let long : length (c.copy.new.to ++ drop n.result c.args.slots.now) ≡ room c.args.t =
-        simp (length-append, length-drop) (omega (arith, c.copy.auto.to, length-take-le n.result c.args.slots.now within))
+    simp (length-append, length-drop) (omega (arith, c.copy.auto.to, length-take-le n.result c.args.slots.now within))
     in
     let o = c.number_slots.ensures ∙ ap (up_from 0) c.requires.3 in (
       shelf_on c.args.t xs c.requires.0 _ _ _ n.result s long o n.ensures.0 c.requires.1,

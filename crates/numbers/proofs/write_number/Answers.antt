@@ -17,7 +17,7 @@ begun c =
     let w = c.digit_count-count in
     let o = a.args.out.now in
     elim c.if-last-eq-LAST_POWER.branch [
-      then-last-eq-LAST_POWER t ↦ rw (t.out-is, t.left-is, t.i-is) (omega (arith, t.if-last-eq-LAST_POWER.true), omega (arith, t.if-last-eq-LAST_POWER.true), first_of_twenty a.args.n w.result o w.ensures (omega arith) t.if-last-eq-LAST_POWER.true a.ranges.n.fits)
+      | then-last-eq-LAST_POWER t ↦ rw (t.out-is, t.left-is, t.i-is) (omega (arith, t.if-last-eq-LAST_POWER.true), omega (arith, t.if-last-eq-LAST_POWER.true), first_of_twenty a.args.n w.result o w.ensures (omega arith) t.if-last-eq-LAST_POWER.true a.ranges.n.fits)
       | else-last-eq-LAST_POWER t ↦ rw (t.out-is, t.left-is, t.i-is) (omega arith, (let e = t.if-last-eq-LAST_POWER.false in omega (arith, decimal_short a.args.n a.ranges.n.fits)), none_written a.args.n w.result o w.ensures)
     ]
 

@@ -59,11 +59,11 @@ columns-preserved c =
           let q : value.result ≡ value_of (column_at ed t w.k).rules (content found.result.now) = value.ensures ∙ ap (λ (x : Rules). value_of x (content found.result.now)) (c.rules_at-rules.ensures ed t e) in
           let d : c.check.result ≡ check_of (w.k + 1) value.result = c.check.ensures ∙ ap (λ (j : ℕ). check_of j value.result) c.wide.ensures in
           elim c.if-k-kept.branch [
-            then-k-kept r ↦
-              let m2 : w.k < kept_width t = omega (arith, m, r.if-k-kept.true) in
-              rw r.row-is (columned_kept ed t h a.line.now w.row a.at.now w.k (w.invariant.3 t h e n m p) p l found.result.now found.ensures value.result q c.check.result d c.in-Passes.is m2 r.kept_number.result (λ j z. r.kept_number.ensures ∙ rw z))
+            | then-k-kept r ↦
+                let m2 : w.k < kept_width t = omega (arith, m, r.if-k-kept.true) in
+                rw r.row-is (columned_kept ed t h a.line.now w.row a.at.now w.k (w.invariant.3 t h e n m p) p l found.result.now found.ensures value.result q c.check.result d c.in-Passes.is m2 r.kept_number.result (λ j z. r.kept_number.ensures ∙ rw z))
             | else-k-kept r ↦
-              let m2 : kept_width t ≤ w.k = omega (arith, m, r.if-k-kept.false) in
-              rw r.row-is (columned_past ed t h a.line.now w.row a.at.now w.k (w.invariant.3 t h e n m p) p l found.result.now found.ensures value.result q c.check.result d c.in-Passes.is m2)
+                let m2 : kept_width t ≤ w.k = omega (arith, m, r.if-k-kept.false) in
+                rw r.row-is (columned_past ed t h a.line.now w.row a.at.now w.k (w.invariant.3 t h e n m p) p l found.result.now found.ensures value.result q c.check.result d c.in-Passes.is m2)
           ],
     )

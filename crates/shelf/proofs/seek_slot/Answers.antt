@@ -61,14 +61,14 @@ met c within_rows looked_at =
     let high = at.slots.high in
     let probe = at.slots.probe in
     elim c.match-compare.branch [
-      in-Less w ↦
-        let l = w.low-is in
-        let h = w.high-is in
-        (omega arith, omega arith, omega arith, rw (l, h) (places.bracket_down k row xs low high st.requires.1 at.slots.invariant.4 probe within_rows (looked_at ∙ w.in-Less.is)))
+      | in-Less w ↦
+          let l = w.low-is in
+          let h = w.high-is in
+          (omega arith, omega arith, omega arith, rw (l, h) (places.bracket_down k row xs low high st.requires.1 at.slots.invariant.4 probe within_rows (looked_at ∙ w.in-Less.is)))
       | in-More w ↦
-        let l = w.low-is in
-        let h = w.high-is in
-        (omega arith, omega arith, omega arith, rw (l, h) (places.bracket_up k row xs low high st.requires.1 at.slots.invariant.4 probe within_rows (looked_at ∙ w.in-More.is)))
+          let l = w.low-is in
+          let h = w.high-is in
+          (omega arith, omega arith, omega arith, rw (l, h) (places.bracket_up k row xs low high st.requires.1 at.slots.invariant.4 probe within_rows (looked_at ∙ w.in-More.is)))
     ]
 
 pub slots-init : goal.slots-init

@@ -35,7 +35,6 @@ value-is : (c : After-check) → Stands c.args.line.now (get_or c.args.marks.bou
     (e : Edition) → c.args.columns.now ≡ listed e Block → c.of_field-value.result ≡ value_of (column_at e Block c.columns.i).rules (get_or (numbers (fields c.args.line.now)) c.columns.i [])
 value-is c there e q = c.of_field-value.ensures ∙ rw (c.rules_at.ensures e Block q, there.there)
 
-
 pub columns-init : goal.columns-init
 columns-init c = (search rules, refl, refl, λ e q. refl)
 

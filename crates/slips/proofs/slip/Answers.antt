@@ -14,6 +14,7 @@ returns-then-work-ne-ROWS c =
     let xs = st.args.book.now in
     let work = st.args.work.now in
     call_unsized s xs work c.on.result c.if-work-ne-ROWS.true (c.on.ensures ∙ ap (placed 0 0) c.bad_loan.ensures)
+
 pub returns : goal.returns
 returns c =
     let st = c in
@@ -21,4 +22,3 @@ returns c =
     let work = st.args.work.now in
     let sized = c.if-work-ne-ROWS.false in
     ap (λ (w : List Row). outcome p.result p.new.book w) (work_cleared work _ _ sized (p.auto.work ∙ sized) c.clear.ensures) ∙ p.ensures
-
