@@ -8,7 +8,6 @@ use Rattle.rows.specs.Spots.{Holds}
 use Rattle.tables.specs.Columns.{key_width}
 use Rattle.tables.specs.Parts.{book_rows, marks_at}
 use Rattle.tables.specs.declared.Table.{Table}
-use Rattle.book.specs.Book.{Book}
 use Rattle.book.specs.Room.{part, book_of, marks}
 use Rattle.book.specs.Result.{Result, refused, leaves}
 

@@ -1,18 +1,18 @@
 -- The lines of a text from a place on: where the first one ends, and that the others follow it. Assumes nothing.
-use mathlib.Core.Path.{◌≡◌, refl, ap, sym, ◌∙◌, subst}
+use mathlib.Core.Path.{◌≡◌, refl, ap, sym, ◌∙◌}
 use mathlib.Core.List.{[], ◌∷◌, List}
-use mathlib.Core.Bool.{Bool, true, false, and-false, ◌&&◌, ◌||◌, not}
+use mathlib.Core.Bool.{Bool, true, false, ◌&&◌, ◌||◌, not}
 use Prim.Native.Nat.{ℕ, ◌<◌, suc, ◌+◌, ◌≤◌, zero, ◌-◌}
 use native.Mathlib.Omega.{arith}
 use lib.ListN.{length, drop, get_or, drop_of_length-le, length-drop, take}
 use lib.Dec.{eqb, ltb}
 use lib.Seq.{get_or-drop, drop-drop, drop-nil, take-nil}
-use borrow.Author.Tests.{ne_eqb, eq-eqb, eqb-true, eqb-false}
+use borrow.Author.Tests.{ne_eqb, eq-eqb, eqb-true}
 use Rattle.words.specs.Words.{Bytes, whether◌then◌else◌}
 use Rattle.words.proofs.Lists.{drop_step}
 use Rattle.editions.specs.declared.Edition.{Edition}
-use Rattle.editions.specs.declared.Edition.TheVariants.{Dino21, Dino23}
-use Rattle.cells.specs.Cells.{inside, breakable, breaks_stand, kind, next}
+use Rattle.editions.specs.declared.Edition.TheVariants.{Dino21}
+use Rattle.cells.specs.Cells.{inside, breaks_stand, next}
 use Rattle.cells.specs.declared.Kind.TheVariants.{Control, Other}
 use Rattle.cells.specs.declared.State.{State}
 use Rattle.cells.specs.declared.State.TheVariants.{Fresh, Plain, Inside, Closed, Over, Fault}

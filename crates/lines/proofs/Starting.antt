@@ -1,7 +1,7 @@
 -- The lines on which rows start, and where these lines begin. Assumes nothing.
 use mathlib.Core.Path.{◌≡◌, refl, sym, ap, ◌∙◌, subst}
 use mathlib.Core.List.{List, [], ◌∷◌}
-use mathlib.Core.Bool.{Bool, true, false, ◌&&◌, ◌||◌, not}
+use mathlib.Core.Bool.{Bool, true, false, ◌&&◌, not}
 use Prim.Native.Nat.{ℕ, zero, suc, ◌+◌, ◌≤◌, ◌<◌, ◌-◌}
 use native.Mathlib.Omega.{arith}
 use lib.Dec.{eqb, ltb}
@@ -14,7 +14,7 @@ use Rattle.editions.specs.declared.Edition.TheVariants.{Dino21, Dino23}
 use Rattle.cells.specs.Cells.{inside, breakable}
 use Rattle.cells.specs.declared.State.{State}
 use Rattle.cells.specs.declared.State.TheVariants.{Fresh}
-use Rattle.lines.specs.Lines.{line_start, lines, head_line, lines_from, feeds, breaks, line_after, starts_on, row_on, quoting, ends_row, end_next}
+use Rattle.lines.specs.Lines.{line_start, lines, head_line, feeds, breaks, line_after, starts_on, row_on, quoting, ends_row, end_next}
 use Rattle.lines.specs.Ends.{line_at, line_length, line_room, RowBegin}
 use Rattle.lines.specs.declared.Line.{Line}
 use Rattle.lines.proofs.Lining.{LineFrom, line_from, lines_none, return_ends, length_room, room_le, head_line_lem}

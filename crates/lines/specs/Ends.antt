@@ -1,6 +1,6 @@
 -- Where the lines of a text end.
 -- Inner: no promise and no contract of a public function speaks of it.
-use Rattle.std.specs.Prelude.{List, [], ◌∷◌, ◌≡◌, Bool, true, false, ◌&&◌, ℕ, suc, ◌+◌, ◌<◌, eqb, drop, length}
+use Rattle.std.specs.Prelude.{List, [], ◌∷◌, ◌≡◌, true, false, ◌&&◌, ℕ, suc, ◌+◌, ◌<◌, eqb, drop, length}
 use Rattle.words.specs.Words.{Bytes, whether◌then◌else◌}
 use Rattle.editions.specs.declared.Edition.{Edition}
 use Rattle.cells.specs.declared.State.{State}

@@ -1,4 +1,3 @@
-use mathlib.Core.Bool.{false}
 use native.Mathlib.Omega.{arith}
 use borrow.Author.Rules.{rules}
 use Rattle.contents.proofs.Contents.{once_step, once_end, counts_one}

@@ -1,5 +1,4 @@
 use mathlib.Core.Path.{refl, sym, ◌∙◌}
-use mathlib.Core.Bool.{true}
 use borrow.Author.Rules.{rules}
 use Rattle.rows.proofs.Room as room
 use Rattle.rows.proofs.blank_from.Goals as goal

@@ -15,10 +15,10 @@ use Rattle.writer.proofs.write_table.Goals as goal
 use Rattle.writer.proofs.write_table.Goals.{After-lines_length-size}
 
 -- the lines of the rows, and the whole text
-abbrev lines : tie.After_lines_length → Bytes
+abbrev lines : After-lines_length-size → Bytes
 lines c = lines_written (map row_line (take c.args.n c.args.list.now))
 
-abbrev text : tie.After_lines_length → Bytes
+abbrev text : After-lines_length-size → Bytes
 text c = lines_written (names_line ∷ map row_line (take c.args.n c.args.list.now))
 
 counted : (c : After-lines_length-size) → 145 + c.lines_length-size.result ≡ length (text c)

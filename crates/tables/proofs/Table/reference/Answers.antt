@@ -1,7 +1,4 @@
 -- `tables::Table::reference` meets its contract. Only stop points and blocks have references, a stop point one. Assumes nothing.
-use mathlib.Core.List.{[], ◌∷◌}
-use Rattle.tables.specs.declared.Table.TheVariants.{Block}
-use Rattle.tables.proofs.Figures.{reference_of_point}
 use Rattle.tables.proofs.Table.reference.Goals as goal
 
 pub block_reference-requires : goal.block_reference-requires

@@ -1,5 +1,4 @@
 -- `values::Value::of_cell` meets its contract, by the sort of the column. Assumes nothing.
-use borrow.Author.Rules.{rules}
 use Rattle.cells.specs.Cells.{content}
 use Rattle.values.proofs.Values.{decimal_judged, text_judged}
 use Rattle.values.proofs.Value.of_cell.Goals as goal

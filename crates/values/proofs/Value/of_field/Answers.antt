@@ -1,7 +1,6 @@
 -- `values::Value::of_field` meets its contract, by the sort of the column. Assumes nothing.
 use mathlib.Core.Path.{refl}
 use lib.ListN.{length}
-use borrow.Author.Rules.{rules}
 use Rattle.values.proofs.Values.{decimal_judged, text_judged}
 use Rattle.values.proofs.Value.of_field.Goals as goal
 
