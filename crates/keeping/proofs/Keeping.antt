@@ -7,7 +7,7 @@ use native.Mathlib.Omega.{arith}
 use lib.ListN.{drop, replicate, length, take, take-append-drop, get_or, drop_of_length-le}
 use lib.Seq.{length-take-le, get_or-take}
 use lib.Dec.{eqb, leb, lit≤}
-use borrow.Author.Tests.{eq-eqb, ne_eqb, lt-leb, le-leb, eqb-true}
+use borrow.Author.Tests.{eq-eqb, ne_eqb, le-leb, eqb-true}
 use Rattle.words.specs.Words.{Row, same, all}
 use Rattle.words.proofs.Lists.{drop_step, and_left, and_right, same_refl, same_true}
 use Rattle.refusals.specs.Verdicts.{passes}
@@ -18,7 +18,6 @@ use Rattle.rows.proofs.Room.{used_within, true_holds, holds_true, same_rows_refl
 use Rattle.editions.specs.declared.Edition.{Edition}
 use Rattle.editions.specs.declared.Edition.TheVariants.{Dino21, Dino23}
 use Rattle.tables.specs.Columns.{in_range, columns_of, kept_width, Column, column_at, no_column, key_width}
-use Rattle.tables.specs.declared.Rules.{Rules}
 use Rattle.tables.specs.declared.Table.{Table}
 use Rattle.tables.specs.Parts.{part_of, tables, room, book_rows, marks_at}
 use Rattle.tables.specs.declared.Table.TheVariants.{Calendar}

@@ -24,7 +24,6 @@ use Rattle.tables.specs.declared.Table.{Table}
 use Rattle.book.specs.Book.{Book}
 use Rattle.book.specs.Room.{book_of}
 use Rattle.header.specs.Header.{header_check}
-use Rattle.header.specs.Heading.{headed}
 use Rattle.table_reading.proofs.Taking.{not_accepted}
 use Rattle.radio.proofs.Stretching.{front, part_long, part_tail, part_line, over_join, line_found}
 use Rattle.radio.specs.Radio.{Course, stopped, going, line_heard, kept_line, ended}

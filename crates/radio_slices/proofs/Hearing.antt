@@ -16,7 +16,7 @@ use Rattle.keeping.specs.Keeping.{keeps_rule}
 use Rattle.keeping.proofs.Keeping.{keeps_sound, keeps_rows}
 use Rattle.keeping.proofs.Points.{points_named_lem}
 use Rattle.header.specs.Header.{header_check}
-use Rattle.radio.specs.Radio.{Course, stopped, going, hears}
+use Rattle.radio.specs.Radio.{stopped}
 use Rattle.radio.specs.Rule.{lawful_head, lawful_course}
 use Rattle.radio.specs.Room.{fault_in, course_in, keeps_radio, first_heard, turn_of, come_of, line_of, head_of, rest_of, flag_of}
 use Rattle.radio.proofs.Lawful as lawful

@@ -5,7 +5,7 @@ use mathlib.Core.List.{List, [], ◌∷◌}
 use Prim.Native.Nat.{ℕ, ◌-◌}
 use native.Mathlib.Omega.{arith}
 use lib.Dec.{lit≤, lit<}
-use Rattle.words.specs.Words.{Row, same, all}
+use Rattle.words.specs.Words.{Row, all}
 use Rattle.words.proofs.Lists.{and_left, and_right}
 use Rattle.refusals.specs.Verdicts.{passes}
 use Rattle.refusals.specs.declared.Check.TheVariants.{Passes}

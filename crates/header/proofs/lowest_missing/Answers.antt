@@ -4,7 +4,6 @@ use Prim.Native.Nat.{◌+◌, ◌<◌}
 use native.Mathlib.Omega.{arith}
 use lib.Dec.{eqb}
 use lib.ListN.{length, get_or}
-use borrow.Author.Rules.{rules}
 use Rattle.tables.specs.Columns.{columns_of, column_at}
 use Rattle.tables.proofs.Figures.{columns_few}
 use Rattle.header.specs.Heading.{most_columns}

@@ -1,9 +1,9 @@
 -- `intake::shelve` meets its contract: the table's rows stand in the first slots as they stood, and the order counts them. Assumes nothing.
 use mathlib.Core.Path.{◌≡◌, sym, ap, ◌∙◌}
 use mathlib.Core.List.{List, ◌++◌}
-use Prim.Native.Nat.{◌≤◌, ◌-◌}
+use Prim.Native.Nat.{◌≤◌}
 use native.Mathlib.Omega.{arith}
-use lib.ListN.{length, drop, take, length-append, length-drop, length-take}
+use lib.ListN.{length, drop, length-append, length-drop, length-take}
 use Rattle.tables.specs.Parts.{room}
 use lib.Seq.{length-take-le}
 use Rattle.words.specs.Words.{Row}

@@ -1,5 +1,4 @@
 use mathlib.Core.Path.{refl, sym, ◌∙◌}
-use mathlib.Core.Bool.{false}
 use borrow.Author.Rules.{rules}
 use Rattle.radio_rule.proofs.Faults.{member_here, member_next, member_end}
 use Rattle.radio_rule.proofs.among.Goals as goal

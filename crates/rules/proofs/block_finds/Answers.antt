@@ -1,7 +1,6 @@
 -- `rules::block_finds` meets its contract: a known point's stop is known. Assumes nothing.
 use mathlib.Core.Path.{sym, ◌∙◌}
 use lib.Dec.{lit<}
-use borrow.Author.Tests.{not-false}
 use Rattle.tables.specs.Columns.{references}
 use Rattle.tables.specs.declared.Table.TheVariants.{Block}
 use Rattle.book.specs.Room.{book_of}

@@ -1,9 +1,7 @@
 -- `rules::named` meets its contract. Only the key of a stop point has three numbers. Assumes nothing.
-use mathlib.Core.Path.{◌≡◌, sym, ap, ◌∙◌}
+use mathlib.Core.Path.{◌≡◌}
 use Prim.Native.Nat.{◌-◌}
 use native.Mathlib.Omega.{arith}
-use Rattle.rows.specs.Rows.{wide}
-use Rattle.rules.proofs.Referring.{named_pair}
 use Rattle.rules.proofs.named.Goals as goal
 
 pub returns-in-StopPoint : goal.returns-in-StopPoint

@@ -1,6 +1,5 @@
 -- `slips::take_whole` meets its contract: all lines, or the book as it was. Assumes nothing.
 use mathlib.Core.Path.{ap, ◌∙◌}
-use borrow.Author.Rules.{rules}
 use Rattle.editions.specs.declared.Edition.{Edition}
 use Rattle.tables.specs.Listing.{listed}
 use Rattle.tables.specs.declared.Table.TheVariants.{Block}

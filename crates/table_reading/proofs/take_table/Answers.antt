@@ -1,6 +1,5 @@
 -- `table_reading::take_table` meets its contract: what the top refuses, and the rows behind any other. Assumes nothing.
 use mathlib.Core.Path.{subst}
-use borrow.Author.Rules.{rules}
 use Rattle.book.specs.Room.{book_of}
 use Rattle.header.specs.Header.{header_of}
 use Rattle.table_reading.proofs.Pointing.{table_left}

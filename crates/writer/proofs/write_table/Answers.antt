@@ -33,7 +33,7 @@ counted c =
 pub returns-then-out-size : goal.returns-then-out-size
 returns-then-out-size c =
     let l = c in
-    too_short (text l) l.args.out.now (145 + l.lines_length-size.result) (counted (goal.at.returns-then-out-size c).After-lines_length-size) c.unwritten.result.verdict c.unwritten.result.size (omega arith)
+    too_short (text (goal.at.returns-then-out-size c).After-lines_length-size) l.args.out.now (145 + l.lines_length-size.result) (counted (goal.at.returns-then-out-size c).After-lines_length-size) c.unwritten.result.verdict c.unwritten.result.size (omega arith)
     (c.unwritten.ensures.0 ∙ ap (λ (k : Check). nowhere k) c.output_short.ensures) c.unwritten.ensures.1
 
 pub write_header-at-requires : goal.write_header-at-requires
@@ -65,6 +65,6 @@ returns c =
     let o = l.args.out.now in
     let head = names_line ++ (10 ∷ []) in
     let at : h.result ≡ length head = simp length-append h.ensures.0 in
-    all_written (text l) o (145 + l.lines_length-size.result) (counted (goal.at.returns c).After-lines_length-size) _ (omega arith)
-    (lent head (lines l) o h.new.out w.new.out h.result at h.ensures.1 w.ensures.1
+    all_written (text (goal.at.returns c).After-lines_length-size) o (145 + l.lines_length-size.result) (counted (goal.at.returns c).After-lines_length-size) _ (omega arith)
+    (lent head (lines (goal.at.returns c).After-lines_length-size) o h.new.out w.new.out h.result at h.ensures.1 w.ensures.1
     ∙ ap (λ (t : Bytes). put t o) (sym (line_first names_line (map row_line (take l.args.n l.args.list.now)))))

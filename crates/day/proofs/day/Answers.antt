@@ -1,0 +1,34 @@
+-- `day::day` meets its contract: 16 of the working area, the reading, and the slip behind an accepted one. Assumes nothing.
+use mathlib.Core.Path.{ap, ◌∙◌}
+use Rattle.refusals.specs.Verdicts.{placed}
+use Rattle.slips.proofs.Posting.{work_cleared}
+use Rattle.day.proofs.Days.{day_unsized, day_slip, day_refused}
+use Rattle.day.proofs.day.Goals as goal
+
+pub returns-then-work-ne-ROWS : goal.returns-then-work-ne-ROWS
+returns-then-work-ne-ROWS c =
+    let st = c in
+    let s = st.args.slip.now in
+    let xs = st.args.book.now in
+    let work = st.args.work.now in
+    let emptying = c.empty_book in
+    day_unsized st.args.edition _ s xs work c.on.result emptying.new.book c.if-work-ne-ROWS.true (c.on.ensures ∙ ap (placed 0 0) c.bad_loan.ensures) emptying.ensures
+
+pub returns-in-Accepted : goal.returns-in-Accepted
+returns-in-Accepted c =
+    let st = c in
+    let s = st.args.slip.now in
+    let xs = st.args.book.now in
+    let work = st.args.work.now in
+    let read = c.read in
+    day_slip st.args.edition _ s xs work c.if-work-ne-ROWS.false read.result read.new.book read.ensures _ c.in-Accepted.is c.slip.ensures
+
+pub returns-in-Refused : goal.returns-in-Refused
+returns-in-Refused c =
+    let st = c in
+    let s = st.args.slip.now in
+    let xs = st.args.book.now in
+    let work = st.args.work.now in
+    let read = c.read in
+    let sized = c.if-work-ne-ROWS.false in
+    day_refused st.args.edition _ s xs work sized read.result read.new.book read.ensures c.in-Refused.place _ c.in-Refused.is (work_cleared work _ _ sized sized c.clear.ensures)
