@@ -21,10 +21,10 @@ returns-in-Accepted c =
     let f = h in
     let a = f.args in
     hours_there a.book.now a.version a.number f.type_answer-found.result h.hours-hours.result f.type_answer-found.ensures h.hours-hours.ensures c.in-Accepted.is c.hours_summed-summed.result c.hours_summed-summed.ensures
+
 pub returns-in-Refused : goal.returns-in-Refused
 returns-in-Refused c =
     let h = c in
     let f = h in
     let a = f.args in
     hours_refused a.book.now a.version a.number f.type_answer-found.result h.hours-hours.result f.type_answer-found.ensures h.hours-hours.ensures c.in-Refused.field-0 c.in-Refused.is (of_bits binary64 0) zero_bits
-
