@@ -37,7 +37,7 @@ use Rattle.book.specs.Book.{Book, knows, full, empty_by}
 use Rattle.book.specs.Result.{refused}
 use Rattle.rules.specs.Rules.{time_fault, named, unknown, unknown_of, ruled}
 use Rattle.header.specs.Header.{Header, header, member, repeated, missing, missing_from, bad_cut, line_check, cut_check, header_check, contents, header_of, most_cells}
-use Rattle.row_line_lem.specs.RowLine.{row_read}
+use Rattle.row_line.specs.RowLine.{row_read}
 use Rattle.table_lines.specs.Reading.{judged}
 use Rattle.table_reading.specs.Reading.{table_read}
 use Rattle.delivery.specs.Delivery.{Delivery, reading}
