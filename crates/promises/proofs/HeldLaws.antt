@@ -24,7 +24,6 @@ use Rattle.rows.specs.declared.Order.TheVariants.{Less, Same, More}
 use Rattle.rows.proofs.Rising.{rising_inserted, rising_true}
 use Rattle.rows.proofs.Changes.{length_inserted}
 use Rattle.editions.specs.declared.Edition.{Edition}
-use Rattle.editions.specs.declared.Edition.TheVariants.{Dino21, Dino23}
 use Rattle.tables.specs.Columns.{columns_of, kept_width, key_width, number}
 use Rattle.tables.specs.declared.Table.{Table}
 use Rattle.tables.specs.Parts.{room as roomOf}

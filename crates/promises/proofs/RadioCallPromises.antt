@@ -6,7 +6,7 @@ use mathlib.Core.Logic.{⊎_elim}
 use Prim.Native.Nat.{ℕ}
 use native.Mathlib.Omega.{arith}
 use lib.ListN.{length}
-use Rattle.words.specs.Words.{Bytes, whether◌then◌else◌, same, all}
+use Rattle.words.specs.Words.{Bytes, whether◌then◌else◌, all}
 use Rattle.words.proofs.Lists.{and_left}
 use Rattle.refusals.specs.Verdicts.{nowhere, not_there, bad_loan}
 use Rattle.refusals.specs.declared.Place.{Place}

@@ -24,7 +24,7 @@ use Rattle.rows.proofs.Changes.{stands_removed, length_removed}
 use Rattle.editions.specs.declared.Edition.{Edition}
 use Rattle.tables.specs.declared.Table.TheVariants.{Block, Calendar}
 use Rattle.book.specs.Book.{Book, with_rows, entered, full}
-use Rattle.book.specs.Result.{Result, leaves, ◌▹◌, unless, refused}
+use Rattle.book.specs.Result.{Result, leaves, unless, refused}
 use Rattle.rules.specs.Rules.{ruled, time_fault, unknown, unknown_of, seconds}
 use Rattle.rules.proofs.Referring.{passed}
 use Rattle.questions.specs.Questions.{of_type, total, seven}
