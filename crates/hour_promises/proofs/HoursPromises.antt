@@ -3,8 +3,7 @@ use mathlib.Core.Path.{◌≡◌, refl, ap, sym, ◌∙◌}
 use mathlib.Core.List.{List, [], ◌∷◌}
 use mathlib.Core.Bool.{Bool, true, false}
 use Prim.Native.Nat.{ℕ}
-use Rattle.words.specs.Words.{Row, whether◌then◌else◌}
-use Rattle.refusals.specs.declared.Verdict.{Verdict}
+use Rattle.words.specs.Words.{Row}
 use Rattle.book.specs.Book.{Book}
 use Rattle.book.specs.Room.{book_of, laid}
 use Rattle.book.proofs.Laying.{book_laid}
@@ -18,7 +17,6 @@ use Rattle.seasons.specs.declared.SeasonAnswer.{SeasonAnswer}
 use Rattle.hour_numbers.specs.Hours.{hours_of, clerk}
 use Rattle.hours.specs.Calls.{seconds_each, hours_answered, hours_call, season_hours_answered, season_hours_call}
 use Rattle.hours.specs.declared.HoursAnswer.{HoursAnswer}
-use Rattle.hours.specs.declared.SeasonHours.{SeasonHours}
 use Rattle.promises.specs.Promises.{run}
 use Rattle.promises.proofs.RuleLaws.{standing_orderly}
 use Rattle.promises.proofs.RulePromises.{left_standing}

@@ -2,22 +2,19 @@
 use mathlib.Core.Path.{◌≡◌, refl, ap, sym, ◌∙◌}
 use mathlib.Core.List.{List, [], ◌∷◌}
 use mathlib.Core.Bool.{Bool, true, false, ◌&&◌, not}
-use Prim.Native.Nat.{ℕ, suc, ◌+◌, ◌*◌, ◌≤◌, ◌<◌}
+use Prim.Native.Nat.{ℕ, ◌+◌, ◌*◌}
 use native.Mathlib.Omega.{arith}
 use Rattle.words.specs.Words.{Row, whether◌then◌else◌}
 use Rattle.refusals.specs.Verdicts.{◌when◌, ◌before◌, nowhere, bad_loan, not_there, no_date}
 use Rattle.dates.specs.Calendar.{is_date}
-use Rattle.editions.specs.declared.Edition.{Edition}
 use Rattle.rows.specs.Rows.{column, stands}
 use Rattle.tables.specs.declared.Table.TheVariants.{VehicleType, Block, Calendar}
 use Rattle.book.specs.Book.{Book, knows}
 use Rattle.book.specs.Room.{book_of, laid}
-use Rattle.book.specs.Result.{leaves}
 use Rattle.book.proofs.Laying.{book_laid}
 use Rattle.rules.specs.Rules.{seconds}
 use Rattle.keeping.specs.Keeping.{keeps_rule}
-use Rattle.questions.specs.Questions.{of_type, total}
-use Rattle.delivery.specs.Delivery.{Delivery, reading}
+use Rattle.questions.specs.Questions.{total}
 use Rattle.day_tally.specs.Days.{falls, days_of}
 use Rattle.seasons.specs.Seasons.{runs, season}
 use Rattle.seasons.specs.Calls.{season_answered, season_call}
