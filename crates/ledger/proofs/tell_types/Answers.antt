@@ -1,5 +1,5 @@
 -- A book that keeps the book rule can be counted, and hours that are near some seconds are numbers.
-use Rattle.std.proofs.Common.{◌≡◌, ℕ, List, sym, ap, subst, ◌∙◌, ◌×◌, arith, not}
+use Rattle.std.proofs.Common.{◌≡◌, ℕ, List, sym, ap, subst, ◌∙◌, arith, not}
 use Rattle.std.specs.Prelude.{T, Float}
 use Rattle.std.specs.Float.Ieee.{is_nan}
 use Rattle.words.specs.Words.{Row}
@@ -28,5 +28,5 @@ row_at-row-requires g c = (
 pub bits-requires : goal.bits-requires
 bits-requires g c = (both_numbers c.args.book.now _ _ c.type_hours-found.result c.type_hours-found.ensures).0
 
-pub bits-requires-2 : goal.bits-requires-2
-bits-requires-2 g c = (both_numbers c.args.book.now _ _ c.type_hours-found.result c.type_hours-found.ensures).1
+pub bits-requires-in-types : goal.bits-requires-in-types
+bits-requires-in-types g c = (both_numbers c.args.book.now _ _ c.type_hours-found.result c.type_hours-found.ensures).1
