@@ -3,8 +3,7 @@ use mathlib.Core.Path.{◌≡◌, ap, ◌∙◌}
 use mathlib.Core.List.{List}
 use Prim.Native.Nat.{ℕ}
 use lib.ListN.{get_or}
-use Rattle.refusals.specs.Verdicts.{paper}
-use Rattle.refusals.specs.declared.Verdict.{Verdict}
+use Rattle.refusals.specs.Verdicts.{paper, Verdict}
 use Rattle.abi.specs.Telling.{Tells}
 
 pub telling : (told : List ℕ) (v w : Verdict) → told ≡ paper v → v ≡ w → Tells (get_or told 0 0) told w

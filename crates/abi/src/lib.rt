@@ -16,8 +16,8 @@ fn on_paper(verdict: Verdict) -> [u64; 4]
     ensures { result ≡ paper verdict }
 {
     match verdict {
-        Verdict::Accepted => [0, 0, 0, 0],
-        Verdict::Refused(p) => [p.number, p.table, p.line, p.column],
+        Ok(()) => [0, 0, 0, 0],
+        Err(p) => [p.number, p.table, p.line, p.column],
     }
 }
 

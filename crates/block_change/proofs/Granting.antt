@@ -9,13 +9,11 @@ use lib.ListN.{length, get_or, set, length-map, length-set}
 use lib.Dec.{lit≤}
 use Rattle.words.specs.Words.{Row, Bytes}
 use Rattle.refusals.proofs.Chaining.{both}
-use Rattle.refusals.specs.Verdicts.{◌⊳◌, ◌when◌, too_many_rows, ends_early, unknown_line, no_block}
-use Rattle.refusals.specs.declared.Check.{Check}
-use Rattle.refusals.specs.declared.Check.TheVariants.{Passes, Fails}
+use Rattle.refusals.specs.Verdicts.{◌⊳◌, ◌when◌, too_many_rows, ends_early, unknown_line, no_block, Check, fault}
 use Rattle.numbers.specs.Numbers.{value}
 use Rattle.fields.specs.Fields.{fields}
 use Rattle.rows.specs.Rows.{wide, removed, column, replaced, rising}
-use Rattle.rows.specs.declared.Spot.TheVariants.{At, Gap}
+use Rattle.std.specs.Prelude.{Ok, Err}
 use Rattle.rows.specs.Spots.{spot}
 use Rattle.rows.proofs.Keys.{same_key_refl}
 use Rattle.rows.proofs.Changes.{removed_key, versioned_replaced, versioned_removed}
@@ -51,9 +49,9 @@ removed_wide : (k : ℕ) (ns : List ℕ) (xs : List Row) → removed k (wide ns)
 removed_wide k ns xs = removed_key k (wide ns) ns (same_key_wide k ns ns ∙ same_key_refl k ns) xs
 
 -- a check does not pass where a later one fails
-then_fails : (c d : Check) → (d ≡ Passes → ⊥) → c ⊳ d ≡ Passes → ⊥
-then_fails Passes d f e = f e
-then_fails (Fails n k) d f e = let z : ◌≡◌ {A = ℕ} 0 1 = cc in omega arith
+then_fails : (c d : Check) → (d ≡ Ok tt → ⊥) → c ⊳ d ≡ Ok tt → ⊥
+then_fails (Ok _) d f e = f e
+then_fails (Err w) d f e = let z : ◌≡◌ {A = ℕ} 0 1 = cc in omega arith
 
 module _ (line : Bytes) (slice slots : List Row) (order : List ℕ) (n : ℕ) (on : OnShelf Block slice slots order n) where
   abbrev b : Book
@@ -66,11 +64,11 @@ module _ (line : Bytes) (slice slots : List Row) (order : List ℕ) (n : ℕ) (o
   fs = numbers (fields line)
 
   -- a line that is refused
-  pub line_stays : (c : Check) → c ≡ slip_check line b → (c ≡ Passes → ⊥) → Taken line slice slots slots order order n (record { check = c; count = n })
+  pub line_stays : (c : Check) → c ≡ slip_check line b → (c ≡ Ok tt → ⊥) → Taken line slice slots slots order order n (record { check = c; count = n })
   line_stays c e f = record { is = e; on = λ p. absurd (f p); grants = λ p. absurd (f p); stays = λ p. (refl, refl, refl) }
 
-  pub line_faulty : (i k : ℕ) → slip_check line b ≡ Fails i k → Taken line slice slots slots order order n (record { check = Fails i k; count = n })
-  line_faulty i k e = line_stays (Fails i k) (sym e) (λ p. let z : ◌≡◌ {A = ℕ} 0 1 = cc in omega arith)
+  pub line_faulty : (i k : ℕ) → slip_check line b ≡ Err (fault i k) → Taken line slice slots slots order order n (record { check = Err (fault i k); count = n })
+  line_faulty i k e = line_stays (Err (fault i k)) (sym e) (λ p. let z : ◌≡◌ {A = ℕ} 0 1 = cc in omega arith)
 
   pub line_unknown : wish (fields line) ≡ Unknown → (c : Check) → c ≡ unknown_line → Taken line slice slots slots order order n (record { check = c; count = n })
   line_unknown w c e = line_stays c (e ∙ rw w) (λ p. let z : ◌≡◌ {A = ℕ} 0 1 = cc in omega arith)
@@ -83,8 +81,8 @@ module _ (line : Bytes) (slice slots : List Row) (order : List ℕ) (n : ℕ) (o
 
   -- a line that passes, by the blocks that it leaves
   module _ (slots' : List Row) (order' : List ℕ) (n' : ℕ) (shelf : Shelf slots' order' n') (long : length slots' ≡ 512) (ys : List Row) (are : shelved slots' order' n' ≡ ys) where
-    line_passes : slip_check line b ≡ Passes → rising 4 ys ≡ true → Versioned ys → with_rows Block ys (book_of slice) ≡ slip_leaves line b
-        → Taken line slice slots slots' order order' n (record { check = Passes; count = n' })
+    line_passes : slip_check line b ≡ Ok tt → rising 4 ys ≡ true → Versioned ys → with_rows Block ys (book_of slice) ≡ slip_leaves line b
+        → Taken line slice slots slots' order order' n (record { check = Ok tt; count = n' })
     line_passes e r v g =
         record {
           is = sym e;
@@ -99,17 +97,17 @@ module _ (line : Bytes) (slice slots : List Row) (order : List ℕ) (n : ℕ) (o
 
   module _ (j : Judged) (read : j ≡ fields_read (book_of slice).edition fs) where
     -- the row of eleven numbers that pass is the line's own
-    row_whole : length fs ≡ 11 → j.check ≡ Passes → j.row ≡ row_in line
+    row_whole : length fs ≡ 11 → j.check ≡ Ok tt → j.row ≡ row_in line
     row_whole eleven p = row_read_lem fs b j read p ∙ wide_whole (row_in line) (length-map fs value ∙ eleven)
 
     -- where its key stands
-    pub place_within : (i : ℕ) → spot 4 j.row xs ≡ At i → i < n
+    pub place_within : (i : ℕ) → spot 4 j.row xs ≡ Ok i → i < n
     place_within i s = omega (arith, at_within 4 j.row xs i s, length_shelved slots order n on.shelf)
 
-    missing_at : (i : ℕ) → spot 4 j.row xs ≡ At i → missing_block j.row b ≡ Passes
+    missing_at : (i : ℕ) → spot 4 j.row xs ≡ Ok i → missing_block j.row b ≡ Ok tt
     missing_at i s = rw (shelf_at Block slice slots order n on j.row i s)
 
-    missing_gap : (i : ℕ) → spot 4 j.row xs ≡ Gap i → missing_block j.row b ≡ no_block
+    missing_gap : (i : ℕ) → spot 4 j.row xs ≡ Err i → missing_block j.row b ≡ no_block
     missing_gap i s = rw (shelf_gap Block slice slots order n on j.row i s)
 
     -- A
@@ -118,10 +116,10 @@ module _ (line : Bytes) (slice slots : List Row) (order : List ℕ) (n : ℕ) (o
         pub add_room : n < 512
         add_room = let m = shelf_most Block slice slots order n on in omega arith
 
-        pub add_faulty : (i k : ℕ) → j.check ≡ Fails i k → Taken line slice slots slots order order n (record { check = Fails i k; count = n })
+        pub add_faulty : (i k : ℕ) → j.check ≡ Err (fault i k) → Taken line slice slots slots order order n (record { check = Err (fault i k); count = n })
         add_faulty i k e = line_faulty i k (check_of_lem Add w ∙ sym (add_read fs b j read) ∙ rw (shelf_room Block slice slots order n on add_room, e))
 
-        module _ (p : j.check ≡ Passes) where
+        module _ (p : j.check ≡ Ok tt) where
           eleven : length fs ≡ 11
           eleven = wish_size (fields line) Add w (λ f. let z : ◌≡◌ {A = ℕ} 0 1 = cc in omega arith)
 
@@ -132,12 +130,12 @@ module _ (line : Bytes) (slice slots : List Row) (order : List ℕ) (n : ℕ) (o
             add_check : c ≡ slip_check line b
             add_check = in-book.is ∙ sym (check_of_lem Add w ∙ sym (add_read fs b j read) ∙ rw (shelf_room Block slice slots order n on add_room, p))
 
-            pub add_refused : (i k : ℕ) → c ≡ Fails i k → Taken line slice slots slots' order order' n (record { check = Fails i k; count = n })
+            pub add_refused : (i k : ℕ) → c ≡ Err (fault i k) → Taken line slice slots slots' order order' n (record { check = Err (fault i k); count = n })
             add_refused i k e =
-                let f : c ≡ Passes → ⊥ = λ q. (let z : ◌≡◌ {A = ℕ} 0 1 = cc in omega arith) in
+                let f : c ≡ Ok tt → ⊥ = λ q. (let z : ◌≡◌ {A = ℕ} 0 1 = cc in omega arith) in
                 rw ((in-book.stays f).0, (in-book.stays f).1) (line_faulty i k (sym add_check ∙ e))
 
-            pub add_taken : c ≡ Passes → Taken line slice slots slots' order order' n (record { check = Passes; count = n + 1 })
+            pub add_taken : c ≡ Ok tt → Taken line slice slots slots' order order' n (record { check = Ok tt; count = n + 1 })
             add_taken e =
                 rw add-one record {
                   is = sym e ∙ add_check;
@@ -155,21 +153,21 @@ module _ (line : Bytes) (slice slots : List Row) (order : List ℕ) (n : ℕ) (o
       replace_check missing e f =
           f ∙ rw (e, ← unknown_with Block j.row xs (book_of slice)) (replace_read fs b j read) ∙ sym (check_of_lem Replace w)
 
-      pub replace_missing : (i : ℕ) → spot 4 j.row xs ≡ Gap i → (missing : Check) → missing ≡ no_block → c ≡ judged missing → Taken line slice slots slots order order n (record { check = c; count = n })
+      pub replace_missing : (i : ℕ) → spot 4 j.row xs ≡ Err i → (missing : Check) → missing ≡ no_block → c ≡ judged missing → Taken line slice slots slots order order n (record { check = c; count = n })
       replace_missing i s missing e f =
           line_stays c (replace_check missing (e ∙ sym (missing_gap i s)) f) fails
         where
-          fails : c ≡ Passes → ⊥
+          fails : c ≡ Ok tt → ⊥
           fails p = then_fails j.check _ (then_fails (ends_early when time_fault Block j.row) _ (λ q. let z : ◌≡◌ {A = ℕ} 0 1 = cc in omega arith)) (rw e at (sym f ∙ p))
 
-      module _ (i : ℕ) (s : spot 4 j.row xs ≡ At i) (f : c ≡ judged Passes) where
+      module _ (i : ℕ) (s : spot 4 j.row xs ≡ Ok i) (f : c ≡ judged (Ok tt)) where
         check_standing : c ≡ slip_check line b
-        check_standing = replace_check Passes (sym (missing_at i s)) f
+        check_standing = replace_check (Ok tt) (sym (missing_at i s)) f
 
-        pub replace_refused : (m k : ℕ) → c ≡ Fails m k → Taken line slice slots slots order order n (record { check = Fails m k; count = n })
+        pub replace_refused : (m k : ℕ) → c ≡ Err (fault m k) → Taken line slice slots slots order order n (record { check = Err (fault m k); count = n })
         replace_refused m k e = line_faulty m k (sym check_standing ∙ e)
 
-        pub replace_taken : c ≡ Passes → (slots' : List Row) → slots' ≡ set slots (get_or order i 0) j.row → Taken line slice slots slots' order order n (record { check = Passes; count = n })
+        pub replace_taken : c ≡ Ok tt → (slots' : List Row) → slots' ≡ set slots (get_or order i 0) j.row → Taken line slice slots slots' order order n (record { check = Ok tt; count = n })
         replace_taken e slots' g =
             let h : i < n = place_within i s in
             line_passes slots' order n (set_shelf slots order n on.shelf i j.row h slots' g) (ap length g ∙ length-set slots (get_or order i 0) j.row ∙ on.long)
@@ -183,18 +181,18 @@ module _ (line : Bytes) (slice slots : List Row) (order : List ℕ) (n : ℕ) (o
 
     -- D
     module _ (w : wish (fields line) ≡ Delete) where
-      pub delete_missing : (i : ℕ) → spot 4 j.row xs ≡ Gap i → (missing c : Check) → missing ≡ no_block → c ≡ j.check ⊳ missing → Taken line slice slots slots order order n (record { check = c; count = n })
+      pub delete_missing : (i : ℕ) → spot 4 j.row xs ≡ Err i → (missing c : Check) → missing ≡ no_block → c ≡ j.check ⊳ missing → Taken line slice slots slots order order n (record { check = c; count = n })
       delete_missing i s missing c e f =
           line_stays c (f ∙ ap (λ (q : Check). j.check ⊳ q) (e ∙ sym (missing_gap i s)) ∙ delete_read fs b j read ∙ sym (check_of_lem Delete w)) fails
         where
-          fails : c ≡ Passes → ⊥
+          fails : c ≡ Ok tt → ⊥
           fails p = then_fails j.check no_block (λ q. let z : ◌≡◌ {A = ℕ} 0 1 = cc in omega arith) (rw e at (sym f ∙ p))
 
-      pub delete_refused : (m k : ℕ) → j.check ≡ Fails m k → Taken line slice slots slots order order n (record { check = Fails m k; count = n })
+      pub delete_refused : (m k : ℕ) → j.check ≡ Err (fault m k) → Taken line slice slots slots order order n (record { check = Err (fault m k); count = n })
       delete_refused m k e = line_faulty m k (check_of_lem Delete w ∙ sym (delete_read fs b j read) ∙ rw e)
 
-      module _ (i : ℕ) (s : spot 4 j.row xs ≡ At i) where
-        pub delete_taken : j.check ≡ Passes → (order' : List ℕ) → order' ≡ taken_out n i (get_or order i 0) order → Taken line slice slots slots order order' n (record { check = Passes; count = n - 1 })
+      module _ (i : ℕ) (s : spot 4 j.row xs ≡ Ok i) where
+        pub delete_taken : j.check ≡ Ok tt → (order' : List ℕ) → order' ≡ taken_out n i (get_or order i 0) order → Taken line slice slots slots order order' n (record { check = Ok tt; count = n - 1 })
         delete_taken e order' o =
             let h : i < n = place_within i s in
             line_passes slots order' (n - 1) (free_shelf slots order n on.shelf i j.row h order' o) on.long

@@ -4,9 +4,8 @@ use mathlib.Core.List.{List, [], ◌∷◌, map}
 use Prim.Native.Nat.{ℕ}
 use Rattle.words.specs.Words.{Bytes}
 use Rattle.words.proofs.Lists.{get_d_padded}
-use Rattle.refusals.specs.Verdicts.{◌⊳◌, ◌when◌, too_many_rows, ends_early}
-use Rattle.refusals.specs.declared.Check.{Check}
-use Rattle.refusals.specs.declared.Check.TheVariants.{Passes, Fails}
+use Rattle.refusals.specs.Verdicts.{◌⊳◌, ◌when◌, too_many_rows, ends_early, Check}
+use Rattle.std.specs.Prelude.{Ok, Err}
 use Rattle.numbers.specs.Numbers.{value}
 use Rattle.rows.specs.Rows.{wide}
 use Rattle.tables.specs.Columns.{key_width, references}
@@ -70,12 +69,12 @@ module _ (fs : List Bytes) (b : Book) (j : Judged) (e : j ≡ fields_read b.edit
   delete_read = read_then b.edition (λ r. missing_block r b) fs j e (rw (knows_wide ns b Block))
 
   -- fields that pass
-  pub read_passes : j.check ≡ Passes → bad_field b.edition fs ≡ Passes
+  pub read_passes : j.check ≡ Ok tt → bad_field b.edition fs ≡ Ok tt
   read_passes p = go (bad_field b.edition fs) (sym (ap (λ (i : Judged). i.check) e) ∙ p)
     where
-      go : (q : Check) → (rowed q (wide ns)).check ≡ Passes → q ≡ Passes
-      go Passes h = refl
-      go (Fails n k) h = h
+      go : (q : Check) → (rowed q (wide ns)).check ≡ Ok tt → q ≡ Ok tt
+      go (Ok _) h = refl
+      go (Err f) h = h
 
-  pub row_read_lem : j.check ≡ Passes → j.row ≡ wide ns
+  pub row_read_lem : j.check ≡ Ok tt → j.row ≡ wide ns
   row_read_lem p = ap (λ (i : Judged). i.row) (e ∙ ap (λ (c : Check). rowed c (wide ns)) (read_passes p))

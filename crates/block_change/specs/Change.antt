@@ -1,8 +1,7 @@
 -- A line of a slip, judged on a book, and what it leaves.
 use Rattle.std.specs.Prelude.{not, List}
 use Rattle.words.specs.Words.{Row, Bytes}
-use Rattle.refusals.specs.Verdicts.{◌when◌, no_block, ◌⊳◌, too_many_rows, ends_early, unknown_line}
-use Rattle.refusals.specs.declared.Check.{Check}
+use Rattle.refusals.specs.Verdicts.{◌when◌, no_block, ◌⊳◌, too_many_rows, ends_early, unknown_line, Check}
 use Rattle.fields.specs.Fields.{fields}
 use Rattle.rows.specs.Rows.{replaced, removed}
 use Rattle.tables.specs.Columns.{key_width}

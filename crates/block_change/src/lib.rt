@@ -15,8 +15,8 @@ ghost use Rattle.slip_line.specs.SlipLine.{wish};
 ghost use Rattle.block_change.specs.Taking.{Taken};
 
 use fields::Fields;
-use refusals::Check;
-use rows::{NUMBERS, ROWS, Row, Spot};
+use refusals::{Check, Fault};
+use rows::{NUMBERS, ROWS, Row};
 use slip_line::Wish;
 use tables::{Columns, Table};
 use values::Judged;
@@ -33,9 +33,9 @@ fn early(row: Row) -> Check
     ensures { result ≡ ends_early when time_fault Table.Block row }
 {
     if rules::time_fault(Table::Block, row) {
-        return Check::ends_early();
+        return Err(Fault::ends_early());
     }
-    Check::Passes
+    Ok(())
 }
 
 // 5, what is wrong with a field, and the rules of a row that a reading has too.
@@ -53,7 +53,7 @@ fn add_block(
 {
     if n == ROWS {
         return Told {
-            check: Check::too_many_rows(),
+            check: Err(Fault::too_many_rows()),
             count: n,
         };
     }
@@ -61,21 +61,21 @@ fn add_block(
     let row = read.row;
     let fields = read.check;
     match fields {
-        Check::Passes => {
+        Ok(()) => {
             let rules = intake::enter(book, Table::Block, row, slots, order, n);
             match rules {
-                Check::Passes => Told {
-                    check: Check::Passes,
+                Ok(()) => Told {
+                    check: Ok(()),
                     count: n + 1,
                 },
-                Check::Fails { number, column } => Told {
-                    check: Check::Fails { number, column },
+                Err(fault) => Told {
+                    check: Err(fault),
                     count: n,
                 },
             }
         }
-        Check::Fails { number, column } => Told {
-            check: Check::Fails { number, column },
+        Err(fault) => Told {
+            check: Err(fault),
             count: n,
         },
     }
@@ -89,7 +89,7 @@ fn judge_replace(read: Judged, missing: Check, book: &[Row]) -> Check
     let row = read.row;
     let fields = read.check;
     let references = rules::unknown_reference(book, Table::Block, row);
-    fields.or_else(early(row).or_else(missing.or_else(references)))
+    fields.and(early(row).and(missing.and(references)))
 }
 
 // A line that replaces a block: its row comes into the slot of the block's key.
@@ -108,24 +108,24 @@ fn replace_block(
     let read = slip_line::read_fields(line, marks, columns, NUMBERS);
     let row = read.row;
     match intake::spot_of(Table::Block, &slots[..], order, n, &row) {
-        Spot::At(at) => {
-            let check = judge_replace(read, Check::Passes, book);
+        Ok(at) => {
+            let check = judge_replace(read, Ok(()), book);
             match check {
-                Check::Passes => {
+                Ok(()) => {
                     shelf::set_slot(slots, order, n, at, row);
                     Told {
-                        check: Check::Passes,
+                        check: Ok(()),
                         count: n,
                     }
                 }
-                Check::Fails { number, column } => Told {
-                    check: Check::Fails { number, column },
+                Err(fault) => Told {
+                    check: Err(fault),
                     count: n,
                 },
             }
         }
-        Spot::Gap(_) => Told {
-            check: judge_replace(read, Check::no_block(), book),
+        Err(_) => Told {
+            check: judge_replace(read, Err(Fault::no_block()), book),
             count: n,
         },
     }
@@ -148,21 +148,21 @@ fn delete_block(
     let row = read.row;
     let fields = read.check;
     match intake::spot_of(Table::Block, slots, &order[..], n, &row) {
-        Spot::At(at) => match fields {
-            Check::Passes => {
+        Ok(at) => match fields {
+            Ok(()) => {
                 shelf::free_slot(order, n, at);
                 Told {
-                    check: Check::Passes,
+                    check: Ok(()),
                     count: n - 1,
                 }
             }
-            Check::Fails { number, column } => Told {
-                check: Check::Fails { number, column },
+            Err(fault) => Told {
+                check: Err(fault),
                 count: n,
             },
         },
-        Spot::Gap(_) => Told {
-            check: fields.or_else(Check::no_block()),
+        Err(_) => Told {
+            check: fields.and(Err(Fault::no_block())),
             count: n,
         },
     }
@@ -186,7 +186,7 @@ pub fn take_slip_line(
         Wish::Replace => replace_block(line, marks, columns, book, slots, &order[..], n),
         Wish::Delete => delete_block(line, marks, columns, book, &slots[..], order, n),
         Wish::Unknown => Told {
-            check: Check::unknown_line(),
+            check: Err(Fault::unknown_line()),
             count: n,
         },
     }

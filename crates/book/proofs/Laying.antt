@@ -133,9 +133,6 @@ rows_begun e StopPoint = refl
 rows_begun e Block = refl
 rows_begun e Calendar = refl
 
-pub rows_empty : (t : Table) → rows t empty ≡ []
-rows_empty t = rows_begun Dino21 t
-
 -- what holds of a table's new rows, and of the rows of every table before, holds of the rows of every table
 pub every_table : (P : Table → List Row → Type 0) (b : Book) (t : Table) (ys : List Row) → P t ys → ((u : Table) → P u (rows u b)) → (u : Table) → P u (rows u (with_rows t ys b))
 every_table P b VehicleType ys h k VehicleType = h
@@ -309,6 +306,9 @@ module _ (xs : List Row) (sound : Sound xs) where
         rises = λ t. rw (rows_part t xs) (sound.tables t).rises;
         versioned = λ t. rw (rows_part t xs) (used_versioned (part t xs));
       }
+
+  pub rows_few : (t : Table) → length (rows t (book_of xs)) ≤ room t
+  rows_few = orderly_book.few
 
   part_filled : (t : Table) → part t xs ≡ filled (room t) (rows t (book_of xs))
   part_filled t =

@@ -1,9 +1,8 @@
 -- A slice that holds a book.
 -- Inner: no promise and no contract of a public function speaks of it.
-use Rattle.std.specs.Prelude.{◌≡◌, List, [], length, get_or}
+use Rattle.std.specs.Prelude.{◌≡◌, List, [], length, get_or, Ok, Err}
 use Rattle.words.specs.Words.{Row}
-use Rattle.refusals.specs.declared.Verdict.{Verdict}
-use Rattle.refusals.specs.declared.Verdict.TheVariants.{Accepted, Refused}
+use Rattle.refusals.specs.Verdicts.{Verdict}
 use Rattle.rows.specs.Spots.{Holds}
 use Rattle.tables.specs.Columns.{key_width}
 use Rattle.tables.specs.Parts.{book_rows, marks_at}
@@ -19,5 +18,5 @@ pub record Sound (slice : List Row) : Type 0 where
 
 -- what a verdict and a book's slice come to, where the slice is not looked at behind a refusal
 abbrev pub result_of : Verdict → List Row → Result
-result_of Accepted slice = leaves (book_of slice)
-result_of (Refused p) slice = refused p
+result_of (Ok _) slice = leaves (book_of slice)
+result_of (Err p) slice = refused p

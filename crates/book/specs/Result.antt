@@ -1,7 +1,7 @@
 -- What comes of a reading or of a slip.
 use Rattle.refusals.specs.declared.Place.{Place}
-use Rattle.refusals.specs.declared.Verdict.{Verdict}
-use Rattle.refusals.specs.declared.Verdict.TheVariants.{Accepted, Refused}
+use Rattle.std.specs.Prelude.{Ok, Err}
+use Rattle.refusals.specs.Verdicts.{Verdict}
 use Rattle.book.specs.Book.{Book}
 
 -- what comes of a reading or a slip: a refusal, or the book that it leaves
@@ -11,8 +11,8 @@ pub data Result : Type 0 where
 
 -- go on unless there is a refusal
 abbrev pub unless : Verdict → Result → Result
-unless Accepted r = r
-unless (Refused p) r = refused p
+unless (Ok _) r = r
+unless (Err p) r = refused p
 
 infixl 15 ◌▹◌
 -- go on with the book that is left

@@ -13,13 +13,13 @@ use rows::Row;
 use tables::{MARKS, Table};
 
 // A table's part of the book.
+#[tactic(auto, using(tables::proofs::Parts::part_within, crate::proofs::Laying::part_cut))]
 pub fn table_of(book: &[Row], t: Table) -> &[Row]
     requires { length book.now ≡ book_rows }
     ensures { result.now ≡ part t book.now }
 {
     let from = t.begin();
-    let to = from + t.room();
-    &book[from..to]
+    &book[from..from + t.room()]
 }
 
 // The key of a row of tables 1 to 3.
@@ -43,13 +43,22 @@ pub fn knowing(book: &[Row], t: Table, row: Row) -> bool
     }
 }
 
+// A table's rows, as they stand in the book: the used ones, which come first in its part.
+pub fn rows_of(book: &[Row], t: Table) -> &[Row]
+    requires { Sound book.now }
+    ensures { result.now ≡ rows t (book_of book.now) }
+{
+    let table = table_of(book, t);
+    let n = rows::count(table);
+    &table[..n]
+}
+
 // How many rows a table has.
 pub fn count_rows(book: &[Row], t: Table) -> usize
     requires { Sound book.now }
     ensures { (result ≡ length (rows t (book_of book.now))) × (result ≤ room t) }
 {
-    let table = table_of(book, t);
-    rows::count(table)
+    rows_of(book, t).len()
 }
 
 // A table's row at place i.
@@ -62,6 +71,7 @@ pub fn row_at(book: &[Row], t: Table, i: usize) -> Row
 }
 
 // The empty book.
+#[tactic(auto, using(crate::proofs::Laying::laid_empty))]
 pub fn clear(book: &mut [Row])
     requires { length book.old ≡ book_rows }
     ensures { book.new ≡ laid empty }

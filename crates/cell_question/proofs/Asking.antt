@@ -1,23 +1,21 @@
 -- The question for a cell: where it begins on its line, what is said of it, and the order of its checks. Assumes nothing.
+use Rattle.std.proofs.Common.{Option, Some, None}
 use mathlib.Core.Path.{◌≡◌, ◌∙◌, refl, sym, ap}
 use mathlib.Core.Bool.{Bool, true, false, not}
 use mathlib.Core.List.{List, [], ◌∷◌}
 use Prim.Native.Nat.{ℕ, ◌≤◌, ◌-◌, ◌+◌, suc, ◌<◌}
 use native.Mathlib.Omega.{arith}
 use lib.Dec.{eqb, ltb}
-use lib.ListN.{length, length-take, length-drop, get_or, length-append, take, drop}
+use lib.ListN.{length, get_or, length-append}
 use borrow.Author.Tests.{ne_eqb, le-ltb, eqb-false, ltb-false, eq-eqb, lt-ltb}
+use Rattle.std.specs.Prelude.{Option, Some, None}
 use Rattle.words.specs.Words.{Bytes, whether◌then◌else◌}
-use Rattle.refusals.specs.Verdicts.{placed, ◌when◌, ◌⊳◌, ◌before◌, nowhere, not_there, unknown_edition}
-use Rattle.refusals.specs.declared.Check.{Check}
-use Rattle.refusals.specs.declared.Check.TheVariants.{Fails, Passes}
-use Rattle.refusals.specs.declared.Verdict.{Verdict}
+use Rattle.refusals.specs.Verdicts.{placed, ◌when◌, ◌⊳◌, ◌before◌, nowhere, not_there, unknown_edition, Check, Verdict, fault}
 use Rattle.refusals.specs.declared.Cell.{Cell}
 use Rattle.refusals.specs.declared.Cell.TheVariants.{Empty, Number, Text, Equip21, Flags23}
-use Rattle.refusals.specs.declared.Verdict.TheVariants.{Accepted, Refused}
 use Rattle.refusals.specs.declared.Place.{Place}
 use Rattle.lines.specs.Lines.{line_start, starts_on, row_on}
-use Rattle.cells.specs.Cells.{content, quoted, stretch, cut, cells_of, parted, Cut, faulty, cells}
+use Rattle.cells.specs.Cells.{content, quoted, cut, cells_of, parted, Cut, faulty, cells}
 use Rattle.cells.specs.Marks.{bounds_from}
 use Rattle.cells.specs.Numbered.{begin_at, MarksOf, cell_numbered}
 use Rattle.cells.proofs.Marking.{bound_at, Stands}
@@ -27,20 +25,15 @@ use Rattle.cells.proofs.Contents.{quoted_some}
 use Rattle.contents.proofs.Contents.{content_le}
 use Rattle.numbers.specs.Numbers.{value}
 use Rattle.numbers.specs.Decimals.{decimal_of}
-use Rattle.numbers.specs.declared.Digits.{Digits}
-use Rattle.numbers.specs.declared.Digits.TheVariants as digits_are
 use Rattle.numbers.proofs.Decimals.{decimal_value}
 use Rattle.editions.specs.Editions.{choice}
-use Rattle.editions.specs.declared.Choice.{Choice}
-use Rattle.editions.specs.declared.Choice.TheVariants as choice-is
 use Rattle.editions.specs.declared.Edition.{Edition}
 use Rattle.editions.specs.declared.Edition.TheVariants.{Dino21, Dino23}
 use Rattle.tables.specs.Columns.{column_at, number, columns_of, numbered, in_range}
 use Rattle.tables.specs.declared.Table.{Table}
 use Rattle.tables.specs.declared.Rules.{Rules}
 use Rattle.tables.specs.declared.Sort.{Sort}
-use Rattle.tables.specs.declared.Named.{Named}
-use Rattle.tables.specs.declared.Named.TheVariants.{Known, Unknown}
+use Rattle.std.specs.Prelude.{Option, Some, None, Ok, Err}
 use Rattle.tables.specs.declared.Sort.TheVariants as sort-is
 use Rattle.values.specs.Values.{cell_check}
 use Rattle.values.specs.Judged.{by_digits, by_sort, check_of, value_of}
@@ -51,23 +44,19 @@ use Rattle.header.specs.Header.{Header, offset, place_from, under, cut_check, he
 use Rattle.header.specs.Heading.{header_places, places}
 use Rattle.header.proofs.Names.{place_at}
 use Rattle.row_line.proofs.Columns.{place_above, under_numbered}
-use Rattle.cell_question.specs.CellQuestion.{answered, said, cell_said, meant, is_equip, first_line, rows_behind, line_asked, above, cell_at, cell_start, cell_verdict, table_cell, asked_of, asked_in, cell_asked, stretch_of}
+use Rattle.cell_question.specs.CellQuestion.{answered, said, cell_said, meant, is_equip, first_line, rows_behind, line_asked, above, cell_at, cell_start, cell_verdict, table_cell, asked_of, asked_in, cell_asked}
+use Rattle.refusals.specs.declared.Fault.{Fault}
 use Rattle.cell_question.specs.declared.CellAnswer.{CellAnswer}
 use Rattle.cell_question.specs.Asking.{cell_judged, row_answer, above_from}
 use Rattle.cell_question.proofs.Walking.{row_inside}
 
 -- answers ----------------------------------------------------------------------------------------------------------------------
 
--- a refusal says the same of every cell
-pub refused_answer : (fault : Check) (table line : ℕ) (v : Verdict) → v ≡ placed table line fault → (n k : ℕ) (c : Cell) → fault ≡ Fails n k
-    → ◌≡◌ {A = CellAnswer} (record { verdict = v; cell = Empty }) (answered (placed table line (Fails n k)) c)
-refused_answer fault table line v e n k c f = rw (e, f)
-
 -- a fault at a column, answered on a line of a table
-pub fault_answer : (line : ℕ) (r : CellAnswer) (fault : Check) (table t n k j : ℕ)
-    → ((m i : ℕ) (c : Cell) → fault ≡ Fails m i → r ≡ answered (placed table line (Fails m i)) c)
-    → fault ≡ Fails n k → k ≡ j → table ≡ t → r ≡ answered (placed t line (Fails n j)) Empty
-fault_answer line r fault table t n k j is e p q = is n k Empty e ∙ rw (p, q)
+pub fault_answer : (line : ℕ) (r : CellAnswer) (f : Fault) (table t n k : ℕ)
+    → ((c : Cell) → r ≡ answered (placed table line (Err f)) c)
+    → f ≡ fault n k → table ≡ t → r ≡ answered (placed t line (Err (fault n k))) Empty
+fault_answer line r f table t n k is e q = is Empty ∙ rw (e, q)
 
 -- a decimal column is no wider than 64 bits
 pub narrow_rules : (ed : Edition) (t : Table) (i : ℕ) (x : Rules) → x ≡ (column_at ed t i).rules → x.sort ≡ sort-is.Decimal → x.width ≤ 19
@@ -76,10 +65,10 @@ narrow_rules ed t i x e = rw e (column_narrow ed t i)
 -- what is said of a cell by the value that it has to its column
 module _ (ed : Edition) (equip : Bool) (n line k at : ℕ) (cell : Bytes) where
   abbrev pub answered_by : Value → CellAnswer
-  answered_by (value-is.Number v) = answered Accepted (meant ed equip (Number v))
-  answered_by value-is.Text = answered Accepted (said sort-is.Text at cell)
-  answered_by value-is.Empty = answered Accepted Empty
-  answered_by (value-is.Bad fault) = answered (placed n line (Fails fault k)) Empty
+  answered_by (value-is.Number v) = answered (Ok tt) (meant ed equip (Number v))
+  answered_by value-is.Text = answered (Ok tt) (said sort-is.Text at cell)
+  answered_by value-is.Empty = answered (Ok tt) Empty
+  answered_by (value-is.Bad m) = answered (placed n line (Err (fault m k))) Empty
 
   -- an empty cell and a text are the same by every edition
   empty_meant : meant ed equip Empty ≡ Empty
@@ -101,10 +90,10 @@ module _ (ed : Edition) (equip : Bool) (n line k at : ℕ) (cell : Bytes) where
   by_value : (x : Rules) → answered (placed n line (cell_check k x (content cell))) (meant ed equip (cell_said x.sort at cell)) ≡ answered_by (value_of x (content cell))
   by_value x = rw (← check_of_value k x (content cell)) (by_length_lem (eqb (length (content cell)) 0) refl x.required (ltb x.width (length (content cell))) x.sort)
     where
-      by_digits_lem : (d : Digits) → decimal_of x.width (content cell) ≡ d → eqb (length (content cell)) 0 ≡ false
+      by_digits_lem : (d : Option ℕ) → decimal_of x.width (content cell) ≡ d → eqb (length (content cell)) 0 ≡ false
           → answered (placed n line (check_of k (by_digits x d))) (meant ed equip (cell_said sort-is.Decimal at cell)) ≡ answered_by (by_digits x d)
-      by_digits_lem digits_are.Other p e = refl
-      by_digits_lem (digits_are.Value m) p e = by_range (in_range x m)
+      by_digits_lem None p e = refl
+      by_digits_lem (Some m) p e = by_range (in_range x m)
         where
           is : value (content cell) ≡ m
           is = (decimal_value x.width (content cell) m p).1
@@ -118,27 +107,17 @@ module _ (ed : Edition) (equip : Bool) (n line k at : ℕ) (cell : Bytes) where
           → answered (placed n line (check_of k (whether z then (whether q then value-is.Bad 19 else value-is.Empty) else (whether w then value-is.Bad 20 else by_sort sort x (content cell))))) (meant ed equip (cell_said sort at cell))
           ≡ answered_by (whether z then (whether q then value-is.Bad 19 else value-is.Empty) else (whether w then value-is.Bad 20 else by_sort sort x (content cell)))
       by_length_lem true e true w sort = refl
-      by_length_lem true e false w sort-is.Decimal = rw e (ap (answered Accepted) empty_meant)
-      by_length_lem true e false w sort-is.Text = rw e (ap (answered Accepted) empty_meant)
+      by_length_lem true e false w sort-is.Decimal = rw e (ap (answered (Ok tt)) empty_meant)
+      by_length_lem true e false w sort-is.Text = rw e (ap (answered (Ok tt)) empty_meant)
       by_length_lem false e q true sort = refl
       by_length_lem false e q false sort-is.Decimal = by_digits_lem (decimal_of x.width (content cell)) refl e
-      by_length_lem false e q false sort-is.Text = rw e (ap (answered Accepted) (text_meant (quoted cell)))
+      by_length_lem false e q false sort-is.Text = rw e (ap (answered (Ok tt)) (text_meant (quoted cell)))
 
 pub judged_by : (ed : Edition) (t : Table) (line k at : ℕ) (cell : Bytes) (x : Rules) (v w : Value) → x ≡ (column_at ed t (k - 1)).rules → v ≡ value_of x (content cell) → v ≡ w
     → answered_by ed (is_equip t k) (number t) line k at cell w ≡ cell_judged ed t line k at cell
 unfolding cell_judged
 judged_by ed t line k at cell x v w e f g =
     rw (← g, f, ← e) (sym (by_value ed (is_equip t k) (number t) line k at cell x))
-
--- a text is its stretch, by the stretch's length
-stretch_length : (cell : Bytes) → quoted cell ≡ true → length (stretch cell) ≡ length cell - 2
-stretch_length cell q = rw q (simp (length-take, length-drop) (omega arith))
-
-pub said_quoted : (cell : Bytes) (at from len : ℕ) → quoted cell ≡ true → from ≡ at + 1 → len ≡ length (stretch cell) → Text from len ≡ said sort-is.Text at cell
-said_quoted cell at from len q e f = rw (f, stretch_length cell q, e, q)
-
-pub said_bare : (cell : Bytes) (at from len : ℕ) → quoted cell ≡ false → from ≡ at → len ≡ length (stretch cell) → Text from len ≡ said sort-is.Text at cell
-said_bare cell at from len q e f = rw (f, e, q)
 
 -- where a cell begins on its line -----------------------------------------------------------------------------------------------
 
@@ -217,10 +196,10 @@ module _ (ed : Edition) (t : Table) (h : Header) (line k begin : ℕ) (row : Byt
   unfolding row_answer
   row_checked c e = ap (λ (q : Check). answered (placed (number t) line q) (row_said (begin + offset k h (cells_of (cut ed row))))) e
 
-  pub row_refused : (n m : ℕ) → cut_check ed h row ≡ Fails n m → answered (placed (number t) line (Fails n m)) Empty ≡ row_answer ed t h line k begin row
-  row_refused n m e = sym (row_checked (Fails n m) (rw e))
+  pub row_refused : (n m : ℕ) → cut_check ed h row ≡ Err (fault n m) → answered (placed (number t) line (Err (fault n m))) Empty ≡ row_answer ed t h line k begin row
+  row_refused n m e = sym (row_checked (Err (fault n m)) (rw e))
 
-  pub row_cell_lem : (at bounds : List ℕ) (count m from : ℕ) → cut_check ed h row ≡ Passes → MarksOf ed row bounds count → count ≡ length h → at ≡ places h → 1 ≤ k → k < header_places → m ≡ get_or at k 0 → from ≡ begin + begin_at bounds count m
+  pub row_cell_lem : (at bounds : List ℕ) (count m from : ℕ) → cut_check ed h row ≡ Ok tt → MarksOf ed row bounds count → count ≡ length h → at ≡ places h → 1 ≤ k → k < header_places → m ≡ get_or at k 0 → from ≡ begin + begin_at bounds count m
       → cell_judged ed t line k from (cell_numbered m (cells_of (cut ed row))) ≡ row_answer ed t h line k begin row
   unfolding cell_judged
   row_cell_lem at bounds count m from pass marks n a low high p q =
@@ -237,8 +216,8 @@ module _ (ed : Edition) (t : Table) (h : Header) (line k begin : ℕ) (row : Byt
 -- the order of the checks ---------------------------------------------------------------------------------------------------------
 
 before_order : (a b c : Verdict) → ((a before b) before c) ≡ (a before (b before c))
-before_order Accepted b c = refl
-before_order (Refused p) b c = refl
+before_order (Ok _) b c = refl
+before_order (Err p) b c = refl
 
 above_from_lem : (ed : Edition) (t : Table) (s : Bytes) (line : ℕ) → above ed t s line ≡ above_from ed (number t) line (first_line ed s) (rows_behind ed s)
 above_from_lem Dino21 t s line = refl
@@ -266,11 +245,11 @@ module _ (ed : Edition) (t : Table) (s : Bytes) (line k : ℕ) where
     unfolding table_cell cell_verdict
     behind_column v e = rw (ne_eqb k 0 some, le-ltb (length (columns_of ed t)) k known, e)
 
-    pub top_refused : (p : Place) → top_faults ed t s ≡ Refused p → ◌≡◌ {A = CellAnswer} (record { verdict = Refused p; cell = Empty }) (table_cell ed t s line k)
-    top_refused p e = sym (behind_column (Refused p) e)
+    pub top_refused : (p : Place) → top_faults ed t s ≡ Err p → ◌≡◌ {A = CellAnswer} (record { verdict = Err p; cell = Empty }) (table_cell ed t s line k)
+    top_refused p e = sym (behind_column (Err p) e)
 
     -- the way to the row, from the first row behind the header
-    module _ (top : top_faults ed t s ≡ Accepted) (first : ℕ) (rows : List Bytes) (f : first ≡ first_line ed s) (r : rows ≡ rows_behind ed s) (way : Verdict)
+    module _ (top : top_faults ed t s ≡ Ok tt) (first : ℕ) (rows : List Bytes) (f : first ≡ first_line ed s) (r : rows ≡ rows_behind ed s) (way : Verdict)
         (is : way ≡ (above_from ed (number t) line first rows before nowhere (not_there when not (starts_on ed line first rows)))) where
       way_is : way ≡ (above ed t s line before nowhere (not_there when not (starts_on ed line (first_line ed s) (rows_behind ed s))))
       way_is =
@@ -281,14 +260,14 @@ module _ (ed : Edition) (t : Table) (s : Bytes) (line k : ℕ) where
 
       behind_way : table_cell ed t s line k ≡ answered (way before judged) told
       behind_way =
-          behind_column Accepted top
+          behind_column (Ok tt) top
           ∙ ap (λ (v : Verdict). answered v told) (sym (before_order (above ed t s line) (nowhere (not_there when not (starts_on ed line (first_line ed s) (rows_behind ed s)))) judged))
           ∙ ap (λ (v : Verdict). answered (v before judged) told) (sym way_is)
 
-      pub way_refused : (p : Place) → way ≡ Refused p → ◌≡◌ {A = CellAnswer} (record { verdict = Refused p; cell = Empty }) (table_cell ed t s line k)
+      pub way_refused : (p : Place) → way ≡ Err p → ◌≡◌ {A = CellAnswer} (record { verdict = Err p; cell = Empty }) (table_cell ed t s line k)
       way_refused p e = sym (behind_way ∙ ap (λ (v : Verdict). answered (v before judged) told) e)
 
-      pub line_here_lem : way ≡ Accepted → (at : ℕ) (row : Bytes) → at ≡ line_start line s → row ≡ row_on ed line first rows → row_answer ed t (header_of ed t s) line k at row ≡ table_cell ed t s line k
+      pub line_here_lem : way ≡ Ok tt → (at : ℕ) (row : Bytes) → at ≡ line_start line s → row ≡ row_on ed line first rows → row_answer ed t (header_of ed t s) line k at row ≡ table_cell ed t s line k
       unfolding row_answer
       line_here_lem e at row a q =
           let u : row ≡ line_asked ed line s = q ∙ ap (λ (i : ℕ). row_on ed line i rows) f ∙ ap (row_on ed line (first_line ed s)) r in
@@ -296,21 +275,21 @@ module _ (ed : Edition) (t : Table) (s : Bytes) (line k : ℕ) where
           ∙ ap (λ (x : Bytes). row_answer ed t (header_of ed t s) line k (line_start line s) x) u
           ∙ sym (behind_way ∙ ap (λ (v : Verdict). answered (v before judged) told) e)
 
-module _ (ed : Edition) (s : Bytes) (table line k : ℕ) (n : Named) (e : n ≡ numbered table) where
-  pub asked_known : (t : Table) → n ≡ Known t → table_cell ed t s line k ≡ asked_of ed (numbered table) s line k
-  asked_known t g = ap (λ (z : Named). asked_of ed z s line k) (sym g ∙ e)
+module _ (ed : Edition) (s : Bytes) (table line k : ℕ) (n : Option Table) (e : n ≡ numbered table) where
+  pub asked_known : (t : Table) → n ≡ Some t → table_cell ed t s line k ≡ asked_of ed (numbered table) s line k
+  asked_known t g = ap (λ (z : Option Table). asked_of ed z s line k) (sym g ∙ e)
 
-  pub asked_unknown : n ≡ Unknown → answered (nowhere not_there) Empty ≡ asked_of ed (numbered table) s line k
-  asked_unknown g = ap (λ (z : Named). asked_of ed z s line k) (sym g ∙ e)
+  pub asked_unknown : n ≡ None → answered (nowhere not_there) Empty ≡ asked_of ed (numbered table) s line k
+  asked_unknown g = ap (λ (z : Option Table). asked_of ed z s line k) (sym g ∙ e)
 
-module _ (n : ℕ) (s : Bytes) (table line k : ℕ) (c : Choice) (e : c ≡ choice n) where
-  pub asked_by : (ed : Edition) → c ≡ choice-is.Chosen ed → asked_of ed (numbered table) s line k ≡ cell_asked n s table line k
+module _ (n : ℕ) (s : Bytes) (table line k : ℕ) where
+  pub asked_by : (ed : Edition) → Some ed ≡ choice n → asked_of ed (numbered table) s line k ≡ cell_asked n s table line k
   unfolding cell_asked
-  asked_by ed g = ap (λ (z : Choice). asked_in z s table line k) (sym g ∙ e)
+  asked_by ed e = ap (λ (z : Option Edition). asked_in z s table line k) e
 
-  pub asked_by_none : c ≡ choice-is.Unknown → answered (nowhere unknown_edition) Empty ≡ cell_asked n s table line k
+  pub asked_by_none : None ≡ choice n → answered (nowhere unknown_edition) Empty ≡ cell_asked n s table line k
   unfolding cell_asked
-  asked_by_none g = ap (λ (z : Choice). asked_in z s table line k) (sym g ∙ e)
+  asked_by_none e = ap (λ (z : Option Edition). asked_in z s table line k) e
 
 -- the stretch ---------------------------------------------------------------------------------------------------------------------
 
@@ -365,8 +344,8 @@ said_inside s cell sort at start len h = go (eqb (length (content cell)) 0) refl
         omega (arith, h p)
 
 answered_text : (v : Verdict) (c : Cell) (start len : ℕ) → (answered v c).cell ≡ Text start len → c ≡ Text start len
-answered_text Accepted c start len e = e
-answered_text (Refused p) c start len e = cc
+answered_text (Ok _) c start len e = e
+answered_text (Err p) c start len e = cc
 
 -- no number is a text
 meant_text : (ed : Edition) (b : Bool) (c : Cell) (start len : ℕ) → meant ed b c ≡ Text start len → c ≡ Text start len
@@ -383,24 +362,15 @@ pub stretch_inside : (n : ℕ) (s : Bytes) (table line k start len : ℕ) → (c
 unfolding cell_asked table_cell
 stretch_inside n s table line k start len = by_choice (choice n)
   where
-    go : (ed : Edition) (m : Named) → (asked_of ed m s line k).cell ≡ Text start len → start + len ≤ length s
-    go ed Unknown e = let z : ◌≡◌ {A = ℕ} 0 1 = cc in absurd (omega arith)
-    go ed (Known t) e =
+    go : (ed : Edition) (m : Option Table) → (asked_of ed m s line k).cell ≡ Text start len → start + len ≤ length s
+    go ed None e = let z : ◌≡◌ {A = ℕ} 0 1 = cc in absurd (omega arith)
+    go ed (Some t) e =
         let cell : Bytes = cell_at ed t s line k in
         let said-is : Cell = cell_said (column_at ed t (k - 1)).rules.sort (cell_start ed t s line k) cell in
         said_inside s cell (column_at ed t (k - 1)).rules.sort (cell_start ed t s line k) start len
         (λ p. omega (arith, cell_inside ed k (header_of ed t s) (line_asked ed line s) p, row_inside ed line s))
         (meant_text ed (is_equip t k) said-is start len (answered_text (cell_verdict ed t s line k) (meant ed (is_equip t k) said-is) start len e))
 
-    by_choice : (c : Choice) → (asked_in c s table line k).cell ≡ Text start len → start + len ≤ length s
-    by_choice (choice-is.Chosen ed) e = go ed (numbered table) e
-    by_choice choice-is.Unknown e = let z : ◌≡◌ {A = ℕ} 0 1 = cc in absurd (omega arith)
-
--- the part of the text that is handed back
-pub stretch_empty : (s : Bytes) (d c : Cell) → c ≡ d → stretch_of s d ≡ [] → take (0 - 0) (drop 0 s) ≡ stretch_of s c
-stretch_empty s d c e f = sym (ap (stretch_of s) e ∙ f)
-
-pub stretch_part : (s : Bytes) (start len : ℕ) (c : Cell) → c ≡ Text start len → take (start + len - start) (drop start s) ≡ stretch_of s c
-stretch_part s start len c e =
-    let n : start + len - start ≡ len = omega arith in
-    rw (e, n)
+    by_choice : (c : Option Edition) → (asked_in c s table line k).cell ≡ Text start len → start + len ≤ length s
+    by_choice (Some ed) e = go ed (numbered table) e
+    by_choice None e = let z : ◌≡◌ {A = ℕ} 0 1 = cc in absurd (omega arith)

@@ -9,10 +9,9 @@ use lib.ListN.{length, take, drop, length-take}
 use borrow.Author.Tests.{eq-eqb, ne_eqb, lt-ltb, le-ltb, ltb-true, ltb-false, eqb-true}
 use Rattle.words.specs.Words.{Bytes, whether◌then◌else◌}
 use Rattle.words.proofs.Lists.{part_length}
-use Rattle.refusals.specs.Verdicts.{placed, nowhere, not_there, ◌before◌}
+use Rattle.refusals.specs.Verdicts.{placed, nowhere, not_there, ◌before◌, Verdict}
 use Rattle.refusals.specs.declared.Place.{Place}
-use Rattle.refusals.specs.declared.Verdict.{Verdict}
-use Rattle.refusals.specs.declared.Verdict.TheVariants.{Accepted, Refused}
+use Rattle.std.specs.Prelude.{Ok, Err}
 use Rattle.lines.specs.Lines.{lines, head_line, feeds, breaks, line_after, starts_on, row_on, line_start}
 use Rattle.lines.specs.Ends.{line_at, line_length, line_room}
 use Rattle.lines.specs.declared.Line.{Line}
@@ -54,18 +53,18 @@ first_most e s =
 
 -- a fault above -----------------------------------------------------------------------------------------------------------------------
 
-above_none : (e : Edition) (table line i : ℕ) → above_from e table line i [] ≡ Accepted
+above_none : (e : Edition) (table line i : ℕ) → above_from e table line i [] ≡ Ok tt
 unfolding first_above
 above_none Dino21 table line i = refl
 above_none Dino23 table line i = refl
 
 -- no row is above a line that is passed
-first_past : (table line i : ℕ) (ls : List Bytes) → line ≤ i → first_above Dino23 table line i ls ≡ Accepted
+first_past : (table line i : ℕ) (ls : List Bytes) → line ≤ i → first_above Dino23 table line i ls ≡ Ok tt
 unfolding first_above
 first_past table line i [] h = refl
 first_past table line i (l ∷ ls) h = rw (le-ltb i line h) (first_past table line (line_after Dino23 i l) ls (omega (arith, after_more Dino23 i l)))
 
-above_past : (e : Edition) (table line i : ℕ) (ls : List Bytes) → line ≤ i → above_from e table line i ls ≡ Accepted
+above_past : (e : Edition) (table line i : ℕ) (ls : List Bytes) → line ≤ i → above_from e table line i ls ≡ Ok tt
 above_past Dino21 table line i ls h = refl
 above_past Dino23 table line i ls h = first_past table line i ls h
 
@@ -92,7 +91,7 @@ module _ (e : Edition) (table line first : ℕ) (s : Bytes) (from : ℕ) where
   walk_begun l m h k = record { low = l; small = omega arith; within = h; start = k; starts = refl; row = refl; over = refl }
 
   -- no row starts on the line
-  missing : (w : Way) → w.verdict ≡ nowhere not_there → above_from e table line first (lines e (drop from s)) ≡ Accepted → starts_on e line first (lines e (drop from s)) ≡ false
+  missing : (w : Way) → w.verdict ≡ nowhere not_there → above_from e table line first (lines e (drop from s)) ≡ Ok tt → starts_on e line first (lines e (drop from s)) ≡ false
       → WayOf e table line first s from w
   missing w v a b =
       record {
@@ -131,9 +130,9 @@ module _ (e : Edition) (table line first : ℕ) (s : Bytes) (from : ℕ) where
             ∙ ap (λ (x : Verdict). x before above_from e table line (line_after e i here) (lines e (drop r.next s))) (sym is)
 
         -- the row has a fault
-        pub walk_refused : (p : Place) → v ≡ Refused p → (begin : ℕ) → WayOf e table line first s from (record { verdict = Refused p; begin = begin })
+        pub walk_refused : (p : Place) → v ≡ Err p → (begin : ℕ) → WayOf e table line first s from (record { verdict = Err p; begin = begin })
         walk_refused p f begin =
-            let o : above_from e table line first (lines e (drop from s)) ≡ Refused p = over_here ∙ rw f in
+            let o : above_from e table line first (lines e (drop from s)) ≡ Err p = over_here ∙ rw f in
             record {
               is = sym (rw o);
               inside = λ a. let z : ◌≡◌ {A = ℕ} 0 1 = cc in absurd (omega arith);
@@ -142,7 +141,7 @@ module _ (e : Edition) (table line first : ℕ) (s : Bytes) (from : ℕ) where
             }
 
         -- it has none
-        pub walk_on : v ≡ Accepted → (n : ℕ) → n ≡ line_after e i here → Walking e table line first s from n r.next
+        pub walk_on : v ≡ Ok tt → (n : ℕ) → n ≡ line_after e i here → Walking e table line first s from n r.next
         unfolding starts_on row_on
         walk_on f n j =
             let x : r.next ≡ at + line_room e Fresh (drop at s) = ap (λ (y : Line). y.next) q in
@@ -158,11 +157,11 @@ module _ (e : Edition) (table line first : ℕ) (s : Bytes) (from : ℕ) where
             }
 
       -- the line is reached
-      pub walk_found : i ≡ line → WayOf e table line first s from (record { verdict = Accepted; begin = at })
+      pub walk_found : i ≡ line → WayOf e table line first s from (record { verdict = Ok tt; begin = at })
       unfolding starts_on row_on
       walk_found j =
           let b : starts_on e line first (lines e (drop from s)) ≡ true = k.starts ∙ rw (taken.is, eq-eqb i line j) in
-          let a : above_from e table line first (lines e (drop from s)) ≡ Accepted = k.over ∙ above_past e table line i (lines e (drop at s)) (omega arith) in
+          let a : above_from e table line first (lines e (drop from s)) ≡ (Ok tt) = k.over ∙ above_past e table line i (lines e (drop at s)) (omega arith) in
           let o : row_on e line first (lines e (drop from s)) ≡ here = k.row ∙ rw (taken.is, eq-eqb i line j) in
           record {
             is = sym (rw (a, b));
@@ -174,7 +173,7 @@ module _ (e : Edition) (table line first : ℕ) (s : Bytes) (from : ℕ) where
 -- the row that is asked for ---------------------------------------------------------------------------------------------------------------
 
 -- it is the one that begins where the way ends
-pub row_here : (e : Edition) (table line first : ℕ) (s : Bytes) (from : ℕ) (w : Way) → WayOf e table line first s from w → w.verdict ≡ Accepted → (r : Line) → r ≡ line_at e s w.begin
+pub row_here : (e : Edition) (table line first : ℕ) (s : Bytes) (from : ℕ) (w : Way) → WayOf e table line first s from w → w.verdict ≡ Ok tt → (r : Line) → r ≡ line_at e s w.begin
     → take (r.end - w.begin) (drop w.begin s) ≡ row_on e line first (lines e (drop from s))
 row_here e table line first s from w k a r q =
     let t = line_from e s w.begin r (k.inside a) q in

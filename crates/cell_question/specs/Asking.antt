@@ -1,12 +1,8 @@
 -- What the code finds on its way to the answer for a cell.
 -- Inner: no promise and no contract of a public function speaks of it.
-use Rattle.std.specs.Prelude.{◌≡◌, not, List, ◌∷◌, ℕ, ◌-◌, ◌+◌, ◌<◌, drop, length}
+use Rattle.std.specs.Prelude.{◌≡◌, not, List, ◌∷◌, ℕ, ◌-◌, ◌+◌, ◌<◌, drop, length, Ok}
 use Rattle.words.specs.Words.{Bytes}
-use Rattle.refusals.specs.Verdicts.{placed, ◌⊳◌, ◌when◌, ◌before◌, nowhere, not_there}
-use Rattle.refusals.specs.declared.Check.{Check}
-use Rattle.refusals.specs.declared.Check.TheVariants.{Passes}
-use Rattle.refusals.specs.declared.Verdict.{Verdict}
-use Rattle.refusals.specs.declared.Verdict.TheVariants.{Accepted}
+use Rattle.refusals.specs.Verdicts.{placed, ◌⊳◌, ◌when◌, ◌before◌, nowhere, not_there, Check, Verdict}
 use Rattle.lines.specs.Lines.{lines, starts_on, row_on, line_start}
 use Rattle.cells.specs.Cells.{content, cut, cells_of}
 use Rattle.editions.specs.declared.Edition.{Edition}
@@ -34,18 +30,18 @@ row_answer e t h line k at row =
 
 -- what matters of a row above: nothing by 2.1
 abbrev pub fault_above : Edition → Bytes → Check
-fault_above Dino21 row = Passes
+fault_above Dino21 row = Ok tt
 fault_above Dino23 row = line_check Dino23 row
 
 -- the first fault in these rows, of which the first starts on line i
 abbrev pub above_from : Edition → ℕ → ℕ → ℕ → List Bytes → Verdict
-above_from Dino21 table line i ls = Accepted
+above_from Dino21 table line i ls = Ok tt
 above_from Dino23 table line i ls = first_above Dino23 table line i ls
 
 -- the row that starts on a line, of the rows that begin at a place and of which the first starts on line i: a 6 or 17 above it, 15 where there is
 -- none, or where it begins
 pub record WayOf (e : Edition) (table line i : ℕ) (s : Bytes) (at : ℕ) (w : Way) : Type 0 where
   pub is : w.verdict ≡ (above_from e table line i (lines e (drop at s)) before nowhere (not_there when not (starts_on e line i (lines e (drop at s)))))
-  pub inside : w.verdict ≡ Accepted → w.begin < length s
-  pub start : w.verdict ≡ Accepted → w.begin ≡ line_start line s
-  pub row : w.verdict ≡ Accepted → (ls : List Bytes) × (lines e (drop w.begin s) ≡ row_on e line i (lines e (drop at s)) ∷ ls)
+  pub inside : w.verdict ≡ Ok tt → w.begin < length s
+  pub start : w.verdict ≡ Ok tt → w.begin ≡ line_start line s
+  pub row : w.verdict ≡ Ok tt → (ls : List Bytes) × (lines e (drop w.begin s) ≡ row_on e line i (lines e (drop at s)) ∷ ls)

@@ -1,25 +1,19 @@
 -- The question for one cell of one text.
-use Rattle.std.specs.Prelude.{◌≡◌, List, ◌++◌, [], ◌∷◌, Bool, true, false, not, ◌||◌, ℕ, ◌+◌, ◌-◌, length, take, drop, eqb, ltb}
+use Rattle.std.specs.Prelude.{◌≡◌, List, ◌++◌, [], ◌∷◌, Bool, true, false, not, ◌||◌, ℕ, ◌+◌, ◌-◌, length, take, drop, eqb, ltb, Option, Some, None, Ok, Err}
 use Rattle.words.specs.Words.{Bytes, whether◌then◌else◌}
-use Rattle.refusals.specs.declared.Verdict.{Verdict}
-use Rattle.refusals.specs.declared.Verdict.TheVariants.{Accepted, Refused}
 use Rattle.refusals.specs.declared.Cell.{Cell}
 use Rattle.refusals.specs.declared.Cell.TheVariants.{Empty, Number, Text, Equip21, Flags23}
-use Rattle.refusals.specs.Verdicts.{paper, values, ◌⊳◌, ◌when◌, ◌before◌, placed, nowhere, not_there, unknown_edition}
+use Rattle.refusals.specs.Verdicts.{paper, values, ◌⊳◌, ◌when◌, ◌before◌, placed, nowhere, not_there, unknown_edition, Verdict}
 use Rattle.lines.specs.Lines.{lines, head_line, row_lines, line_after, starts_on, row_on, line_start}
 use Rattle.cells.specs.Cells.{content, quoted, Cut, cut, cells_of}
 use Rattle.numbers.specs.Numbers.{value}
 use Rattle.editions.specs.Editions.{choice}
-use Rattle.editions.specs.declared.Choice.{Choice}
-use Rattle.editions.specs.declared.Choice.TheVariants as choice-is
 use Rattle.editions.specs.declared.Edition.{Edition}
 use Rattle.editions.specs.declared.Edition.TheVariants.{Dino21, Dino23}
 use Rattle.tables.specs.declared.Sort.{Sort}
 use Rattle.tables.specs.declared.Table.{Table}
 use Rattle.tables.specs.declared.Table.TheVariants.{VehicleType, Depot, Stop, StopPoint, Block, Calendar}
 use Rattle.tables.specs.Columns.{columns_of, column_at, number, numbered}
-use Rattle.tables.specs.declared.Named.{Named}
-use Rattle.tables.specs.declared.Named.TheVariants.{Known, Unknown}
 use Rattle.tables.specs.declared.Sort.TheVariants as sort-is
 use Rattle.values.specs.Values.{cell_check}
 use Rattle.header.specs.Header.{under, header_of, line_check, cut_check, top_faults, offset}
@@ -27,8 +21,8 @@ use Rattle.cell_question.specs.declared.CellAnswer.{CellAnswer}
 
 -- "every refusal zeros for numbers" and "an empty stretch"
 abbrev pub answered : Verdict → Cell → CellAnswer
-answered Accepted c = record { verdict = Accepted; cell = c }
-answered (Refused p) c = record { verdict = Refused p; cell = Empty }
+answered (Ok _) c = record { verdict = Ok tt; cell = c }
+answered (Err p) c = record { verdict = Err p; cell = Empty }
 
 -- "this paper's number and values" of the answer: number, table, line, column; then 1 and a number, or 2 and a stretch, or
 -- 3 or 4 and the access equipment, or zeros
@@ -87,12 +81,12 @@ cell_at e t s line k = under k (header_of e t s) (cells_of (cut_at e line s))
 
 -- "a 6 or 17 in a row above comes first": of the rows that start above a line, from the top; the first of these rows starts on line i
 unfoldable pub first_above : Edition → ℕ → ℕ → ℕ → List Bytes → Verdict
-first_above e table line i [] = Accepted
+first_above e table line i [] = Ok tt
 first_above e table line i (l ∷ ls) = placed table i (line_check e l when ltb i line) before first_above e table line (line_after e i l) ls
 
 -- 2.1: "Other rows and 5 do not matter."
 abbrev pub above : Edition → Table → Bytes → ℕ → Verdict
-above Dino21 t s line = Accepted
+above Dino21 t s line = Ok tt
 above Dino23 t s line = first_above Dino23 (number t) line (first_line Dino23 s) (rows_behind Dino23 s)
 
 -- the answer ------------------------------------------------------------------------------------------------------------------------
@@ -115,14 +109,14 @@ unfoldable pub table_cell : Edition → Table → Bytes → ℕ → ℕ → Cell
 table_cell e t s line k =
     answered (cell_verdict e t s line k) (meant e (is_equip t k) (cell_said (column_at e t (k - 1)).rules.sort (cell_start e t s line k) (cell_at e t s line k)))
 
-abbrev pub asked_of : Edition → Named → Bytes → ℕ → ℕ → CellAnswer
-asked_of e (Known t) s line k = table_cell e t s line k
-asked_of e Unknown s line k = answered (nowhere not_there) Empty
+abbrev pub asked_of : Edition → Option Table → Bytes → ℕ → ℕ → CellAnswer
+asked_of e (Some t) s line k = table_cell e t s line k
+asked_of e None s line k = answered (nowhere not_there) Empty
 
 -- "an unknown edition is 22, right after 16", and here there is no 16
-abbrev pub asked_in : Choice → Bytes → ℕ → ℕ → ℕ → CellAnswer
-asked_in (choice-is.Chosen e) s table line k = asked_of e (numbered table) s line k
-asked_in choice-is.Unknown s table line k = answered (nowhere unknown_edition) Empty
+abbrev pub asked_in : Option Edition → Bytes → ℕ → ℕ → ℕ → CellAnswer
+asked_in (Some e) s table line k = asked_of e (numbered table) s line k
+asked_in None s table line k = answered (nowhere unknown_edition) Empty
 
 -- "Cell: one table's text, its number, a line, a column.", by the edition of a number
 unfoldable pub cell_asked : ℕ → Bytes → ℕ → ℕ → ℕ → CellAnswer

@@ -1,8 +1,8 @@
 // The question for a cell.
 #![tactic(auto)]
 
-ghost use Rattle.std.specs.Prelude.{◌≡◌, List, ℕ, ◌≤◌, ◌+◌, ◌<◌, length};
-ghost use Rattle.refusals.specs.Verdicts.{placed, nowhere, not_there};
+ghost use Rattle.std.specs.Prelude.{◌≡◌, List, ℕ, ◌≤◌, ◌+◌, ◌<◌, length, Ok, Err};
+ghost use Rattle.refusals.specs.Verdicts.{placed, nowhere, not_there, fault};
 ghost use Rattle.lines.specs.Lines.{most_bytes, line_start};
 ghost use Rattle.tables.specs.Listing.{listed};
 ghost use Rattle.tables.specs.Columns.{columns_of, numbered};
@@ -12,10 +12,10 @@ ghost use Rattle.header.specs.Top.{TopKept};
 ghost use Rattle.cell_question.specs.CellQuestion.{answered, said, is_equip, meant, table_cell, asked_of, CellPermits, StretchPermits};
 ghost use Rattle.cell_question.specs.Asking.{cell_judged, row_answer, fault_above, WayOf};
 
-use editions::{Choice, Edition};
+use editions::Edition;
 use header::{BOUNDS, Places, Top};
-use refusals::{Cell, Check, Place, Verdict};
-use tables::{Columns, Named, Sort, Table};
+use refusals::{Cell, Check, Fault, Place, Verdict};
+use tables::{Columns, Sort, Table};
 use values::Value;
 
 // The answer to a question for a cell.
@@ -36,12 +36,11 @@ pub struct Way {
 const ACCESS_EQUIP: usize = 11;
 
 // A refusal says nothing of a cell.
-fn refused(fault: Check, table: u64, line: u64) -> CellAnswer
-    ensures { (n k : ℕ) (c : Cell) → fault ≡ Check.Fails n k → result ≡ answered (placed table line (Check.Fails n k)) c }
+fn refused(fault: Fault, table: u64, line: u64) -> CellAnswer
+    ensures { (c : Cell) → result ≡ answered (placed table line (Err fault)) c }
 {
-    let verdict = fault.on(table, line);
     CellAnswer {
-        verdict,
+        verdict: Err(fault.on(table, line)),
         cell: Cell::Empty,
     }
 }
@@ -50,14 +49,14 @@ fn refused(fault: Check, table: u64, line: u64) -> CellAnswer
 fn not_there() -> CellAnswer
     ensures { (c : Cell) → result ≡ answered (nowhere not_there) c }
 {
-    refused(Check::not_there(), Place::NO_TABLE, Place::NO_LINE)
+    refused(Fault::not_there(), Place::NO_TABLE, Place::NO_LINE)
 }
 
 fn accepted(cell: Cell) -> CellAnswer
-    ensures { result ≡ answered Verdict.Accepted cell }
+    ensures { result ≡ answered (Ok tt) cell }
 {
     CellAnswer {
-        verdict: Verdict::Accepted,
+        verdict: Ok(()),
         cell,
     }
 }
@@ -66,27 +65,20 @@ fn accepted(cell: Cell) -> CellAnswer
 fn is_equip(t: Table, column: usize) -> bool
     ensures { result ≡ is_equip t column }
 {
-    match t {
-        Table::VehicleType => column == ACCESS_EQUIP,
-        Table::Depot => false,
-        Table::Stop => false,
-        Table::StopPoint => false,
-        Table::Block => false,
-        Table::Calendar => false,
-    }
+    matches!(t, Table::VehicleType) && column == ACCESS_EQUIP
 }
 
 // A number; that of the access equipment names its edition: "A 2 there means a ramp, in 2.1 lift or ramp; the cell answer must name which."
 fn number_said(edition: Edition, equip: bool, n: u64) -> Cell
     ensures { result ≡ meant edition equip (Cell.Number n) }
 {
-    if equip {
-        return match edition {
-            Edition::Dino21 => Cell::Equip21(n),
-            Edition::Dino23 => Cell::Flags23(n),
-        };
+    if !equip {
+        return Cell::Number(n);
     }
-    Cell::Number(n)
+    match edition {
+        Edition::Dino21 => Cell::Equip21(n),
+        Edition::Dino23 => Cell::Flags23(n),
+    }
 }
 
 // The stretch of a cell that begins at a place of the text.
@@ -94,16 +86,14 @@ fn text_said(cell: &[u8], at: usize) -> Cell
     requires { at ≤ most_bytes }
     ensures { result ≡ said Sort.Text at cell.now }
 {
-    let len = header::wide(contents::stretch_of(cell).len());
-    if contents::is_quoted(cell) {
-        return Cell::Text {
-            start: header::wide(at + 1),
-            len,
-        };
-    }
+    let start = if contents::is_quoted(cell) {
+        at + 1
+    } else {
+        at
+    };
     Cell::Text {
-        start: header::wide(at),
-        len,
+        start: start as u64,
+        len: contents::stretch_of(cell).len() as u64,
     }
 }
 
@@ -126,7 +116,7 @@ fn judged_cell(
         Value::Number(n) => accepted(number_said(edition, is_equip(t, column), n)),
         Value::Text => accepted(text_said(cell, at)),
         Value::Empty => accepted(Cell::Empty),
-        Value::Bad(number) => refused(Check::fails(number, header::wide(column)), t.number(), line),
+        Value::Bad(number) => refused(Fault::new(number, column as u64), t.number(), line),
     }
 }
 
@@ -148,11 +138,8 @@ fn cell_in_row(
     let cells = at[0];
     let check = row_line::cut_row(edition, row, cells, &mut bounds);
     match check {
-        Check::Fails {
-            number: _,
-            column: _,
-        } => refused(check, t.number(), line),
-        Check::Passes => {
+        Err(fault) => refused(fault, t.number(), line),
+        Ok(()) => {
             let number = at[column];
             let from = begin + cells::begin_of(&bounds, cells, number);
             let cell = cells::cell_of(edition, row, &bounds, cells, number);
@@ -166,7 +153,7 @@ fn check_above(edition: Edition, row: &[u8]) -> Check
     ensures { result ≡ fault_above edition row.now }
 {
     match edition {
-        Edition::Dino21 => Check::Passes,
+        Edition::Dino21 => Ok(()),
         Edition::Dino23 => {
             let mut bounds = [0usize; 1];
             let cut = header::cut_line(Edition::Dino23, row, &mut bounds);
@@ -179,7 +166,7 @@ fn check_above(edition: Edition, row: &[u8]) -> Check
 fn no_row() -> Way
     ensures { result.verdict ≡ nowhere not_there }
 {
-    let verdict = Check::not_there().on(Place::NO_TABLE, Place::NO_LINE);
+    let verdict = Err(Fault::not_there().on(Place::NO_TABLE, Place::NO_LINE));
     Way { verdict, begin: 0 }
 }
 
@@ -198,28 +185,25 @@ fn row_asked(edition: Edition, bytes: &[u8], table: u64, from: usize, first: u64
         let l = lines::next_line(edition, bytes, at);
         let end = l.end;
         let next = l.next;
-        let verdict = check_above(edition, &bytes[at..end]).on(table, i);
+        let verdict = refusals::placed(check_above(edition, &bytes[at..end]), table, i);
         match verdict {
-            Verdict::Refused(p) => {
+            Err(p) => {
                 return Way {
-                    verdict: Verdict::Refused(p),
+                    verdict: Err(p),
                     begin: at,
                 };
             }
-            Verdict::Accepted => {
+            Ok(()) => {
                 i = lines::line_after(edition, i, &bytes[at..end]);
                 at = next;
             }
         }
     }
-    if line < i {
-        return no_row();
-    }
-    if bytes.len() <= at {
+    if line < i || bytes.len() <= at {
         return no_row();
     }
     Way {
-        verdict: Verdict::Accepted,
+        verdict: Ok(()),
         begin: at,
     }
 }
@@ -234,7 +218,7 @@ fn cell_on_line(
     line: u64,
     column: usize,
 ) -> CellAnswer
-    requires { (1 ≤ column) × (column ≤ length (columns_of edition t)) × TopKept edition t bytes.now top × (top_faults edition t bytes.now ≡ Verdict.Accepted) × (columns.now ≡ listed edition t) }
+    requires { (1 ≤ column) × (column ≤ length (columns_of edition t)) × TopKept edition t bytes.now top × (top_faults edition t bytes.now ≡ Ok tt) × (columns.now ≡ listed edition t) }
     ensures { result ≡ table_cell edition t bytes.now line column }
 {
     let way = row_asked(edition, bytes, t.number(), top.next, top.line, line);
@@ -242,11 +226,11 @@ fn cell_on_line(
     let begin = way.begin;
     let at = top.at;
     match verdict {
-        Verdict::Refused(p) => CellAnswer {
-            verdict: Verdict::Refused(p),
+        Err(p) => CellAnswer {
+            verdict: Err(p),
             cell: Cell::Empty,
         },
-        Verdict::Accepted => {
+        Ok(()) => {
             let l = lines::next_line(edition, bytes, begin);
             let end = l.end;
             cell_in_row(
@@ -267,21 +251,18 @@ fn cell_on_line(
 fn cell_in_table(edition: Edition, bytes: &[u8], t: Table, line: u64, column: u64) -> CellAnswer
     ensures { result ≡ table_cell edition t bytes.now line column }
 {
-    if column == 0 {
-        return not_there();
-    }
-    if header::wide(t.columns(edition)) < column {
+    if column == 0 || (t.columns(edition) as u64) < column {
         return not_there();
     }
     let columns = t.column_rules(edition);
     let top = header::read_top(bytes, edition, t, &columns);
     let verdict = top.verdict;
     match verdict {
-        Verdict::Refused(p) => CellAnswer {
-            verdict: Verdict::Refused(p),
+        Err(p) => CellAnswer {
+            verdict: Err(p),
             cell: Cell::Empty,
         },
-        Verdict::Accepted => cell_on_line(edition, bytes, t, &columns, top, line, column as usize),
+        Ok(()) => cell_on_line(edition, bytes, t, &columns, top, line, column as usize),
     }
 }
 
@@ -289,10 +270,9 @@ fn cell_in_table(edition: Edition, bytes: &[u8], t: Table, line: u64, column: u6
 fn cell_by(edition: Edition, text: &[u8], table: u64, line: u64, column: u64) -> CellAnswer
     ensures { result ≡ asked_of edition (numbered table) text.now line column }
 {
-    let named = Table::numbered(table);
-    match named {
-        Named::Known(t) => cell_in_table(edition, text, t, line, column),
-        Named::Unknown => not_there(),
+    match Table::numbered(table) {
+        Some(t) => cell_in_table(edition, text, t, line, column),
+        None => not_there(),
     }
 }
 
@@ -300,10 +280,9 @@ fn cell_by(edition: Edition, text: &[u8], table: u64, line: u64, column: u64) ->
 pub fn cell(edition: u64, text: &[u8], table: u64, line: u64, column: u64) -> CellAnswer
     ensures { CellPermits edition text.now table line column result }
 {
-    let choice = Edition::numbered(edition);
-    match choice {
-        Choice::Chosen(e) => cell_by(e, text, table, line, column),
-        Choice::Unknown => refused(Check::unknown_edition(), Place::NO_TABLE, Place::NO_LINE),
+    match Edition::numbered(edition) {
+        Some(e) => cell_by(e, text, table, line, column),
+        None => refused(Fault::unknown_edition(), Place::NO_TABLE, Place::NO_LINE),
     }
 }
 
@@ -312,16 +291,10 @@ pub fn stretch(edition: u64, text: &[u8], table: u64, line: u64, column: u64) ->
     ensures { StretchPermits edition text.now table line column result.now }
 {
     let answer = cell(edition, text, table, line, column);
-    let held = answer.cell;
-    match held {
-        Cell::Number(_) => &text[0..0],
-        Cell::Text { start, len } => {
-            let from = start as usize;
-            let to = from + len as usize;
-            &text[from..to]
-        }
-        Cell::Empty => &text[0..0],
-        Cell::Equip21(_) => &text[0..0],
-        Cell::Flags23(_) => &text[0..0],
-    }
+    let Cell::Text { start, len } = answer.cell else {
+        return &text[..0];
+    };
+    let from = start as usize;
+    let to = from + len as usize;
+    &text[from..to]
 }

@@ -1,5 +1,5 @@
 -- Where a cell ends, step by step, and that the line is cut there. Assumes nothing.
-use mathlib.Core.Bool.{Bool, true, false, not, ◌||◌, ◌&&◌}
+use mathlib.Core.Bool.{Bool, true, false, ◌||◌, ◌&&◌}
 use mathlib.Core.Path.{◌≡◌, refl, sym, ◌∙◌, ap, subst}
 use mathlib.Core.List.{[], ◌∷◌, List}
 use Prim.Native.Nat.{ℕ, ◌≤◌, ◌<◌, ◌+◌, ◌-◌, suc}
@@ -7,7 +7,7 @@ use native.Mathlib.Omega.{arith}
 use lib.Dec.{eqb, ltb}
 use lib.ListN.{drop, length, get_or, drop_of_length-le, take, length-drop, set}
 use lib.Seq.{drop-drop, length-take-le}
-use borrow.Author.Tests.{eqb-true, eq-eqb, ne_eqb, lt-ltb, le-ltb}
+use borrow.Author.Tests.{ne_eqb}
 use Rattle.words.specs.Words.{whether◌then◌else◌, Bytes}
 use Rattle.words.proofs.Lists.{drop_step}
 use Rattle.cells.specs.declared.Kind.{Kind}
@@ -18,8 +18,7 @@ use Rattle.cells.specs.Cells.{kind, next, kind_in, breaks_stand, is_break, quote
 use Rattle.cells.specs.Ends.{stays, ended, end_from, stop_at, break_next}
 use Rattle.cells.specs.declared.State.TheVariants.{Plain, Inside, Closed, Fresh, Over, Fault}
 use Rattle.cells.specs.declared.State.{State}
-use Rattle.cells.specs.declared.CellEnd.{CellEnd}
-use Rattle.cells.specs.declared.CellEnd.TheVariants.{Nowhere, At}
+use Rattle.std.specs.Prelude.{Option, Some, None}
 use Rattle.cells.proofs.Cutting.{before, grown_by, grown_by_after}
 use Rattle.cells.proofs.Marking.{Sofar, bytes_more, cell_more}
 
@@ -33,110 +32,49 @@ module _ (b : ℕ) where
   kind_bare : (b ≡ 34 → ⊥) → kind b ≡ bare (eqb b 59) (ltb b 32 || eqb b 127)
   kind_bare n = rw (ne_eqb b 34 n)
 
-  pub inside_above : 34 < b → not (eqb b 127) ≡ stays Inside (kind b)
-  inside_above h = rw (kind_bare (λ e. omega arith), le-ltb b 32 (omega arith)) (go (eqb b 59) (eqb b 127) refl refl)
-    where
-      go : (m c : Bool) → eqb b 59 ≡ m → eqb b 127 ≡ c → not c ≡ stays Inside (bare m c)
-      go true true m c =
-          let x : b ≡ 59 = eqb-true b 59 m in
-          let y : b ≡ 127 = eqb-true b 127 c in
-          absurd (let z : ⊥ = omega arith in z)
-      go true false m c = refl
-      go false true m c = refl
-      go false false m c = refl
-
-  pub inside_below : b < 32 → false ≡ stays Inside (kind b)
-  inside_below h = rw (kind_bare (λ e. omega arith), ne_eqb b 59 (λ e. omega arith), lt-ltb b 32 h)
-
-  pub inside_between : 32 ≤ b → b ≤ 34 → not (eqb b 34) ≡ stays Inside (kind b)
-  inside_between l h = go (eqb b 34)
-    where
-      go : (q : Bool) → not q ≡ stays Inside (whether q then Quote else bare (eqb b 59) (ltb b 32 || eqb b 127))
-      go true = refl
-      go false = rw (ne_eqb b 59 (λ e. omega arith), le-ltb b 32 l, ne_eqb b 127 (λ e. omega arith))
-
-  pub plain_semicolon : b ≡ 59 → false ≡ stays Plain (kind b)
-  plain_semicolon e = rw e
-
-  pub plain_as_inside : (b ≡ 59 → ⊥) → stays Inside (kind b) ≡ stays Plain (kind b)
-  plain_as_inside n = rw (ne_eqb b 59 n) (go (eqb b 34) (ltb b 32 || eqb b 127))
-    where
-      go : (q c : Bool) → stays Inside (whether q then Quote else bare false c) ≡ stays Plain (whether q then Quote else bare false c)
-      go true c = refl
-      go false true = refl
-      go false false = refl
-
 -- where a cell ends, step by step -----------------------------------------------------------------------------------------
 
 -- what a byte makes of a cell, by its kind
-plain_kind : (k : Kind) (i : ℕ) (on : State → CellEnd) → stays Plain k ≡ true → ended (next Plain k) i on ≡ on Plain
+plain_kind : (k : Kind) (i : ℕ) (on : State → Option ℕ) → stays Plain k ≡ true → ended (next Plain k) i on ≡ on Plain
 plain_kind Quote i on e = cc
 plain_kind Semicolon i on e = cc
 plain_kind Control i on e = cc
 plain_kind Other i on e = refl
 plain_kind End i on e = cc
 
-plain_stops : (k : Kind) (i : ℕ) (on : State → CellEnd) → stays Plain k ≡ false → ended (next Plain k) i on ≡ ended (next Closed k) i (λ t. Nowhere)
+plain_stops : (k : Kind) (i : ℕ) (on : State → Option ℕ) → stays Plain k ≡ false → ended (next Plain k) i on ≡ ended (next Closed k) i (λ t. None)
 plain_stops Quote i on e = refl
 plain_stops Semicolon i on e = refl
 plain_stops Control i on e = refl
 plain_stops Other i on e = cc
 plain_stops End i on e = refl
 
-inside_kind : (k : Kind) (i : ℕ) (on : State → CellEnd) → stays Inside k ≡ true → ended (next Inside k) i on ≡ on Inside
+inside_kind : (k : Kind) (i : ℕ) (on : State → Option ℕ) → stays Inside k ≡ true → ended (next Inside k) i on ≡ on Inside
 inside_kind Quote i on e = cc
 inside_kind Semicolon i on e = refl
 inside_kind Control i on e = cc
 inside_kind Other i on e = refl
 inside_kind End i on e = cc
 
-inside_stops : (m c : Bool) (i : ℕ) (on : State → CellEnd) → stays Inside (bare m c) ≡ false → ended (next Inside (bare m c)) i on ≡ Nowhere
+inside_stops : (m c : Bool) (i : ℕ) (on : State → Option ℕ) → stays Inside (bare m c) ≡ false → ended (next Inside (bare m c)) i on ≡ None
 inside_stops true c i on e = cc
 inside_stops false true i on e = refl
 inside_stops false false i on e = cc
 
-closed_bare : (m c : Bool) (i : ℕ) (on : State → CellEnd) → ended (next Closed (bare m c)) i on ≡ ended (next Closed (bare m c)) i (λ t. Nowhere)
+closed_bare : (m c : Bool) (i : ℕ) (on : State → Option ℕ) → ended (next Closed (bare m c)) i on ≡ ended (next Closed (bare m c)) i (λ t. None)
 closed_bare true c i on = refl
 closed_bare false true i on = refl
 closed_bare false false i on = refl
 
-fresh_bare : (m c : Bool) (i : ℕ) (on : State → CellEnd) → ended (next Fresh (bare m c)) i on ≡ ended (next Plain (bare m c)) i on
+fresh_bare : (m c : Bool) (i : ℕ) (on : State → Option ℕ) → ended (next Fresh (bare m c)) i on ≡ ended (next Plain (bare m c)) i on
 fresh_bare true c i on = refl
 fresh_bare false true i on = refl
 fresh_bare false false i on = refl
 
 -- a semicolon or the end of the line must follow a closed cell
 module _ (line : Bytes) (i : ℕ) where
-  pub stop_last : length line ≤ i → stop_at i (drop i line) ≡ At i
-  stop_last h = rw (drop_of_length-le line h)
-
-  stop_byte : i < length line → stop_at i (drop i line) ≡ ended (next Closed (kind (get_or line i 0))) i (λ t. Nowhere)
+  stop_byte : i < length line → stop_at i (drop i line) ≡ ended (next Closed (kind (get_or line i 0))) i (λ t. None)
   stop_byte h = rw (drop_step 0 line i h)
-
-  pub stop_semicolon : i < length line → get_or line i 0 ≡ 59 → stop_at i (drop i line) ≡ At i
-  stop_semicolon h e = stop_byte h ∙ rw e
-
-  pub stop_other : i < length line → (get_or line i 0 ≡ 59 → ⊥) → stop_at i (drop i line) ≡ Nowhere
-  stop_other h n = stop_byte h ∙ rw (ne_eqb (get_or line i 0) 59 n) (go (eqb (get_or line i 0) 34) (ltb (get_or line i 0) 32 || eqb (get_or line i 0) 127))
-    where
-      go : (q c : Bool) → ended (next Closed (whether q then Quote else bare false c)) i (λ t. Nowhere) ≡ Nowhere
-      go true c = refl
-      go false true = refl
-      go false false = refl
-
--- a break at a place, by its bytes
-module _ (line : Bytes) (i : ℕ) where
-  pub feed_here : get_or line i 0 ≡ 10 → true ≡ is_break (get_or line i 0) (drop (i + 1) line)
-  feed_here e = rw (eq-eqb (get_or line i 0) 10 e)
-
-  pub no_return : (get_or line i 0 ≡ 10 → ⊥) → (get_or line i 0 ≡ 13 → ⊥) → false ≡ is_break (get_or line i 0) (drop (i + 1) line)
-  no_return n m = rw (ne_eqb (get_or line i 0) 10 n, ne_eqb (get_or line i 0) 13 m)
-
-  pub return_before : get_or line i 0 ≡ 13 → i + 1 < length line → eqb (get_or line (i + 1) 0) 10 ≡ is_break (get_or line i 0) (drop (i + 1) line)
-  return_before e h = rw (e, drop_step 0 line (i + 1) h)
-
-  pub return_last : get_or line i 0 ≡ 13 → length line ≤ i + 1 → false ≡ is_break (get_or line i 0) (drop (i + 1) line)
-  return_last e h = rw (e, drop_of_length-le line h)
 
 -- by any edition
 module _ (ed : Edition) where
@@ -167,14 +105,14 @@ module _ (ed : Edition) where
     unfolding end_from
     end_byte s h = rw (drop_step 0 line i h)
 
-    end_none : (s : State) → length line ≤ i → end_from ed s i (drop i line) ≡ ended (next s End) i (λ t. Nowhere)
+    end_none : (s : State) → length line ≤ i → end_from ed s i (drop i line) ≡ ended (next s End) i (λ t. None)
     unfolding end_from
     end_none s h = rw (drop_of_length-le line h)
 
-    pub plain_last : length line ≤ i → end_from ed Plain i (drop i line) ≡ At i
+    pub plain_last : length line ≤ i → end_from ed Plain i (drop i line) ≡ Some i
     plain_last h = end_none Plain h
 
-    pub inside_last : length line ≤ i → end_from ed Inside i (drop i line) ≡ Nowhere
+    pub inside_last : length line ≤ i → end_from ed Inside i (drop i line) ≡ None
     inside_last h = end_none Inside h
 
     pub plain_on : i < length line → stays Plain (kind (get_or line i 0)) ≡ true → end_from ed Plain i (drop i line) ≡ end_from ed Plain (i + 1) (drop (i + 1) line)
@@ -197,7 +135,7 @@ module _ (ed : Edition) where
     pub inside_break : i < length line → break_next ed (drop i line) ≡ true → end_from ed Inside i (drop i line) ≡ end_from ed Inside (i + 1) (drop (i + 1) line)
     inside_break h q = let p : (breaks_stand ed && is_break (get_or line i 0) (drop (i + 1) line)) ≡ true = sym (break_byte h) ∙ q in end_byte Inside h ∙ rw p
 
-    pub inside_control : i < length line → stays Inside (kind (get_or line i 0)) ≡ false → break_next ed (drop i line) ≡ false → (get_or line i 0 ≡ 34 → ⊥) → end_from ed Inside i (drop i line) ≡ Nowhere
+    pub inside_control : i < length line → stays Inside (kind (get_or line i 0)) ≡ false → break_next ed (drop i line) ≡ false → (get_or line i 0 ≡ 34 → ⊥) → end_from ed Inside i (drop i line) ≡ None
     inside_control h q k n =
         let p : (breaks_stand ed && is_break (get_or line i 0) (drop (i + 1) line)) ≡ false = sym (break_byte h) ∙ k in
         end_byte Inside h
@@ -236,11 +174,11 @@ module _ (ed : Edition) where
   grown_before b c (faulty n) = refl
   grown_before b c (cells cs) = refl
 
-  faulty_from : (s : State) (i : ℕ) (bs : Bytes) → end_from ed s i bs ≡ Nowhere → cut_from ed s bs ≡ faulty 1
+  faulty_from : (s : State) (i : ℕ) (bs : Bytes) → end_from ed s i bs ≡ None → cut_from ed s bs ≡ faulty 1
   unfolding end_from cut_from
   faulty_from s i [] = go (next s End)
     where
-      go : (t : State) → ended t i (λ t. Nowhere) ≡ Nowhere → reached t (cells ([] ∷ [])) (λ t. faulty 1) ≡ faulty 1
+      go : (t : State) → ended t i (λ t. None) ≡ None → reached t (cells ([] ∷ [])) (λ t. faulty 1) ≡ faulty 1
       go Over e = cc
       go Fault e = refl
       go Fresh e = refl
@@ -249,8 +187,8 @@ module _ (ed : Edition) where
       go Closed e = refl
   faulty_from s i (b ∷ bs) = go (next s (kind_in ed s b bs)) (λ t e. ap (grown b) (faulty_from t (i + 1) bs e))
     where
-      go : (t : State) → ((t : State) → end_from ed t (i + 1) bs ≡ Nowhere → grown b (cut_from ed t bs) ≡ faulty 1)
-          → ended t i (λ t. end_from ed t (i + 1) bs) ≡ Nowhere → reached t (after (cut_from ed Fresh bs)) (λ t. grown b (cut_from ed t bs)) ≡ faulty 1
+      go : (t : State) → ((t : State) → end_from ed t (i + 1) bs ≡ None → grown b (cut_from ed t bs) ≡ faulty 1)
+          → ended t i (λ t. end_from ed t (i + 1) bs) ≡ None → reached t (after (cut_from ed Fresh bs)) (λ t. grown b (cut_from ed t bs)) ≡ faulty 1
       go Over on e = cc
       go Fault on e = refl
       go Fresh on e = on Fresh e
@@ -264,7 +202,7 @@ module _ (ed : Edition) where
     within : e ≤ i + length bs
     parted_there : u ≡ before (take (e - i) bs) (following (drop (e - i) bs))
 
-  ends_here : (i e : ℕ) (bs : Bytes) (u : Cut) → At i ≡ At e → u ≡ before [] (following bs) → Ends i e bs u
+  ends_here : (i e : ℕ) (bs : Bytes) (u : Cut) → Some i ≡ Some e → u ≡ before [] (following bs) → Ends i e bs u
   ends_here i e bs u q p =
       let h : i ≡ e = cc in
       let z : e - e ≡ 0 = omega arith in
@@ -283,14 +221,14 @@ module _ (ed : Edition) where
         parted_there = rw z (ap (grown b) s.parted_there ∙ grown_before b (take (e - (i + 1)) bs) (following (drop (e - (i + 1)) bs)));
       }
 
-  nowhere : (e : ℕ) → Nowhere ≡ At e → ⊥
+  nowhere : (e : ℕ) → None ≡ Some e → ⊥
   nowhere e q = let z : ◌≡◌ {A = ℕ} 0 1 = cc in omega arith
 
-  ends_from : (s : State) (i e : ℕ) (bs : Bytes) → end_from ed s i bs ≡ At e → Ends i e bs (cut_from ed s bs)
+  ends_from : (s : State) (i e : ℕ) (bs : Bytes) → end_from ed s i bs ≡ Some e → Ends i e bs (cut_from ed s bs)
   unfolding end_from cut_from
   ends_from s i e [] = go (next s End)
     where
-      go : (t : State) → ended t i (λ t. Nowhere) ≡ At e → Ends i e [] (reached t (cells ([] ∷ [])) (λ t. faulty 1))
+      go : (t : State) → ended t i (λ t. None) ≡ Some e → Ends i e [] (reached t (cells ([] ∷ [])) (λ t. faulty 1))
       go Over q = ends_here i e [] (cells ([] ∷ [])) q refl
       go Fault q = absurd (nowhere e q)
       go Fresh q = absurd (nowhere e q)
@@ -299,8 +237,8 @@ module _ (ed : Edition) where
       go Closed q = absurd (nowhere e q)
   ends_from s i e (b ∷ bs) = go (next s (kind_in ed s b bs)) (λ t q. ends_later i e b bs (cut_from ed t bs) (ends_from t (i + 1) e bs q))
     where
-      go : (t : State) → ((t : State) → end_from ed t (i + 1) bs ≡ At e → Ends i e (b ∷ bs) (grown b (cut_from ed t bs)))
-          → ended t i (λ t. end_from ed t (i + 1) bs) ≡ At e → Ends i e (b ∷ bs) (reached t (after (cut_from ed Fresh bs)) (λ t. grown b (cut_from ed t bs)))
+      go : (t : State) → ((t : State) → end_from ed t (i + 1) bs ≡ Some e → Ends i e (b ∷ bs) (grown b (cut_from ed t bs)))
+          → ended t i (λ t. end_from ed t (i + 1) bs) ≡ Some e → Ends i e (b ∷ bs) (reached t (after (cut_from ed Fresh bs)) (λ t. grown b (cut_from ed t bs)))
       go Over on q = ends_here i e (b ∷ bs) (after (cut_from ed Fresh bs)) q (after_before (cut_from ed Fresh bs))
       go Fault on q = absurd (nowhere e q)
       go Fresh on q = on Fresh q
@@ -309,10 +247,10 @@ module _ (ed : Edition) where
       go Closed on q = on Closed q
 
   module _ (line : Bytes) (from : ℕ) where
-    pub faulty_cell_lem : end_from ed Fresh from (drop from line) ≡ Nowhere → cut ed (drop from line) ≡ faulty 1
+    pub faulty_cell_lem : end_from ed Fresh from (drop from line) ≡ None → cut ed (drop from line) ≡ faulty 1
     faulty_cell_lem q = faulty_from Fresh from (drop from line) q
 
-    module _ (e : ℕ) (h : from ≤ length line) (q : end_from ed Fresh from (drop from line) ≡ At e) where
+    module _ (e : ℕ) (h : from ≤ length line) (q : end_from ed Fresh from (drop from line) ≡ Some e) where
       pub ends_behind : from ≤ e
       ends_behind = (ends_from Fresh from e (drop from line) q).begun
 
@@ -338,7 +276,7 @@ module _ (ed : Edition) where
     following_next h = rw (drop_step 0 line e h)
 
   -- one cell more, whose end is noted with the byte that parts it from the next
-  pub cell_ended : (line : Bytes) (from e : ℕ) → from ≤ length line → end_from ed Fresh from (drop from line) ≡ At e → (room : ℕ) (bounds bounds' : List ℕ) (n : ℕ)
+  pub cell_ended : (line : Bytes) (from e : ℕ) → from ≤ length line → end_from ed Fresh from (drop from line) ≡ Some e → (room : ℕ) (bounds bounds' : List ℕ) (n : ℕ)
       → Sofar room (cut ed line) bounds n from (cut ed (drop from line)) → bounds' ≡ set bounds (n + 1) (e + 1) → (rest : Cut) → following (drop e line) ≡ rest
       → Sofar room (cut ed line) bounds' (n + 1) (e + 1) rest
   cell_ended line from e h q room bounds bounds' n s g rest f =

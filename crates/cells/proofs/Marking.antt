@@ -9,8 +9,7 @@ use Rattle.words.specs.Words.{Bytes}
 use Rattle.cells.specs.Marks.{bounds_from, BoundsOf, answer_of}
 use Rattle.editions.specs.declared.Edition.{Edition}
 use Rattle.cells.specs.Cells.{Cut, faulty, cells, grown, after, parted, cut, cells_of}
-use Rattle.cells.specs.declared.Answer.TheVariants.{Bad, Good}
-use Rattle.cells.specs.declared.Answer.{Answer}
+use Rattle.std.specs.Prelude.{Result, Ok, Err}
 use Rattle.cells.proofs.Cutting.{ahead, grown_by, ahead_more, ahead_faulty, ahead_none, grown_by_nil, grown_by_one, grown_by_more, grown_by_after, cells_parted}
 
 -- marks of one cell more ----------------------------------------------------------------------------------------------------
@@ -98,10 +97,10 @@ module _ (room : ℕ) (whole : Cut) (bounds : List ℕ) where
     pub cells_bounded : (cs : List Bytes) → whole ≡ cells cs → Sofar room whole bounds n i (cells []) → BoundsOf cs room bounds
     cells_bounded cs w s = let e : cs ≡ s.found = cc (all_found s) in rw (e, s.counted) s.kept
 
-    pub good_answer : Sofar room whole bounds n i (cells []) → Good n ≡ answer_of whole
-    good_answer s = rw (all_found s) (ap (λ (k : ℕ). Good k) (sym s.counted))
+    pub good_answer : Sofar room whole bounds n i (cells []) → Ok n ≡ answer_of whole
+    good_answer s = rw (all_found s) (ap (λ (k : ℕ). Ok k) (sym s.counted))
 
-    pub bad_answer : Sofar room whole bounds n i (faulty 1) → Bad (n + 1) ≡ answer_of whole
+    pub bad_answer : Sofar room whole bounds n i (faulty 1) → Err (n + 1) ≡ answer_of whole
     bad_answer s = ap answer_of (sym (fault_found s))
 
     pub no_cells : (cs : List Bytes) → whole ≡ cells cs → Sofar room whole bounds n i (faulty 1) → ⊥
@@ -165,14 +164,14 @@ pub cell_stands : (e : Edition) (line : Bytes) (cs : List Bytes) (room : ℕ) (b
 cell_stands e line cs room bounds k q = stands_on 59 line cs room bounds k (cells_parted e line cs q)
 
 -- what an answer says of the line that was cut
-pub good_cells : (u : Cut) (r : Answer) (m : ℕ) → r ≡ answer_of u → r ≡ Good m → u ≡ cells (cells_of u)
+pub good_cells : (u : Cut) (r : Result ℕ ℕ) (m : ℕ) → r ≡ answer_of u → r ≡ Ok m → u ≡ cells (cells_of u)
 good_cells (faulty n) r m e g = cc
 good_cells (cells cs) r m e g = refl
 
-pub good_count : (u : Cut) (r : Answer) (m : ℕ) → r ≡ answer_of u → r ≡ Good m → length (cells_of u) ≡ m
+pub good_count : (u : Cut) (r : Result ℕ ℕ) (m : ℕ) → r ≡ answer_of u → r ≡ Ok m → length (cells_of u) ≡ m
 good_count (faulty n) r m e g = cc
 good_count (cells cs) r m e g = cc
 
-pub bad_cell_lem : (u : Cut) (r : Answer) (m : ℕ) → r ≡ answer_of u → r ≡ Bad m → u ≡ faulty m
+pub bad_cell_lem : (u : Cut) (r : Result ℕ ℕ) (m : ℕ) → r ≡ answer_of u → r ≡ Err m → u ≡ faulty m
 bad_cell_lem (faulty n) r m e g = cc
 bad_cell_lem (cells cs) r m e g = cc

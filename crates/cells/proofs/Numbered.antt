@@ -10,8 +10,7 @@ use Rattle.editions.specs.declared.Edition.{Edition}
 use Rattle.cells.specs.Numbered.{cell_numbered, MarksOf}
 use Rattle.cells.specs.Cells.{cells, cut, cells_of}
 use Rattle.cells.specs.Marks.{BoundsOf, answer_of}
-use Rattle.cells.specs.declared.Answer.{Answer}
-use Rattle.cells.specs.declared.Answer.TheVariants.{Good}
+use Rattle.std.specs.Prelude.{Result, Ok}
 use Rattle.cells.proofs.Marking.{Stands, cell_stands, good_cells, good_count}
 
 -- marks ----------------------------------------------------------------------------------------------------------------------
@@ -28,7 +27,7 @@ module _ (ed : Edition) (line : Bytes) (bounds : List ℕ) (count : ℕ) where
       rw (ne_eqb n 0 (λ z. omega arith)) (rw e at (cell_stands ed line (cells_of (cut ed line)) (length bounds) bounds (n - 1) m.parted m.kept (omega (arith, m.counted, m.room)) (omega (arith, m.counted))))
 
   -- the bounds of a line whose cells are counted
-  pub marks_of : (r : Answer) → r ≡ answer_of (cut ed line) → ((cs : List Bytes) → cut ed line ≡ cells cs → BoundsOf cs (length bounds) bounds) → r ≡ Good count → count < length bounds → MarksOf ed line bounds count
+  pub marks_of : (r : Result ℕ ℕ) → r ≡ answer_of (cut ed line) → ((cs : List Bytes) → cut ed line ≡ cells cs → BoundsOf cs (length bounds) bounds) → r ≡ Ok count → count < length bounds → MarksOf ed line bounds count
   marks_of r e b g l =
       let p : cut ed line ≡ cells (cells_of (cut ed line)) = good_cells (cut ed line) r count e g in
       record { parted = p; counted = good_count (cut ed line) r count e g; room = l; kept = b (cells_of (cut ed line)) p }

@@ -23,7 +23,7 @@ pub enum Kind {
 }
 
 // How far a cell is read.
-#[derive(Clone, Copy)]
+#[derive(Clone, Copy, PartialEq, Eq)]
 pub enum State {
     Fresh,
     Plain,
@@ -31,20 +31,6 @@ pub enum State {
     Closed,
     Over,
     Fault,
-}
-
-// Where a cell ends: nowhere if it is faulty.
-#[derive(Clone, Copy)]
-pub enum CellEnd {
-    Nowhere,
-    At(usize),
-}
-
-// A line's first faulty cell, counted from 1, or how many cells it has.
-#[derive(Clone, Copy)]
-pub enum Answer {
-    Bad(usize),
-    Good(usize),
 }
 
 const LINE_FEED: u8 = 10;
@@ -55,61 +41,43 @@ const CARRIAGE_RETURN: u8 = 13;
 pub fn quote_at(line: &[u8], i: usize) -> bool
     ensures { result ≡ quoted (drop i line.now) }
 {
-    if i < line.len() {
-        return line[i] == 34;
-    }
-    false
+    line.get(i) == Some(&b'"')
 }
 
-// Whether a byte leaves a cell inside its quotes: no quote and no control byte.
+// Whether a byte leaves a cell inside its quotes: no quote and no control byte. Most bytes lie above the quote, so that is asked first.
 fn stays_inside(b: u8) -> bool
     ensures { result ≡ stays Inside (kind b) }
 {
-    if 34 < b {
-        return b != 127;
-    }
-    if b < 32 {
-        return false;
-    }
-    b != 34
+    (b'"' < b && b != 127) || matches!(b, 32..=33)
 }
 
 // Whether a byte leaves a cell plain: no quote, no control byte and no semicolon.
 fn stays_plain(b: u8) -> bool
     ensures { result ≡ stays Plain (kind b) }
 {
-    if b == 59 {
-        return false;
-    }
-    stays_inside(b)
+    b != b';' && stays_inside(b)
 }
 
 // The end of a cell that goes on no further than to a place: a semicolon or the line's end must stand there.
-fn end_at(line: &[u8], i: usize) -> CellEnd
+fn end_at(line: &[u8], i: usize) -> Option<usize>
     ensures { result ≡ stop_at i (drop i line.now) }
 {
-    if line.len() <= i {
-        return CellEnd::At(i);
+    match line.get(i) {
+        None | Some(b';') => Some(i),
+        Some(_) => None,
     }
-    if line[i] == 59 {
-        return CellEnd::At(i);
-    }
-    CellEnd::Nowhere
 }
 
 // The end of a plain cell that is read up to a place: it has no quotes in which a break may stand.
-fn plain_end(line: &[u8], from: usize) -> CellEnd
+fn plain_end(line: &[u8], from: usize) -> Option<usize>
     ensures { (e : Edition) → result ≡ end_from e Plain from (drop from line.now) }
 {
-    let mut i = from;
-    'bytes: while i < line.len() {
-        if stays_plain(line[i]) {
-            i += 1;
-        } else {
+    for i in from..line.len() {
+        if !stays_plain(line[i]) {
             return end_at(line, i);
         }
     }
-    CellEnd::At(i)
+    Some(from.max(line.len()))
 }
 
 // Whether a break begins at a place, with or without its carriage return.
@@ -117,16 +85,10 @@ fn feeds_at(line: &[u8], i: usize) -> bool
     requires { i < length line.now }
     ensures { result ≡ is_break (get_or line.now i 0) (drop (i + 1) line.now) }
 {
-    if line[i] == LINE_FEED {
-        return true;
-    }
-    if line[i] != CARRIAGE_RETURN {
-        return false;
-    }
-    if i + 1 < line.len() {
-        return line[i + 1] == LINE_FEED;
-    }
-    false
+    matches!(
+        &line[i..],
+        [LINE_FEED, ..] | [CARRIAGE_RETURN, LINE_FEED, ..]
+    )
 }
 
 // Whether a break stands at a place that may stand there, inside quotes: by 2.3 alone.
@@ -141,7 +103,7 @@ fn break_at(edition: Edition, line: &[u8], i: usize) -> bool
 }
 
 // The end of a quoted cell that is read up to a place inside its quotes.
-fn quoted_end(edition: Edition, line: &[u8], from: usize) -> CellEnd
+fn quoted_end(edition: Edition, line: &[u8], from: usize) -> Option<usize>
     ensures { result ≡ end_from edition Inside from (drop from line.now) }
 {
     let mut i = from;
@@ -151,18 +113,18 @@ fn quoted_end(edition: Edition, line: &[u8], from: usize) -> CellEnd
         } else if break_at(edition, line, i) {
             i += 1;
         } else if line[i] != 34 {
-            return CellEnd::Nowhere;
+            return None;
         } else if quote_at(line, i + 1) {
             i += 2;
         } else {
             return end_at(line, i + 1);
         }
     }
-    CellEnd::Nowhere
+    None
 }
 
-// The end of the cell that begins at a place.
-fn cell_end(edition: Edition, line: &[u8], from: usize) -> CellEnd
+// The end of the cell that begins at a place; none if it is faulty.
+fn cell_end(edition: Edition, line: &[u8], from: usize) -> Option<usize>
     ensures { result ≡ end_from edition Fresh from (drop from line.now) }
 {
     if quote_at(line, from) {
@@ -180,26 +142,20 @@ pub fn note(places: &mut [usize], n: usize, place: usize)
     }
 }
 
-// The cells of a line, one by one: the first faulty one, or how many they are, with their bounds where there is room for them.
-pub fn cells_of(edition: Edition, line: &[u8], bounds: &mut [usize]) -> Answer
+// The cells of a line, one by one: how many they are, with their bounds where there is room for them; or the first faulty one, counted from 1.
+pub fn cells_of(edition: Edition, line: &[u8], bounds: &mut [usize]) -> Result<usize, usize>
     ensures { (result ≡ answer_of (cut edition line.now)) × ((cs : List Bytes) → cut edition line.now ≡ cells cs → BoundsOf cs (length bounds.new) bounds.new) }
 {
     let mut n: usize = 0;
     let mut from: usize = 0;
     note(bounds, n, from);
     'cells: loop {
-        match cell_end(edition, line, from) {
-            CellEnd::Nowhere => {
-                return Answer::Bad(n + 1);
-            }
-            CellEnd::At(i) => {
-                n += 1;
-                from = i + 1;
-                note(bounds, n, from);
-                if i == line.len() {
-                    return Answer::Good(n);
-                }
-            }
+        let i = cell_end(edition, line, from).ok_or(n + 1)?;
+        n += 1;
+        from = i + 1;
+        note(bounds, n, from);
+        if i == line.len() {
+            return Ok(n);
         }
     }
 }
@@ -209,10 +165,7 @@ pub fn begin_of(bounds: &[usize], cells: usize, cell: usize) -> usize
     requires { cells < length bounds.now }
     ensures { result ≡ begin_at bounds.now cells cell }
 {
-    if cell == 0 {
-        return 0;
-    }
-    if cells < cell {
+    if cell == 0 || cells < cell {
         return 0;
     }
     bounds[cell - 1]
@@ -229,10 +182,7 @@ pub fn cell_of<'a, 'b>(
     requires { MarksOf edition line.now bounds.now cells }
     ensures { result.now ≡ cell_numbered cell (cells_of (cut edition line.now)) }
 {
-    if cell == 0 {
-        return &line[0..0];
-    }
-    if cells < cell {
+    if cell == 0 || cells < cell {
         return &line[0..0];
     }
     let from = bounds[cell - 1];

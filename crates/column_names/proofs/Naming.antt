@@ -2,15 +2,15 @@
 use mathlib.Core.Path.{◌≡◌, refl, ◌∙◌, ap, sym}
 use mathlib.Core.List.{[], ◌∷◌, List, map}
 use mathlib.Core.Bool.{Bool, true, false, ◌||◌}
-use Prim.Native.Nat.{ℕ, ◌<◌, suc, ◌+◌, ◌≤◌, ◌-◌}
+use Prim.Native.Nat.{ℕ, ◌<◌, zero, suc, ◌+◌, ◌≤◌}
 use native.Mathlib.Omega.{arith}
-use native.Mathlib.Numerals.{add-one}
-use lib.ListN.{length, drop, get_or, drop_of_length-le, length-drop, take}
+use lib.ListN.{length, get_or}
 use lib.Dec.{eqb}
-use lib.Seq.{drop-drop}
-use borrow.Author.Tests.{eq-eqb, ne_eqb}
+use Rattle.std.specs.Prelude.{cond}
+use Rattle.std.specs.Cmp.Lexicographic.{pointwise}
+use Rattle.std.specs.List.{slice_split, onto_first, AllWithin, HoldsAt}
 use Rattle.words.specs.Words.{Bytes, whether◌then◌else◌, same, bytes}
-use Rattle.words.proofs.Lists.{drop_step, every, same_true, and_left, and_right}
+use Rattle.words.proofs.Lists.{every, same_true, and_left, and_right}
 use Rattle.lines.specs.Lines.{onto}
 use Rattle.cells.specs.Cells.{parted}
 use Rattle.editions.specs.declared.Edition.{Edition}
@@ -18,93 +18,61 @@ use Rattle.editions.specs.declared.Edition.TheVariants.{Dino21, Dino23}
 use Rattle.tables.specs.declared.Table.{Table}
 use Rattle.tables.specs.Columns.{columns_of, column_from, column_number, Column}
 use Rattle.tables.specs.declared.Table.TheVariants.{VehicleType, Depot, Stop, StopPoint, Block, Calendar}
-use Rattle.column_names.specs.Naming.{name_length, names_in, number_in}
+use Rattle.column_names.specs.Naming.{names_in, number_in}
 
--- where a name ends: here, further on, or where the names end
-pub ends_here : (s : Bytes) (i : ℕ) → i < length s → get_or s i 0 ≡ 59 → name_length (drop i s) ≡ 0
-unfolding name_length
-ends_here s i h e = rw (drop_step 0 s i h, eq-eqb (get_or s i 0) 59 e)
+-- the test of two names byte for byte is `same`
+pub alike : (xs ys : Bytes) → pointwise eqb xs ys ≡ same xs ys
+unfolding same
+alike [] [] = refl
+alike [] (y ∷ ys) = refl
+alike (x ∷ xs) [] = refl
+alike (x ∷ xs) (y ∷ ys) = rw (alike xs ys)
 
-pub ends_on : (s : Bytes) (i : ℕ) → i < length s → (get_or s i 0 ≡ 59 → ⊥) → name_length (drop i s) ≡ suc (name_length (drop (i + 1) s))
-unfolding name_length
-ends_on s i h e = rw (drop_step 0 s i h, ne_eqb (get_or s i 0) 59 e)
-
-pub ends_last : (s : Bytes) (i : ℕ) → length s ≤ i → name_length (drop i s) ≡ 0
-unfolding name_length
-ends_last s i h = rw (drop_of_length-le s h)
-
-name_within : (s : Bytes) → name_length s ≤ length s
-unfolding name_length
-name_within [] = omega arith
-name_within (b ∷ bs) = go (eqb b 59) (name_within bs)
+-- the names are what the text parts into at its semicolons
+names_split : (s : Bytes) → names_in s ≡ slice_split (λ b. eqb b 59) s
+unfolding names_in
+names_split [] = refl
+names_split (b ∷ bs) = go (eqb b 59) (names_split bs)
   where
-    go : (t : Bool) → name_length bs ≤ length bs → (whether t then 0 else suc (name_length bs)) ≤ suc (length bs)
-    go true h = omega arith
-    go false h = omega arith
+    first : (l : List Bytes) → onto b l ≡ onto_first b l
+    first [] = refl
+    first (x ∷ xs) = refl
 
-pub ends_within : (s : Bytes) (at e : ℕ) → at ≤ length s → e ≡ at + name_length (drop at s) → e ≤ length s
-ends_within s at e h ee = omega (arith, name_within (drop at s), length-drop at s)
+    go : (t : Bool) → names_in bs ≡ slice_split (λ b. eqb b 59) bs
+        → (whether t then [] ∷ names_in bs else onto b (names_in bs)) ≡ cond t ([] ∷ slice_split (λ b. eqb b 59) bs) (onto_first b (slice_split (λ b. eqb b 59) bs))
+    go true ih = rw ih
+    go false ih = rw ih (first (slice_split (λ b. eqb b 59) bs))
 
--- the first name, and those behind it: further ones where a semicolon ends it, none where the names end
-abbrev behind : Bytes → List Bytes
-behind [] = []
-behind (b ∷ bs) = whether eqb b 59 then names_in bs else behind bs
-
-names_first : (s : Bytes) → names_in s ≡ take (name_length s) s ∷ behind s
-unfolding names_in name_length
-names_first [] = refl
-names_first (b ∷ bs) = go (eqb b 59) (names_first bs)
-  where
-    go : (t : Bool) → names_in bs ≡ take (name_length bs) bs ∷ behind bs
-        → (whether t then [] ∷ names_in bs else onto b (names_in bs)) ≡ take (whether t then 0 else suc (name_length bs)) (b ∷ bs) ∷ (whether t then names_in bs else behind bs)
-    go true ih = refl
-    go false ih = rw ih
-
-behind_more : (s : Bytes) → name_length s < length s → behind s ≡ names_in (drop (suc (name_length s)) s)
-unfolding name_length
-behind_more [] h = absurd (omega arith)
-behind_more (b ∷ bs) h = go (eqb b 59) h (behind_more bs)
-  where
-    go : (t : Bool) → (whether t then 0 else suc (name_length bs)) < suc (length bs) → (name_length bs < length bs → behind bs ≡ names_in (drop (suc (name_length bs)) bs))
-        → (whether t then names_in bs else behind bs) ≡ names_in (drop (whether t then 0 else suc (name_length bs)) bs)
-    go true l ih = refl
-    go false l ih = ih (omega arith)
-
-behind_last : (s : Bytes) → name_length s ≡ length s → behind s ≡ []
-unfolding name_length
-behind_last [] h = refl
-behind_last (b ∷ bs) h = go (eqb b 59) h (behind_last bs)
-  where
-    go : (t : Bool) → (whether t then 0 else suc (name_length bs)) ≡ suc (length bs) → (name_length bs ≡ length bs → behind bs ≡ []) → (whether t then names_in bs else behind bs) ≡ []
-    go true l ih = absurd (omega arith)
-    go false l ih = ih (omega arith)
-
--- one name asked, from a place to its end e, as number n: it is that one, or none is left, or the search goes on behind its semicolon
-asked : (s name : Bytes) (at e n : ℕ) (b : Bool) → e ≡ at + name_length (drop at s) → b ≡ same name (take (e - at) (drop at s))
-    → number_in n (names_in (drop at s)) name ≡ (whether b then n else number_in (suc n) (behind (drop at s)) name)
+-- a name at a place, and at none before it; or at no place
+number_at : (k : ℕ) (xs : List Bytes) (name : Bytes) (i : ℕ) → i < length xs → ((d : Bytes) → same name (get_or xs i d) ≡ true)
+    → ((j : ℕ) (d : Bytes) → 0 ≤ j → j < i → same name (get_or xs j d) ≡ false) → number_in k xs name ≡ i + k
 unfolding number_in
-asked s name at e n b ee eb =
-    let w : e - at ≡ name_length (drop at s) = omega arith in
-    rw (names_first (drop at s), ← w, ← eb)
+number_at k [] name i h e f = absurd (omega arith)
+number_at k (x ∷ xs) name zero h e f = let t : same name x ≡ true = e [] in rw t (omega arith)
+number_at k (x ∷ xs) name (suc i) h e f =
+    let t : same name x ≡ false = f 0 [] (omega arith) (omega arith) in
+    let s : i + suc k ≡ suc i + k = omega arith in
+    rw t (number_at (suc k) xs name i (omega arith) (λ d. e d) (λ j d a b. f (suc j) d (omega arith) (omega arith)) ∙ s)
 
-pub place_here : (s name : Bytes) (at e n : ℕ) (b : Bool) → e ≡ at + name_length (drop at s) → b ≡ same name (take (e - at) (drop at s)) → b ≡ true
-    → number_in n (names_in (drop at s)) name ≡ n
-place_here s name at e n b ee eb h = asked s name at e n b ee eb ∙ rw h
-
-pub place_none : (s name : Bytes) (at e n : ℕ) (b : Bool) → e ≡ at + name_length (drop at s) → b ≡ same name (take (e - at) (drop at s)) → b ≡ false
-    → at ≤ length s → e ≡ length s → number_in n (names_in (drop at s)) name ≡ 0
+number_none : (k : ℕ) (xs : List Bytes) (name : Bytes) → ((j : ℕ) (d : Bytes) → 0 ≤ j → j < length xs → same name (get_or xs j d) ≡ false) → number_in k xs name ≡ 0
 unfolding number_in
-place_none s name at e n b ee eb h l el =
-    let w : name_length (drop at s) ≡ length (drop at s) = rw length-drop (omega arith) in
-    asked s name at e n b ee eb ∙ rw (h, behind_last (drop at s) w)
+number_none k [] name f = refl
+number_none k (x ∷ xs) name f =
+    let t : same name x ≡ false = f 0 [] (omega arith) (omega arith) in
+    rw t (number_none (suc k) xs name (λ j d a b. f (suc j) d (omega arith) (omega arith)))
 
-pub place_on : (s name : Bytes) (at e n : ℕ) (b : Bool) → e ≡ at + name_length (drop at s) → b ≡ same name (take (e - at) (drop at s)) → b ≡ false
-    → e < length s → number_in n (names_in (drop at s)) name ≡ number_in (n + 1) (names_in (drop (e + 1) s)) name
-place_on s name at e n b ee eb h l =
-    let w : name_length (drop at s) < length (drop at s) = rw length-drop (omega arith) in
-    let m : at + suc (name_length (drop at s)) ≡ e + 1 = omega arith in
-    let d : drop (suc (name_length (drop at s))) (drop at s) ≡ drop (e + 1) s = drop-drop (suc (name_length (drop at s))) at s ∙ ap (λ (i : ℕ). drop i s) m in
-    asked s name at e n b ee eb ∙ rw (h, behind_more (drop at s) w, d, add-one n)
+module _ (s name : Bytes) where
+  abbrev pub parts : List Bytes
+  parts = slice_split (λ b. eqb b 59) s
+
+  pub place_at : (i : ℕ) → (i < length parts) × HoldsAt (λ x. pointwise eqb name x ≡ true) parts i × AllWithin (λ x. pointwise eqb name x ≡ false) parts 0 i → i + 1 ≡ number_in 1 (names_in s) name
+  place_at i h =
+      sym (ap (λ (l : List Bytes). number_in 1 l name) (names_split s)
+      ∙ number_at 1 parts name i h.0 (λ d. sym (alike name (get_or parts i d)) ∙ h.1 d) (λ j d a b. sym (alike name (get_or parts j d)) ∙ h.2 j d a b))
+
+  pub place_none : AllWithin (λ x. pointwise eqb name x ≡ false) parts 0 (length parts) → 0 ≡ number_in 1 (names_in s) name
+  place_none h =
+      sym (ap (λ (l : List Bytes). number_in 1 l name) (names_split s) ∙ number_none 1 parts name (λ j d a b. sym (alike name (get_or parts j d)) ∙ h j d a b))
 
 -- a table's names ------------------------------------------------------------------------------------------------------------
 

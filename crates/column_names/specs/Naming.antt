@@ -9,11 +9,6 @@ unfoldable pub names_in : Bytes → List Bytes
 names_in [] = [] ∷ []
 names_in (b ∷ bs) = whether eqb b 59 then [] ∷ names_in bs else onto b (names_in bs)
 
--- how long the first of them is
-unfoldable pub name_length : Bytes → ℕ
-name_length [] = 0
-name_length (b ∷ bs) = whether eqb b 59 then 0 else suc (name_length bs)
-
 -- the number of a name among others, the first of them being number k; 0 where it is none of them
 unfoldable pub number_in : ℕ → List Bytes → Bytes → ℕ
 number_in k [] name = 0

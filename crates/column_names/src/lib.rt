@@ -1,10 +1,10 @@
 // The names of the tables' columns.
 #![tactic(auto)]
 
-ghost use Rattle.std.specs.Prelude.{◌≡◌, ◌+◌, drop};
+ghost use Rattle.std.specs.Prelude.{◌≡◌};
 ghost use Rattle.words.specs.Words.{same, whether◌then◌else◌};
 ghost use Rattle.tables.specs.Columns.{column_number};
-ghost use Rattle.column_names.specs.Naming.{name_length, names_in, number_in};
+ghost use Rattle.column_names.specs.Naming.{names_in, number_in};
 
 use editions::Edition;
 use tables::{STOP_NR, Table, VERSION};
@@ -44,64 +44,25 @@ const NO_OTHER: [u8; 0] = *b"";
 
 const NO_OTHER_COLUMN: usize = 0;
 
-fn same_bytes(a: &[u8], b: &[u8]) -> bool
-    ensures { result ≡ same a.now b.now }
-{
-    if a.len() != b.len() {
-        return false;
-    }
-    let mut alike = true;
-    let mut i = 0;
-    'bytes: while i < a.len() {
-        if a[i] != b[i] {
-            alike = false;
-            break 'bytes;
-        }
-        i += 1;
-    }
-    alike
-}
-
-// Where the name ends that begins at a place: at a semicolon, or where the names end.
-fn name_end(names: &[u8], at: usize) -> usize
-    ensures { result ≡ at + name_length (drop at names.now) }
-{
-    let mut i = at;
-    'bytes: while i < names.len() {
-        if names[i] == SEMICOLON {
-            break 'bytes;
-        }
-        i += 1;
-    }
-    i
-}
-
 // The number of a name among those that semicolons part, counted from 1, or 0.
 fn place_in(names: &[u8], name: &[u8]) -> usize
     ensures { result ≡ number_in 1 (names_in names.now) name.now }
 {
-    let mut n = 1;
-    let mut at = 0;
-    'names: loop {
-        let end = name_end(names, at);
-        if same_bytes(name, &names[at..end]) {
-            break 'names;
-        }
-        if end == names.len() {
-            n = 0;
-            break 'names;
-        }
-        at = end + 1;
-        n += 1;
+    match names
+        .split(|b| *b == SEMICOLON)
+        .position(|each| name == each)
+    {
+        Some(i) => i + 1,
+        None => 0,
     }
-    n
 }
 
 // The same, where another name stands for a column.
+#[tactic(auto, using(crate::proofs::Naming::alike))]
 fn column_in(names: &[u8], other: &[u8], column: usize, name: &[u8]) -> usize
     ensures { result ≡ (whether same name.now other.now then column else number_in 1 (names_in names.now) name.now) }
 {
-    if same_bytes(name, other) {
+    if name == other {
         return column;
     }
     place_in(names, name)

@@ -48,17 +48,3 @@ content_le cell = go (quoted cell)
     go : (q : Bool) → length (whether q then once false (stretch cell) else cell) ≤ length cell
     go true = omega (arith, once_le false (stretch cell), stretch_le cell)
     go false = omega arith
-
--- by whether the cell is quoted
-module _ (cell : Bytes) where
-  pub stretch_quoted : (n : ℕ) → n ≡ length cell - 2 → quoted cell ≡ true → take n (drop 1 cell) ≡ stretch cell
-  stretch_quoted n e q = rw (q, e)
-
-  pub stretch_bare : quoted cell ≡ false → cell ≡ stretch cell
-  stretch_bare q = rw q
-
-  pub content_quoted : quoted cell ≡ true → content cell ≡ once false (stretch cell)
-  content_quoted q = rw q
-
-  pub content_bare : quoted cell ≡ false → content cell ≡ cell
-  content_bare q = rw q

@@ -8,21 +8,18 @@ ghost use Rattle.cells.specs.Cells.{quoted, stretch, once, content};
 pub fn is_quoted(cell: &[u8]) -> bool
     ensures { result ≡ quoted cell.now }
 {
-    cells::quote_at(cell, 0)
+    matches!(cell, [b'"', ..])
 }
 
 // The bytes between a cell's quotes, or the whole cell where it has none.
 pub fn stretch_of(cell: &[u8]) -> &[u8]
     ensures { result.now ≡ stretch cell.now }
 {
-    if is_quoted(cell) {
-        if cell.len() < 2 {
-            return &cell[1..];
-        }
-        let end = cell.len() - 1;
-        return &cell[1..end];
+    match cell {
+        [b'"', inner @ .., _] => inner,
+        [b'"'] => &[],
+        _ => cell,
     }
-    cell
 }
 
 // What a byte adds to the content's length: nothing where it is the double of the quote before it.
@@ -30,14 +27,14 @@ fn counted(n: usize, doubled: bool) -> usize
     requires { n < 18446744073709551615 }
     ensures { result ≡ n + (whether doubled then 0 else 1) }
 {
-    if doubled { n } else { n + 1 }
+    n + usize::from(!doubled)
 }
 
 // Whether the byte behind this one is left out: behind a quote that is itself no double.
 fn doubles(doubled: bool, byte: u8) -> bool
     ensures { result ≡ (whether doubled then false else eqb byte 34) }
 {
-    if doubled { false } else { byte == 34 }
+    !doubled && byte == b'"'
 }
 
 // How many bytes a stretch has, doubled quotes counted once.
@@ -46,12 +43,9 @@ fn length_once(stretch: &[u8]) -> usize
 {
     let mut n: usize = 0;
     let mut doubled = false;
-    let mut i: usize = 0;
-    'bytes: while i < stretch.len() {
-        let byte = stretch[i];
+    for byte in stretch {
         n = counted(n, doubled);
-        doubled = doubles(doubled, byte);
-        i += 1;
+        doubled = doubles(doubled, *byte);
     }
     n
 }
@@ -61,7 +55,8 @@ pub fn content_length(cell: &[u8]) -> usize
     ensures { result ≡ length (content cell.now) }
 {
     if is_quoted(cell) {
-        return length_once(stretch_of(cell));
+        length_once(stretch_of(cell))
+    } else {
+        cell.len()
     }
-    cell.len()
 }

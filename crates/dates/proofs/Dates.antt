@@ -8,14 +8,6 @@ use lib.ListN.{get_or, get_or-eq_default}
 use borrow.Author.Tests.{eqb-true, eqb-false, eq-eqb, ne_eqb, le-leb, lt-leb}
 use Rattle.dates.specs.Calendar.{leap, month_days, days_in, is_date}
 
--- a number is a multiple of four where its fours are all of it
-pub fours_told : (n : ℕ) → eqb (n / 4 * 4) n ≡ eqb (n % 4) 0
-fours_told n = go (eqb (n % 4) 0) refl
-  where
-    go : (b : Bool) → eqb (n % 4) 0 ≡ b → eqb (n / 4 * 4) n ≡ b
-    go true e = let h : n % 4 ≡ 0 = eqb-true (n % 4) 0 e in eq-eqb (n / 4 * 4) n (omega arith)
-    go false e = let h : n % 4 ≡ 0 → ⊥ = eqb-false (n % 4) 0 e in ne_eqb (n / 4 * 4) n (λ k. h (omega arith))
-
 hundreds_told : (n : ℕ) → eqb (n * 100) 0 ≡ eqb n 0
 hundreds_told n = go (eqb n 0) refl
   where
@@ -39,9 +31,6 @@ leap_plain century year h n =
     rw (own, ne_eqb year 0 n, fours)
 
 -- a month
-pub past : (k month : ℕ) → (month ≡ k → ⊥) → k ≤ month → k < month
-past k month n h = omega arith
-
 pub no_month : (month : ℕ) → (1 ≤ month → 12 < month) → get_or month_days month 0 ≡ 0
 no_month zero h = refl
 no_month (suc month) h = let behind : 12 < suc month = h (omega arith) in get_or-eq_default month_days 0 {n = suc month} (omega arith)

@@ -4,24 +4,22 @@
 ghost use Rattle.std.specs.Prelude.{◌≡◌, ◌≤◌, ◌<◌, ◌+◌, ◌*◌, ◌^◌, ◌%◌, eqb, get_or};
 ghost use Rattle.dates.specs.Calendar.{leap, month_days, days_in, is_date};
 
-// A number of two digits, and what is left below their power of ten.
-#[derive(Clone, Copy)]
-struct Pair {
-    value: u64,
-    left: u64,
-}
+// The first and the last number whose first four digits are one of those years, with four digits behind them.
+const FIRST: u64 = 16000000;
 
-// The two digits of n at a power of ten and above it, taken off one by one.
-fn two_digits(n: u64, power: u64) -> Pair
+const LAST: u64 = 99999999;
+
+// The two digits of n at a power of ten and above it, taken off one by one, and what is left below the power.
+fn two_digits(n: u64, power: u64) -> (u64, u64)
     requires { (n < 100 * power) × (power ≤ 10 ^ 17) }
-    ensures { (result.value * power + result.left ≡ n) × (result.left < power) × (result.value < 100) }
+    ensures { (result.0 * power + result.1 ≡ n) × (result.1 < power) × (result.0 < 100) }
 {
     let tens = numbers::digit_of(n, power * 10);
     let ones = numbers::digit_of(tens.left, power);
-    Pair {
-        value: tens.digit as u64 * 10 + ones.digit as u64,
-        left: ones.left,
-    }
+    (
+        u64::from(tens.digit) * 10 + u64::from(ones.digit),
+        ones.left,
+    )
 }
 
 // Whether n is a multiple of four: nothing is lost with its last two bits.
@@ -36,10 +34,7 @@ fn is_leap(century: u64, year: u64) -> bool
     requires { year < 100 }
     ensures { result ≡ leap (century * 100 + year) }
 {
-    if year == 0 {
-        return by_four(century);
-    }
-    by_four(year)
+    by_four(if year == 0 { century } else { year })
 }
 
 // How long a month of any year is, 29 February left out. What is no month has no days.
@@ -47,18 +42,9 @@ fn month_days(month: u64) -> u64
     ensures { result ≡ get_or month_days month 0 }
 {
     match month {
-        1 => 31,
+        1 | 3 | 5 | 7 | 8 | 10 | 12 => 31,
+        4 | 6 | 9 | 11 => 30,
         2 => 28,
-        3 => 31,
-        4 => 30,
-        5 => 31,
-        6 => 30,
-        7 => 31,
-        8 => 31,
-        9 => 30,
-        10 => 31,
-        11 => 30,
-        12 => 31,
         _ => 0,
     }
 }
@@ -68,32 +54,22 @@ fn days_in(century: u64, year: u64, month: u64) -> u64
     requires { year < 100 }
     ensures { result ≡ days_in (century * 100 + year) month }
 {
-    let days = month_days(month);
-    if month != 2 {
-        return days;
+    if month == 2 && is_leap(century, year) {
+        29
+    } else {
+        month_days(month)
     }
-    if is_leap(century, year) {
-        return 29;
-    }
-    days
 }
 
 // Whether YYYYMMDD is a date of the years 1600 to 9999. The years are tested first, on the whole number: it then has the eight digits that are taken off.
 pub fn is_date(n: u64) -> bool
     ensures { result ≡ is_date n }
 {
-    if n < 16000000 {
+    if n < FIRST || LAST < n {
         return false;
     }
-    if 99999999 < n {
-        return false;
-    }
-    let century = two_digits(n, 1000000);
-    let year = two_digits(century.left, 10000);
-    let month = two_digits(year.left, 100);
-    let day = month.left;
-    if day < 1 {
-        return false;
-    }
-    day <= days_in(century.value, year.value, month.value)
+    let (century, rest) = two_digits(n, 1000000);
+    let (year, rest) = two_digits(rest, 10000);
+    let (month, day) = two_digits(rest, 100);
+    1 <= day && day <= days_in(century, year, month)
 }

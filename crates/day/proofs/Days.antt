@@ -5,10 +5,9 @@ use Prim.Native.Nat.{ℕ}
 use lib.ListN.{length}
 use borrow.Author.Tests.{eq-eqb, ne_eqb}
 use Rattle.words.specs.Words.{Row, Bytes}
-use Rattle.refusals.specs.Verdicts.{nowhere, bad_loan}
+use Rattle.refusals.specs.Verdicts.{nowhere, bad_loan, Verdict}
 use Rattle.refusals.specs.declared.Place.{Place}
-use Rattle.refusals.specs.declared.Verdict.{Verdict}
-use Rattle.refusals.specs.declared.Verdict.TheVariants.{Accepted, Refused}
+use Rattle.std.specs.Prelude.{Ok, Err}
 use Rattle.tables.specs.Parts.{book_rows}
 use Rattle.book.specs.Book.{empty}
 use Rattle.book.specs.Room.{laid}
@@ -35,8 +34,8 @@ module _ (n : ℕ) (d : Delivery) (s : Bytes) (xs work : List Row) where
     day_read =
         rw (eq-eqb (length work) 512 sized) (ap (λ (o : reading-is.Outcome). then_slip o.verdict s o.book work) (sym read))
 
-    pub day_slip : (o : Outcome) → v ≡ Accepted → o ≡ slip_call s ys work → o ≡ day_call n d s xs work
+    pub day_slip : (o : Outcome) → v ≡ Ok tt → o ≡ slip_call s ys work → o ≡ day_call n d s xs work
     day_slip o e f = f ∙ ap (λ (w : Verdict). then_slip w s ys work) (sym e) ∙ sym day_read
 
-    pub day_refused : (p : Place) (ws : List Row) → v ≡ Refused p → ws ≡ cleared work → outcome (Refused p) ys ws ≡ day_call n d s xs work
-    day_refused p ws e f = ap (outcome (Refused p) ys) f ∙ ap (λ (w : Verdict). then_slip w s ys work) (sym e) ∙ sym day_read
+    pub day_refused : (p : Place) (ws : List Row) → v ≡ Err p → ws ≡ cleared work → outcome (Err p) ys ws ≡ day_call n d s xs work
+    day_refused p ws e f = ap (outcome (Err p) ys) f ∙ ap (λ (w : Verdict). then_slip w s ys work) (sym e) ∙ sym day_read

@@ -1,9 +1,7 @@
 -- What the call for a day answers, and what everything lent to it holds behind the call.
-use Rattle.std.specs.Prelude.{◌≡◌, List, ℕ, eqb, length}
+use Rattle.std.specs.Prelude.{◌≡◌, List, ℕ, eqb, length, Ok, Err}
 use Rattle.words.specs.Words.{Row, whether◌then◌else◌, Bytes}
-use Rattle.refusals.specs.declared.Verdict.{Verdict}
-use Rattle.refusals.specs.declared.Verdict.TheVariants.{Accepted, Refused}
-use Rattle.refusals.specs.Verdicts.{nowhere, bad_loan}
+use Rattle.refusals.specs.Verdicts.{nowhere, bad_loan, Verdict}
 use Rattle.tables.specs.Parts.{book_rows}
 use Rattle.book.specs.Book.{empty}
 use Rattle.book.specs.Room.{laid}
@@ -19,8 +17,8 @@ emptied book = whether eqb (length book) book_rows then laid empty else book
 
 -- the slip is judged only on the book that an accepted delivery leaves
 abbrev pub then_slip : Verdict → Bytes → List Row → List Row → Outcome
-then_slip Accepted s book work = slip_call s book work
-then_slip (Refused p) s book work = outcome (Refused p) book (cleared work)
+then_slip (Ok _) s book work = slip_call s book work
+then_slip (Err p) s book work = outcome (Err p) book (cleared work)
 
 -- 16 for a book or a working area of another length, "before all else"; `n` is the edition's number
 abbrev pub day_call : ℕ → Delivery → Bytes → List Row → List Row → Outcome

@@ -6,7 +6,7 @@ ghost use Rattle.delivery.specs.Calls.{delivery};
 ghost use Rattle.slips.specs.Calls.{outcome};
 ghost use Rattle.day.specs.Calls.{emptied, DayPermits};
 
-use refusals::{Check, Place, Verdict};
+use refusals::{Fault, Place, Verdict};
 use rows::{ROWS, Row};
 use tables::BOOK_ROWS;
 
@@ -36,7 +36,7 @@ pub fn day(
 {
     if work.len() != ROWS {
         empty_book(book);
-        return Check::bad_loan().on(Place::NO_TABLE, Place::NO_LINE);
+        return Err(Fault::bad_loan().on(Place::NO_TABLE, Place::NO_LINE));
     }
     match delivery::read(
         edition,
@@ -48,10 +48,10 @@ pub fn day(
         day_type_calendar,
         book,
     ) {
-        Verdict::Accepted => slips::slip(slip, book, work),
-        Verdict::Refused(place) => {
+        Ok(()) => slips::slip(slip, book, work),
+        Err(place) => {
             rows::clear(work);
-            Verdict::Refused(place)
+            Err(place)
         }
     }
 }

@@ -11,7 +11,7 @@ use borrow.Author.Tests.{eqb-true, eqb-false, eq-eqb, ltb-true, ltb-false}
 use Rattle.words.specs.Words.{Row, whether◌then◌else◌}
 use Rattle.words.proofs.Lists.{drop_step, and_left}
 use Rattle.rows.specs.Rows.{column, key_order, rising}
-use Rattle.rows.specs.declared.Order.TheVariants.{Less, More}
+use Rattle.std.specs.declared.cmp.Ordering.TheVariants.{Less, Greater}
 use Rattle.rows.proofs.Keys.{step_eq, step_gt}
 use Rattle.rows.proofs.Rising.{rising_true, rising_at}
 use Rattle.book.specs.Room.{book_of}
@@ -53,7 +53,7 @@ later_kind blocks r i j l h e = go (ltb (get_or (get_or blocks j []) 1 0) (get_o
         let x = get_or blocks i [] in
         let y = get_or blocks j [] in
         let less : key_order 4 x y ≡ Less = rising_at 4 blocks (rising_true 4 blocks r) i j l h in
-        let more : key_order 4 x y ≡ More = step_eq 3 0 x y e ∙ step_gt 2 1 x y (ltb-true (get_or y 1 0) (get_or x 1 0) q) in
+        let more : key_order 4 x y ≡ Greater = step_eq 3 0 x y e ∙ step_gt 2 1 x y (ltb-true (get_or y 1 0) (get_or x 1 0) q) in
         let z : ◌≡◌ {A = ℕ} 0 1 = cc in
         absurd (omega arith)
     go false q = ltb-false (get_or (get_or blocks j []) 1 0) (get_or (get_or blocks i []) 1 0) q

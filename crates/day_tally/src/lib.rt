@@ -24,13 +24,7 @@ pub const SHARES: usize = 513;
 pub fn in_span(row: Row, version: u64, first: u64, last: u64) -> bool
     ensures { result ≡ in_span first last version row }
 {
-    if row[0] != version {
-        return false;
-    }
-    if row[1] < first {
-        return false;
-    }
-    row[1] <= last
+    row[0] == version && first <= row[1] && row[1] <= last
 }
 
 // Seconds of a day type more, where it is the last one or comes behind it.
@@ -68,11 +62,9 @@ pub fn tally_blocks(book: &[Row], version: u64, number: u64, tally: &mut [Share]
     let n = book::count_rows(book, Table::Block);
     tally[0] = [0, 0];
     let mut at = 0;
-    let mut i = 0;
-    'blocks: while i < n {
+    for i in 0..n {
         let row = book::row_at(book, Table::Block, i);
         at = add_block(tally, at, row, version, number);
-        i += 1;
     }
     at
 }

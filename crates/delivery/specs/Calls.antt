@@ -1,12 +1,9 @@
 -- What the read call answers, and what the lent book holds behind it.
-use Rattle.std.specs.Prelude.{◌≡◌, List, ℕ, eqb, length}
+use Rattle.std.specs.Prelude.{◌≡◌, List, ℕ, eqb, length, Option, Some, None, Ok, Err}
 use Rattle.words.specs.Words.{Row, whether◌then◌else◌, Bytes}
-use Rattle.refusals.specs.declared.Verdict.{Verdict}
-use Rattle.refusals.specs.declared.Verdict.TheVariants.{Accepted, Refused}
-use Rattle.refusals.specs.Verdicts.{nowhere, bad_loan, unknown_edition}
+use Rattle.refusals.specs.Verdicts.{nowhere, bad_loan, unknown_edition, Verdict}
 use Rattle.editions.specs.Editions.{choice}
-use Rattle.editions.specs.declared.Choice.{Choice}
-use Rattle.editions.specs.declared.Choice.TheVariants.{Chosen, Unknown}
+use Rattle.editions.specs.declared.Edition.{Edition}
 use Rattle.tables.specs.Parts.{book_rows}
 use Rattle.book.specs.Book.{empty}
 use Rattle.book.specs.Room.{laid}
@@ -23,13 +20,13 @@ outcome v slice = record { verdict = v; book = slice }
 
 -- "A refused reading leaves an empty book", and "2.1 after a refused reading"
 abbrev pub read_outcome : Result → Outcome
-read_outcome (refused p) = outcome (Refused p) (laid empty)
-read_outcome (leaves b) = outcome Accepted (laid b)
+read_outcome (refused p) = outcome (Err p) (laid empty)
+read_outcome (leaves b) = outcome (Ok tt) (laid b)
 
 -- "an unknown edition is 22", and the reading is refused
-abbrev pub read_by : Choice → Delivery → Outcome
-read_by (Chosen e) d = read_outcome (reading e d)
-read_by Unknown d = outcome (nowhere unknown_edition) (laid empty)
+abbrev pub read_by : Option Edition → Delivery → Outcome
+read_by (Some e) d = read_outcome (reading e d)
+read_by None d = outcome (nowhere unknown_edition) (laid empty)
 
 -- "Book and working area each have one fixed size; one lent at another length is 16, before all else: that one stays as it came"; 22 is "right
 -- after 16". The caller says the edition's number

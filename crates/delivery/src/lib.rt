@@ -12,8 +12,8 @@ ghost use Rattle.table_reading.specs.Reading.{table_read};
 ghost use Rattle.delivery.specs.Delivery.{reading};
 ghost use Rattle.delivery.specs.Calls.{delivery, outcome, read_outcome, ReadPermits};
 
-use editions::{Choice, Edition};
-use refusals::{Check, Place, Verdict};
+use editions::Edition;
+use refusals::{Fault, Place, Verdict};
 use rows::Row;
 use tables::{BOOK_ROWS, Table};
 
@@ -22,10 +22,8 @@ fn then_table(earlier: Verdict, bytes: &[u8], t: Table, book: &mut [Row]) -> Ver
     requires { Sound book.old × NamedIn (result_of earlier book.old) }
     ensures { Sound book.new × (result_of result book.new ≡ result_of earlier book.old ▹ table_read t bytes.now) × NamedIn (result_of result book.new) }
 {
-    match earlier {
-        Verdict::Refused(p) => Verdict::Refused(p),
-        Verdict::Accepted => table_reading::take_table(bytes, t, book),
-    }
+    earlier?;
+    table_reading::take_table(bytes, t, book)
 }
 
 // The tables in their order, on a book without rows, by its edition.
@@ -66,10 +64,10 @@ fn read_by(
     book::begin(book, edition);
     let verdict = take_tables(types, depots, stops, points, blocks, days, book);
     match verdict {
-        Verdict::Accepted => Verdict::Accepted,
-        Verdict::Refused(p) => {
+        Ok(()) => Ok(()),
+        Err(p) => {
             book::clear(book);
-            Verdict::Refused(p)
+            Err(p)
         }
     }
 }
@@ -88,11 +86,10 @@ pub fn read(
     ensures { ReadPermits edition (delivery vehicle_type.now depot.now stop.now stop_point.now vehicle_block.now day_type_calendar.now) book.old (outcome result book.new) }
 {
     if book.len() != BOOK_ROWS {
-        return Check::bad_loan().on(Place::NO_TABLE, Place::NO_LINE);
+        return Err(Fault::bad_loan().on(Place::NO_TABLE, Place::NO_LINE));
     }
-    let choice = Edition::numbered(edition);
-    match choice {
-        Choice::Chosen(e) => read_by(
+    match Edition::numbered(edition) {
+        Some(e) => read_by(
             e,
             vehicle_type,
             depot,
@@ -102,9 +99,9 @@ pub fn read(
             day_type_calendar,
             book,
         ),
-        Choice::Unknown => {
+        None => {
             book::clear(book);
-            Check::unknown_edition().on(Place::NO_TABLE, Place::NO_LINE)
+            Err(Fault::unknown_edition().on(Place::NO_TABLE, Place::NO_LINE))
         }
     }
 }

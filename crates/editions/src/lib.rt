@@ -5,17 +5,10 @@ ghost use Rattle.std.specs.Prelude.{◌≡◌};
 ghost use Rattle.editions.specs.Editions.{choice};
 
 // Whose tables they are: DINO 2.1 or 2.3, one for a whole delivery.
-#[derive(Clone, Copy)]
+#[derive(Clone, Copy, Debug, PartialEq, Eq)]
 pub enum Edition {
     Dino21,
     Dino23,
-}
-
-// What a number asks for: an edition, or none.
-#[derive(Clone, Copy)]
-pub enum Choice {
-    Chosen(Edition),
-    Unknown,
 }
 
 impl Edition {
@@ -24,14 +17,14 @@ impl Edition {
 
     pub const BY_23: u64 = 23;
 
-    // The constructor by number.
-    pub fn numbered(n: u64) -> Choice
+    // The edition that a number asks for, if it asks for one.
+    pub fn numbered(n: u64) -> Option<Edition>
         ensures { result ≡ choice n }
     {
         match n {
-            Edition::BY_21 => Choice::Chosen(Edition::Dino21),
-            Edition::BY_23 => Choice::Chosen(Edition::Dino23),
-            _ => Choice::Unknown,
+            Edition::BY_21 => Some(Edition::Dino21),
+            Edition::BY_23 => Some(Edition::Dino23),
+            _ => None,
         }
     }
 }

@@ -4,21 +4,16 @@
 
 use editions::Edition;
 use lines::MOST_BYTES;
-use refusals::Verdict;
+use phrases::{Dino, NO_EDITION, Refusal};
 use rows::{NO_ROW, ROWS};
 use std::io;
 use tables::BOOK_ROWS;
 
-fn tell(rt: &impl Eprint, words: &str) -> io::Result<()> {
-    rt.eprint(words)
-}
-
 // The edition goes to standard error, since standard output is the table and nothing else.
-fn tell_edition(rt: &impl Eprint, edition: u64) -> io::Result<()> {
-    match edition {
-        Edition::BY_21 => tell(rt, "evening: by DINO 2.1\n"),
-        Edition::BY_23 => tell(rt, "evening: by DINO 2.3\n"),
-        _ => tell(rt, "evening: this edition is not known: 2.1 or 2.3\n"),
+fn tell_edition(rt: &impl Eprint, number: u64) -> io::Result<()> {
+    match Edition::numbered(number) {
+        Some(edition) => eprintln!(rt; "evening: by {}", Dino(edition)),
+        None => eprintln!(rt; "evening: {NO_EDITION}"),
     }
 }
 
@@ -27,17 +22,13 @@ fn main(rt: HostRuntime) -> io::Result<()> {
     tell_edition(&rt, edition)?;
     let mut book = [NO_ROW; BOOK_ROWS];
     let mut work = [NO_ROW; ROWS];
-    let verdict = folder::day(&rt, edition, &mut book, &mut work);
-    // As much as a text may have: more than 512 blocks of full width take.
-    let mut out = [0u8; MOST_BYTES];
-    match verdict {
-        Verdict::Accepted => {
+    match folder::day(&rt, edition, &mut book, &mut work) {
+        Ok(()) => {
+            // As much as a text may have: more than 512 blocks of full width take.
+            let mut out = [0u8; MOST_BYTES];
             let written = writer::write(&book, &mut out);
             rt.write_all(files::text(&out, 0, written.size))
         }
-        Verdict::Refused(p) => {
-            let written = sheet::day_sheet(Verdict::Refused(p), &book, &mut out);
-            rt.write_all(files::text(&out, 0, written.size))
-        }
+        Err(p) => rt.println(Refusal(p)),
     }
 }

@@ -20,13 +20,10 @@ use Rattle.cells.specs.declared.State.{State}
 use Rattle.cells.specs.declared.State.TheVariants.{Fresh}
 use Rattle.editions.specs.declared.Edition.{Edition}
 use Rattle.tables.specs.declared.Table.{Table}
-use Rattle.tables.specs.Columns.{numbered}
-use Rattle.tables.specs.declared.Named.{Named}
-use Rattle.tables.specs.declared.Named.TheVariants.{Known, Unknown}
 use Rattle.header.specs.Header.{Header, place_from, header}
 use Rattle.header.proofs.Names.{header_length}
-use Rattle.fault_mark.specs.Marks.{past, over, resumed, size_from, begin_from, numbered_cell, marked_on, columns_named, second_place, cell_named, marked_of, marked_by, marked_in}
-use Rattle.fault_mark.specs.declared.Mark.TheVariants.{Cell, Nothing}
+use Rattle.fault_mark.specs.Marks.{past, over, resumed, size_from, begin_from, marked_on, columns_named, second_place, cell_named, marked_of}
+use Rattle.fault_mark.specs.declared.Mark.TheVariants.{Nothing}
 
 -- cells --------------------------------------------------------------------------------------------------------------------
 
@@ -106,18 +103,6 @@ size_within s (b ∷ bs) = go (over (past s (kind b))) (size_within (past s (kin
 pub cell_within : (line : Bytes) (n from to : ℕ) → from ≡ begin_from n Fresh line → to ≡ from + size_from Fresh (drop from line) → to ≤ length line
 cell_within line n from to e f = omega (arith, f, e, begin_within n Fresh line, size_within Fresh (drop from line), length-drop from line)
 
-pub cell_zero : (line : Bytes) (cell : ℕ) → cell ≡ 0 → take (0 - 0) (drop 0 line) ≡ numbered_cell cell line
-cell_zero line cell e = rw (eq-eqb cell 0 e)
-
-pub cell_part : (line : Bytes) (cell from to : ℕ) → (cell ≡ 0 → ⊥) → from ≡ begin_from (cell - 1) Fresh line → to ≡ from + size_from Fresh (drop from line)
-    → take (to - from) (drop from line) ≡ numbered_cell cell line
-cell_part line cell from to n e f = rw (ne_eqb cell 0 n, f, e)
-
--- the cell of a number
-pub marked_at : (line : Bytes) (start end cell from to : ℕ) → (cell ≡ 0 → ⊥) → from ≡ begin_from (cell - 1) Fresh line → to ≡ from + size_from Fresh (drop from line)
-    → Cell start end from to ≡ marked_on line start end cell
-marked_at line start end cell from to n e f = rw (ne_eqb cell 0 n, f, e)
-
 -- the cell that names a column -----------------------------------------------------------------------------------------------
 
 module _ (k i : ℕ) (h : Header) where
@@ -160,30 +145,6 @@ module _ (second : Bool) (k : ℕ) (named : Header) where
 
     pub first_found : second ≡ false → (r : ℕ) → r ≡ place_from 0 k (drop 0 h) → r ≡ (whether second then second_place k named else place_from 0 k named)
     first_found b r g = rw (b, e) g
-
-module _ (ed : Edition) (t : Table) (head : Bytes) (number k : ℕ) where
-  pub cell_none : k ≡ 0 → 0 ≡ cell_named ed t head number k
-  unfolding cell_named
-  cell_none e = rw (eq-eqb k 0 e)
-
-  module _ (some : k ≡ 0 → ⊥) where
-    pub cell_missing : number ≡ 2 → 0 ≡ cell_named ed t head number k
-    unfolding cell_named
-    cell_missing e = rw (ne_eqb k 0 some, eq-eqb number 2 e)
-
-    module _ (there : number ≡ 2 → ⊥) where
-      pub cell_twice : number ≡ 3 → (r w : ℕ) → r ≡ w → w ≡ second_place k (columns_named ed t head) → r ≡ cell_named ed t head number k
-      unfolding cell_named
-      cell_twice e r w f g = f ∙ g ∙ rw (ne_eqb k 0 some, ne_eqb number 2 there, eq-eqb number 3 e)
-
-      module _ (once : number ≡ 3 → ⊥) where
-        pub cell_quoted : number ≡ 6 → k ≡ cell_named ed t head number k
-        unfolding cell_named
-        cell_quoted e = rw (ne_eqb k 0 some, ne_eqb number 2 there, ne_eqb number 3 once, eq-eqb number 6 e)
-
-        pub cell_other : (number ≡ 6 → ⊥) → (r w : ℕ) → r ≡ w → w ≡ place_from 0 k (columns_named ed t head) → r ≡ cell_named ed t head number k
-        unfolding cell_named
-        cell_other e r w f g = f ∙ g ∙ rw (ne_eqb k 0 some, ne_eqb number 2 there, ne_eqb number 3 once, ne_eqb number 6 e)
 
 -- the line of a place --------------------------------------------------------------------------------------------------------
 
@@ -232,12 +193,3 @@ module _ (ed : Edition) (t : Table) (s : Bytes) (p : Place) where
           ∙ ap (λ (x : ℕ). marked_on row (line_start p.line s) x cell) n
           ∙ ap (λ (x : ℕ). marked_on row (line_start p.line s) (line_start p.line s + length row) x) g
           ∙ sym line_here_lem
-
-module _ (ed : Edition) (s : Bytes) (p : Place) (n : Named) (e : n ≡ numbered p.table) where
-  pub marked_known : (t : Table) → n ≡ Known t → marked_of ed t s p ≡ marked_in ed s p
-  unfolding marked_in
-  marked_known t g = ap (λ (z : Named). marked_by ed z s p) (sym g ∙ e)
-
-  pub marked_unknown : n ≡ Unknown → Nothing ≡ marked_in ed s p
-  unfolding marked_in
-  marked_unknown g = ap (λ (z : Named). marked_by ed z s p) (sym g ∙ e)

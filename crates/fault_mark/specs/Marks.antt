@@ -1,5 +1,5 @@
 -- Where a place of refusal stands in its table's text, for a person's eye: the line, and the cell on it.
-use Rattle.std.specs.Prelude.{Bool, true, false, ◌≡◌, [], ◌∷◌, ℕ, suc, zero, ◌-◌, ◌+◌, drop, take, length, eqb, ltb}
+use Rattle.std.specs.Prelude.{Bool, true, false, ◌≡◌, [], ◌∷◌, ℕ, suc, zero, ◌-◌, ◌+◌, drop, take, length, eqb, ltb, Option, Some, None}
 use Rattle.words.specs.Words.{Bytes, whether◌then◌else◌}
 use Rattle.refusals.specs.declared.Place.{Place}
 use Rattle.lines.specs.Lines.{lines, head_line, starts_on, row_on, line_start}
@@ -9,8 +9,6 @@ use Rattle.cells.specs.Cells.{next, kind, cut, cells_of}
 use Rattle.cells.specs.declared.Kind.{Kind}
 use Rattle.editions.specs.declared.Edition.{Edition}
 use Rattle.tables.specs.declared.Table.{Table}
-use Rattle.tables.specs.declared.Named.{Named}
-use Rattle.tables.specs.declared.Named.TheVariants.{Known, Unknown}
 use Rattle.tables.specs.Columns.{numbered}
 use Rattle.header.specs.Header.{Header, header, place_from, most_cells}
 use Rattle.fault_mark.specs.declared.Mark.{Mark}
@@ -115,9 +113,9 @@ marked_of e t s p =
     then marked_on line (line_start p.line s) (line_start p.line s + length line) (cell_named e t (head_line (lines e s)) p.number p.column)
     else Nothing
 
-abbrev pub marked_by : Edition → Named → Bytes → Place → Mark
-marked_by e (Known t) s p = marked_of e t s p
-marked_by e Unknown s p = Nothing
+abbrev pub marked_by : Edition → Option Table → Bytes → Place → Mark
+marked_by e (Some t) s p = marked_of e t s p
+marked_by e None s p = Nothing
 
 -- what is marked of a table's text, by its edition, for a place in it
 unfoldable pub marked_in : Edition → Bytes → Place → Mark

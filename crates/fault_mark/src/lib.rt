@@ -9,11 +9,11 @@ ghost use Rattle.cells.specs.Numbered.{MarksOf};
 ghost use Rattle.header.specs.Header.{header, place_from};
 ghost use Rattle.fault_mark.specs.Marks.{past, over, resumed, size_from, begin_from, columns_named, second_place, cell_named, marked_on, marked_of, MarkPermits, NumberedPermits};
 
-use cells::{Answer, Kind, State};
+use cells::{Kind, State};
 use editions::Edition;
 use header::{BOUNDS, MOST_CELLS};
 use refusals::Place;
-use tables::{Named, Table};
+use tables::Table;
 
 // What is marked of a text: nothing, or a line from start to end, by 2.3 with the breaks in it, or such a line and a cell on it, which begins and
 // ends so many bytes behind the line's start.
@@ -35,84 +35,38 @@ pub enum Mark {
 fn kind_of(byte: u8) -> Kind
     ensures { result ≡ kind byte }
 {
-    if byte == b'"' {
-        return Kind::Quote;
+    match byte {
+        b'"' => Kind::Quote,
+        b';' => Kind::Semicolon,
+        0..=31 | 127 => Kind::Control,
+        _ => Kind::Other,
     }
-    if byte == b';' {
-        return Kind::Semicolon;
-    }
-    if byte < 32 {
-        return Kind::Control;
-    }
-    if byte == 127 {
-        return Kind::Control;
-    }
-    Kind::Other
 }
 
 // What a byte makes of a cell, which stays as it was where that byte is a fault.
 fn past_byte(s: State, k: Kind) -> State
     ensures { result ≡ past s k }
 {
-    match s {
-        State::Fresh => match k {
-            Kind::Quote => State::Inside,
-            Kind::Semicolon => State::Over,
-            Kind::Control => State::Plain,
-            Kind::Other => State::Plain,
-            Kind::End => State::Over,
-        },
-        State::Plain => match k {
-            Kind::Quote => State::Plain,
-            Kind::Semicolon => State::Over,
-            Kind::Control => State::Plain,
-            Kind::Other => State::Plain,
-            Kind::End => State::Over,
-        },
-        State::Inside => match k {
-            Kind::Quote => State::Closed,
-            Kind::Semicolon => State::Inside,
-            Kind::Control => State::Inside,
-            Kind::Other => State::Inside,
-            Kind::End => State::Inside,
-        },
-        State::Closed => match k {
-            Kind::Quote => State::Inside,
-            Kind::Semicolon => State::Over,
-            Kind::Control => State::Closed,
-            Kind::Other => State::Closed,
-            Kind::End => State::Over,
-        },
-        State::Over => State::Over,
-        State::Fault => State::Fault,
+    match (s, k) {
+        (State::Fresh | State::Closed, Kind::Quote) => State::Inside,
+        (State::Inside, Kind::Quote) => State::Closed,
+        (State::Fresh | State::Plain | State::Closed, Kind::Semicolon | Kind::End) => State::Over,
+        (State::Fresh, _) => State::Plain,
+        _ => s,
     }
 }
 
 fn is_over(s: State) -> bool
     ensures { result ≡ over s }
 {
-    match s {
-        State::Fresh => false,
-        State::Plain => false,
-        State::Inside => false,
-        State::Closed => false,
-        State::Over => true,
-        State::Fault => false,
-    }
+    s == State::Over
 }
 
 // Where a cell is over the next one begins.
 fn resume(s: State) -> State
     ensures { result ≡ resumed s }
 {
-    match s {
-        State::Fresh => State::Fresh,
-        State::Plain => State::Plain,
-        State::Inside => State::Inside,
-        State::Closed => State::Closed,
-        State::Over => State::Fresh,
-        State::Fault => State::Fault,
-    }
+    if is_over(s) { State::Fresh } else { s }
 }
 
 // Where the cell that begins at a place ends.
@@ -120,23 +74,20 @@ fn cell_end(line: &[u8], from: usize) -> usize
     ensures { result ≡ from + size_from Fresh (drop from line.now) }
 {
     let mut state = State::Fresh;
-    let mut i = from;
-    'bytes: while i < line.len() {
-        let next = past_byte(state, kind_of(line[i]));
-        if is_over(next) {
+    for i in from..line.len() {
+        state = past_byte(state, kind_of(line[i]));
+        if is_over(state) {
             return i;
         }
-        state = next;
-        i += 1;
     }
-    i
+    from.max(line.len())
 }
 
 fn fewer(left: u64, passed: bool) -> u64
     requires { 1 ≤ left }
     ensures { result ≡ (whether passed then left - 1 else left) }
 {
-    if passed { left - 1 } else { left }
+    left - u64::from(passed)
 }
 
 // Where the cell begins that comes behind so many others; the line's end where there are fewer.
@@ -145,17 +96,15 @@ fn cell_begin(line: &[u8], others: u64) -> usize
 {
     let mut state = State::Fresh;
     let mut left = others;
-    let mut i = 0;
-    'bytes: while i < line.len() {
+    for (i, byte) in line.iter().enumerate() {
         if left == 0 {
             return i;
         }
-        let next = past_byte(state, kind_of(line[i]));
+        let next = past_byte(state, kind_of(*byte));
         left = fewer(left, is_over(next));
         state = resume(next);
-        i += 1;
     }
-    i
+    line.len()
 }
 
 // The first cell of a header, behind some, that names a column, counted from 1; 0 where there is none.
@@ -171,8 +120,7 @@ fn named_behind(
     requires { MarksOf edition head.now bounds.now cells }
     ensures { result ≡ place_from behind column (drop behind (header edition t (cells_of (cut edition head.now)))) }
 {
-    let mut i = behind;
-    'names: while i < cells {
+    for i in behind..cells {
         let named = column_names::column_of(
             edition,
             t,
@@ -181,7 +129,6 @@ fn named_behind(
         if header::wide(named) == column {
             return i + 1;
         }
-        i += 1;
     }
     0
 }
@@ -191,10 +138,9 @@ fn named_cell(edition: Edition, head: &[u8], t: Table, column: u64, second: bool
     ensures { result ≡ (whether second then second_place column (columns_named edition t head.now) else place_from 0 column (columns_named edition t head.now)) }
 {
     let mut bounds = [0usize; BOUNDS];
-    let answer = cells::cells_of(edition, head, &mut bounds);
-    match answer {
-        Answer::Bad(_) => 0,
-        Answer::Good(cells) => {
+    match cells::cells_of(edition, head, &mut bounds) {
+        Err(_) => 0,
+        Ok(cells) => {
             if MOST_CELLS < cells {
                 return 0;
             }
@@ -208,22 +154,19 @@ fn named_cell(edition: Edition, head: &[u8], t: Table, column: u64, second: bool
 }
 
 // The cell that a fault is of, counted from 1; 0 where it is of none.
+#[tactic(auto, unfolding(crate::specs::Marks::cell_named))]
 fn faulty_cell(edition: Edition, head: &[u8], t: Table, number: u64, column: u64) -> u64
     ensures { result ≡ cell_named edition t head.now number column }
 {
     if column == 0 {
         return 0;
     }
-    if number == Place::COLUMN_MISSING {
-        return 0;
+    match number {
+        Place::COLUMN_MISSING => 0,
+        Place::COLUMN_TWICE => header::wide(named_cell(edition, head, t, column, true)),
+        Place::QUOTE_FAULT => column,
+        _ => header::wide(named_cell(edition, head, t, column, false)),
     }
-    if number == Place::COLUMN_TWICE {
-        return header::wide(named_cell(edition, head, t, column, true));
-    }
-    if number == Place::QUOTE_FAULT {
-        return column;
-    }
-    header::wide(named_cell(edition, head, t, column, false))
 }
 
 // The cell of that number on a line, counted from 1; an empty part of it where there is none.
@@ -273,12 +216,12 @@ fn marked_line(edition: Edition, text: &[u8], t: Table, place: Place) -> Mark
 }
 
 // What is marked of a table's text, by its edition, for a place in it.
+#[tactic(auto, unfolding(crate::specs::Marks::marked_in))]
 pub fn marked(edition: Edition, text: &[u8], place: Place) -> Mark
     ensures { MarkPermits edition text.now place result }
 {
-    let named = Table::numbered(place.table);
-    match named {
-        Named::Known(t) => marked_line(edition, text, t, place),
-        Named::Unknown => Mark::Nothing,
+    match Table::numbered(place.table) {
+        Some(t) => marked_line(edition, text, t, place),
+        None => Mark::Nothing,
     }
 }

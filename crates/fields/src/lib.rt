@@ -23,10 +23,7 @@ pub const BOUNDS: usize = MOST_FIELDS + 1;
 fn field_ends(line: &[u8], i: usize) -> bool
     ensures { result ≡ (whether ltb i (length line.now) then eqb (get_or line.now i 0) 9 else true) }
 {
-    if i < line.len() {
-        return line[i] == 9;
-    }
-    true
+    matches!(line.get(i), None | Some(b'\t'))
 }
 
 // The fields of a slip line, in one pass.
@@ -34,18 +31,12 @@ pub fn fields_of(line: &[u8]) -> Fields
     ensures { (result.count ≡ length (fields line.now)) × BoundsOf (fields line.now) field_bounds result.bounds }
 {
     let mut bounds = [0usize; BOUNDS];
-    let mut n: usize = 0;
-    let mut i: usize = 0;
-    'fields: loop {
+    let mut count = 0;
+    for i in 0..=line.len() {
         if field_ends(line, i) {
-            n += 1;
-            cells::note(&mut bounds, n, i + 1);
-            if i == line.len() {
-                return Fields { count: n, bounds };
-            }
-            i += 1;
-        } else {
-            i += 1;
+            count += 1;
+            cells::note(&mut bounds, count, i + 1);
         }
     }
+    Fields { count, bounds }
 }

@@ -1,12 +1,10 @@
 -- The texts of a folder in one lent room.
 -- Inner: no promise and no contract of a public function speaks of it.
-use Rattle.std.specs.Prelude.{◌≡◌, List, ℕ, suc, ◌≤◌, length, take, drop}
+use Rattle.std.specs.Prelude.{List, ℕ, suc, ◌≤◌, length, take, drop}
 use Rattle.lines.specs.Lines.{most_bytes}
-use Rattle.files.specs.declared.Lengths.{Lengths}
-
--- so many bytes at the head of a buffer: no more than it has
-abbrev pub Counts : ℕ → List ℕ → Type 0
-Counts n buffer = (n ≤ length buffer) × (n ≡ length (take n buffer))
+use Rattle.tables.specs.declared.Table.{Table}
+use Rattle.tables.specs.declared.Table.TheVariants.{VehicleType, Depot, Stop, StopPoint, Block, Calendar}
+use Rattle.files.specs.declared.Delivery.{Delivery}
 
 -- so many bytes from a place on; as many as there are where there are fewer
 abbrev pub text_at : ℕ → ℕ → List ℕ → List ℕ
@@ -16,11 +14,20 @@ text_at from size room = take size (drop from room)
 abbrev pub text_room : ℕ
 text_room = suc most_bytes
 
+-- the text of a table
+abbrev pub text_of : Delivery → Table → List ℕ
+text_of d VehicleType = d.types.now
+text_of d Depot = d.depots.now
+text_of d Stop = d.stops.now
+text_of d StopPoint = d.points.now
+text_of d Block = d.blocks.now
+text_of d Calendar = d.days.now
+
 -- no text is longer than its room
-pub record Roomy (n : Lengths) : Type 0 where
-  pub types : n.types ≤ text_room
-  pub depots : n.depots ≤ text_room
-  pub stops : n.stops ≤ text_room
-  pub points : n.points ≤ text_room
-  pub blocks : n.blocks ≤ text_room
-  pub days : n.days ≤ text_room
+pub record Roomy (d : Delivery) : Type 0 where
+  pub types : length d.types.now ≤ text_room
+  pub depots : length d.depots.now ≤ text_room
+  pub stops : length d.stops.now ≤ text_room
+  pub points : length d.points.now ≤ text_room
+  pub blocks : length d.blocks.now ≤ text_room
+  pub days : length d.days.now ≤ text_room

@@ -1,47 +1,50 @@
 // The files of the working folder, loaded into one room that the caller lends.
 #![tactic(auto)]
 
-ghost use Rattle.std.specs.Prelude.{◌≡◌, ◌≤◌};
-ghost use Rattle.files.specs.Texts.{Counts, Roomy, text_at, text_room};
+ghost use Rattle.std.specs.Prelude.{◌≡◌, ◌≤◌, length};
+ghost use Rattle.files.specs.Texts.{Roomy, text_at, text_of, text_room};
 
 use std::fs::File;
 use std::io::{Cursor, ErrorKind, Read, Write};
 use std::rt::Files;
 use std::{io, str};
+use tables::Table;
 
-// How many bytes each text of a delivery has, TEXT_ROOM where the file has more.
+// The texts of a delivery's tables.
 #[derive(Clone, Copy)]
-pub struct Lengths {
-    pub types: usize,
-    pub depots: usize,
-    pub stops: usize,
-    pub points: usize,
-    pub blocks: usize,
-    pub days: usize,
+pub struct Delivery<'a> {
+    pub types: &'a [u8],
+    pub depots: &'a [u8],
+    pub stops: &'a [u8],
+    pub points: &'a [u8],
+    pub blocks: &'a [u8],
+    pub days: &'a [u8],
 }
 
 // Room for a text: one byte more than it may have, so that one that is too long is told.
 pub const TEXT_ROOM: usize = lines::MOST_BYTES + 1;
 
-// Where each text of a folder begins in the room, and how much room they need together.
-pub const VEHICLE_TYPE: usize = 0;
-
-pub const DEPOT: usize = TEXT_ROOM;
-
-pub const STOP: usize = 2 * TEXT_ROOM;
-
-pub const STOP_POINT: usize = 3 * TEXT_ROOM;
-
-pub const VEHICLE_BLOCK: usize = 4 * TEXT_ROOM;
-
-pub const DAY_TYPE_CALENDAR: usize = 5 * TEXT_ROOM;
-
-pub const SLIP: usize = 6 * TEXT_ROOM;
-
-pub const ROOM: usize = 7 * TEXT_ROOM;
+// Room for the six texts of a delivery.
+pub const ROOM: usize = 6 * TEXT_ROOM;
 
 // Room for the words that say why a file cannot be opened.
 const REASON_ROOM: usize = 512;
+
+impl<'a> Delivery<'a> {
+    // The text of a table.
+    pub fn text(&self, t: Table) -> &'a [u8]
+        ensures { result.now ≡ text_of self.now t }
+    {
+        match t {
+            Table::VehicleType => self.types,
+            Table::Depot => self.depots,
+            Table::Stop => self.stops,
+            Table::StopPoint => self.points,
+            Table::Block => self.blocks,
+            Table::Calendar => self.days,
+        }
+    }
+}
 
 // A path is text.
 fn open<R: Files>(rt: &R, path: &[u8]) -> io::Result<R::File> {
@@ -52,8 +55,8 @@ fn open<R: Files>(rt: &R, path: &[u8]) -> io::Result<R::File> {
 }
 
 // What an open file holds, at the head of the buffer: as much as the buffer takes. One that cannot be read counts as empty.
-fn take(file: &mut impl Read, buffer: &mut [u8]) -> usize
-    ensures { Counts result buffer.new }
+fn take<'a>(file: &mut impl Read, buffer: &'a mut [u8]) -> &'a [u8]
+    ensures { length result.now ≤ length buffer.old }
 {
     let mut done = 0;
     'parts: while done < buffer.len() {
@@ -62,16 +65,16 @@ fn take(file: &mut impl Read, buffer: &mut [u8]) -> usize
             Ok(n) => done += n,
         }
     }
-    done
+    &buffer[..done]
 }
 
 // What a file holds; one that cannot be opened counts as empty.
-pub fn load(rt: &impl Files, path: &[u8], buffer: &mut [u8]) -> usize
-    ensures { Counts result buffer.new }
+pub fn load<'a>(rt: &impl Files, path: &[u8], buffer: &'a mut [u8]) -> &'a [u8]
+    ensures { length result.now ≤ length buffer.old }
 {
     match open(rt, path) {
         Ok(mut file) => take(&mut file, buffer),
-        Err(_) => 0,
+        Err(_) => &[],
     }
 }
 
@@ -88,52 +91,49 @@ fn tell(rt: &impl Eprint, path: &[u8], error: &io::Error) -> io::Result<()> {
 }
 
 // The same, and one that cannot be opened is told on standard error.
-pub fn load_or_tell(rt: &(impl Files + Eprint), path: &[u8], buffer: &mut [u8]) -> usize
-    ensures { Counts result buffer.new }
+pub fn load_or_tell<'a>(rt: &(impl Files + Eprint), path: &[u8], buffer: &'a mut [u8]) -> &'a [u8]
+    ensures { length result.now ≤ length buffer.old }
 {
     match open(rt, path) {
         Ok(mut file) => take(&mut file, buffer),
         Err(error) => {
             let _ = tell(rt, path, &error);
-            0
+            &[]
         }
     }
 }
 
-// A file at its place in the room.
-fn load_at(
+// A file in the next part of the room, if there is one, and the room behind it.
+fn load_next<'a>(
     rt: &(impl Files + Eprint),
     path: &[u8],
-    room: &mut [u8],
-    from: usize,
+    room: &'a mut [u8],
     tell: bool,
-) -> usize
-    ensures { result ≤ text_room }
+) -> (&'a [u8], &'a mut [u8])
+    ensures { length result.0.now ≤ text_room }
 {
-    if SLIP < from {
-        return 0;
+    if room.len() < TEXT_ROOM {
+        return (&[], room);
     }
-    if room.len() < ROOM {
-        return 0;
-    }
-    let to = from + TEXT_ROOM;
+    let (part, behind) = room.split_at_mut(TEXT_ROOM);
     if tell {
-        return load_or_tell(rt, path, &mut room[from..to]);
+        (load_or_tell(rt, path, part), behind)
+    } else {
+        (load(rt, path, part), behind)
     }
-    load(rt, path, &mut room[from..to])
 }
 
 // The six tables of a delivery; a file that cannot be opened counts as empty, and is told on standard error where this is asked for.
-pub fn load_delivery(rt: &(impl Files + Eprint), room: &mut [u8], tell: bool) -> Lengths
+pub fn load_delivery<'a>(rt: &(impl Files + Eprint), room: &'a mut [u8], tell: bool) -> Delivery<'a>
     ensures { Roomy result }
 {
-    let types = load_at(rt, b"vehicle_type.din", room, VEHICLE_TYPE, tell);
-    let depots = load_at(rt, b"depot.din", room, DEPOT, tell);
-    let stops = load_at(rt, b"stop.din", room, STOP, tell);
-    let points = load_at(rt, b"stop_point.din", room, STOP_POINT, tell);
-    let blocks = load_at(rt, b"vehicle_block.din", room, VEHICLE_BLOCK, tell);
-    let days = load_at(rt, b"day_type_calendar.din", room, DAY_TYPE_CALENDAR, tell);
-    Lengths {
+    let (types, room) = load_next(rt, b"vehicle_type.din", room, tell);
+    let (depots, room) = load_next(rt, b"depot.din", room, tell);
+    let (stops, room) = load_next(rt, b"stop.din", room, tell);
+    let (points, room) = load_next(rt, b"stop_point.din", room, tell);
+    let (blocks, room) = load_next(rt, b"vehicle_block.din", room, tell);
+    let (days, _) = load_next(rt, b"day_type_calendar.din", room, tell);
+    Delivery {
         types,
         depots,
         stops,
@@ -144,22 +144,17 @@ pub fn load_delivery(rt: &(impl Files + Eprint), room: &mut [u8], tell: bool) ->
 }
 
 // The day's slip.
-pub fn load_slip(rt: &(impl Files + Eprint), room: &mut [u8]) -> usize
-    ensures { result ≤ text_room }
+pub fn load_slip<'a>(rt: &(impl Files + Eprint), room: &'a mut [u8]) -> &'a [u8]
+    ensures { length result.now ≤ text_room }
 {
-    load_at(rt, b"slip.txt", room, SLIP, false)
+    let (slip, _) = load_next(rt, b"slip.txt", room, false);
+    slip
 }
 
 // So many bytes of the room from a place on.
 pub fn text(room: &[u8], from: usize, size: usize) -> &[u8]
     ensures { result.now ≡ text_at from size room.now }
 {
-    if room.len() <= from {
-        return &room[0..0];
-    }
-    if room.len() - from <= size {
-        return &room[from..];
-    }
-    let to = from + size;
-    &room[from..to]
+    let behind = room.get(from..).unwrap_or(&[]);
+    behind.get(..size).unwrap_or(behind)
 }

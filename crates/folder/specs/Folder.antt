@@ -2,7 +2,7 @@
 -- Inner: no promise and no contract of a public function speaks of it.
 use Rattle.std.specs.Prelude.{◌≡◌, List, ℕ}
 use Rattle.words.specs.Words.{Bytes, Row}
-use Rattle.refusals.specs.declared.Verdict.{Verdict}
+use Rattle.refusals.specs.Verdicts.{Verdict}
 use Rattle.delivery.specs.Delivery.{Delivery}
 use Rattle.slips.specs.Calls.{outcome}
 use Rattle.day.specs.Calls.{day_call}

@@ -3,6 +3,7 @@
 
 ghost use Rattle.folder.specs.Folder.{DayOfTexts};
 
+use files::{ROOM, TEXT_ROOM};
 use refusals::Verdict;
 use rows::Row;
 use std::rt::Files;
@@ -11,18 +12,19 @@ use std::rt::Files;
 pub fn day(rt: &(impl Files + Eprint), edition: u64, book: &mut [Row], work: &mut [Row]) -> Verdict
     ensures { DayOfTexts edition result book.old book.new work.old work.new }
 {
-    let mut room = [0u8; files::ROOM];
-    let n = files::load_delivery(rt, &mut room, false);
-    let slip = files::load_slip(rt, &mut room);
+    let mut room = [0u8; ROOM];
+    let mut slip_room = [0u8; TEXT_ROOM];
+    let texts = files::load_delivery(rt, &mut room, false);
+    let slip = files::load_slip(rt, &mut slip_room);
     day::day(
         edition,
-        files::text(&room, files::VEHICLE_TYPE, n.types),
-        files::text(&room, files::DEPOT, n.depots),
-        files::text(&room, files::STOP, n.stops),
-        files::text(&room, files::STOP_POINT, n.points),
-        files::text(&room, files::VEHICLE_BLOCK, n.blocks),
-        files::text(&room, files::DAY_TYPE_CALENDAR, n.days),
-        files::text(&room, files::SLIP, slip),
+        texts.types,
+        texts.depots,
+        texts.stops,
+        texts.points,
+        texts.blocks,
+        texts.days,
+        slip,
         book,
         work,
     )

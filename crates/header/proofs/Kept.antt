@@ -5,10 +5,8 @@ use native.Mathlib.Omega.{arith}
 use lib.ListN.{length, take, drop}
 use borrow.Author.Tests.{lt-ltb, le-ltb}
 use Rattle.words.specs.Words.{Bytes}
-use Rattle.refusals.specs.declared.Check.{Check}
-use Rattle.refusals.specs.declared.Check.TheVariants.{Passes, Fails}
-use Rattle.refusals.specs.Verdicts.{placed, text_too_long}
-use Rattle.refusals.specs.declared.Verdict.{Verdict}
+use Rattle.std.specs.Prelude.{Ok, Err}
+use Rattle.refusals.specs.Verdicts.{placed, text_too_long, Check, Verdict}
 use Rattle.refusals.proofs.Placing.{placed_passes}
 use Rattle.lines.specs.Lines.{lines, head_line, line_after, line_start, most_bytes}
 use Rattle.lines.specs.Ends.{line_room, line_at}
@@ -28,8 +26,8 @@ use Rattle.header.specs.declared.Top.{Top}
 use Rattle.header.proofs.Names as names
 
 headed_check : (c : Check) (h : Header) → (headed c h).check ≡ c
-headed_check Passes h = refl
-headed_check (Fails n k) h = refl
+headed_check (Ok _) h = refl
+headed_check (Err f) h = refl
 
 -- the top of a text ---------------------------------------------------------------------------------------------------------------
 
@@ -48,7 +46,7 @@ module _ (ed : Edition) (t : Table) (s : Bytes) where
     heading_check : g.check ≡ header_check ed t (head_line (lines ed s))
     heading_check = ap (λ (x : Heading). x.check) heading_is ∙ headed_check (header_check ed t (head_line (lines ed s))) (header_of ed t s)
 
-    kept_top : (v : Verdict) (first : ℕ) → first ≡ line_after ed 1 (take (r.end - 0) (drop 0 s)) → header_check ed t (head_line (lines ed s)) ≡ Passes → TopKept ed t s (record { verdict = v; at = g.at; next = r.next; line = first })
+    kept_top : (v : Verdict) (first : ℕ) → first ≡ line_after ed 1 (take (r.end - 0) (drop 0 s)) → header_check ed t (head_line (lines ed s)) ≡ Ok tt → TopKept ed t s (record { verdict = v; at = g.at; next = r.next; line = first })
     kept_top v first l p =
         let spots : g.at ≡ places (header_of ed t s) = ap (λ (x : Heading). x.at) heading_is ∙ names.heading_kept ed t (head_line (lines ed s)) p in
         let many : length (header_of ed t s) ≤ most_cells = omega (arith, names.header_length ed t (cells_of (cut ed (head_line (lines ed s)))), names.header_few ed t (head_line (lines ed s)) p) in

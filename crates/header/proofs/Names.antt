@@ -11,9 +11,8 @@ use lib.Seq.{take-suc, length-take-le, take_all}
 use borrow.Author.Tests.{ne_eqb, eq-eqb, eqb-false, not-true, lt-ltb, le-ltb, ltb-true, ltb-false}
 use Rattle.words.specs.Words.{whether◌then◌else◌, Bytes}
 use Rattle.words.proofs.Lists.{drop_step, and_left}
-use Rattle.refusals.specs.Verdicts.{column_missing, column_twice, too_many_cells}
-use Rattle.refusals.specs.declared.Check.{Check}
-use Rattle.refusals.specs.declared.Check.TheVariants.{Passes, Fails}
+use Rattle.refusals.specs.Verdicts.{column_missing, column_twice, too_many_cells, Check, fault}
+use Rattle.std.specs.Prelude.{Ok, Err}
 use Rattle.cells.specs.Cells.{content, stretch, cut, cells_of}
 use Rattle.cells.specs.Numbered.{cell_numbered}
 use Rattle.editions.specs.declared.Edition.{Edition}
@@ -22,8 +21,7 @@ use Rattle.tables.specs.declared.Table.{Table}
 use Rattle.tables.proofs.Figures.{columns_few}
 use Rattle.tables.proofs.Names.{column_number_most}
 use Rattle.header.specs.Header.{member, Header, repeated, place_from, missing_from, missing, header, line_check, most_cells, header_check}
-use Rattle.header.specs.Heading.{places_from, most_columns, header_places, places, names_check, headed, heading}
-use Rattle.header.specs.declared.Heading.{Heading}
+use Rattle.header.specs.Heading.{places_from, most_columns, header_places, places, names_check, heading}
 use Rattle.header.proofs.Quoting.{number_of_content}
 
 -- a column among those to the left --------------------------------------------------------------------------------------------
@@ -202,9 +200,6 @@ module _ (ed : Edition) (t : Table) (h : Header) where
     pub names_missing : (m : ℕ) → missing ed t h ≡ m → (m ≡ 0 → ⊥) → names_check ed t h ≡ column_missing m
     names_missing m g p = rw (e, g, lt-ltb 0 m (positive m p))
 
-    pub names_pass : missing ed t h ≡ 0 → names_check ed t h ≡ Passes
-    names_pass g = rw (e, g)
-
 pub header_length : (ed : Edition) (t : Table) (cs : List Bytes) → length (header ed t cs) ≡ length cs
 header_length ed t cs = length-map cs (λ c. column_number ed t (content c))
 
@@ -224,16 +219,12 @@ name_read ed t cs i cell s x l c e f =
 pub name_few : (ed : Edition) (t : Table) (s : Bytes) (x : ℕ) → x ≡ column_number ed t s → x < header_places
 name_few ed t s x e = omega (arith, column_number_most ed t s, columns_few ed t)
 
--- a header that passes is kept
-pub names_kept : (ed : Edition) (t : Table) (h : Header) (at : List ℕ) → repeated [] h ≡ 0 → missing ed t h ≡ 0 → at ≡ places h → ◌≡◌ {A = Heading} (record { check = Passes; at = at }) (headed (names_check ed t h) h)
-names_kept ed t h at e g p = rw (names_pass ed t h e g, p)
-
 module _ (ed : Edition) (t : Table) (line : Bytes) where
-  pub header_refused : (n k : ℕ) → line_check ed line ≡ Fails n k → header_check ed t line ≡ Fails n k
+  pub header_refused : (n k : ℕ) → line_check ed line ≡ Err (fault n k) → header_check ed t line ≡ Err (fault n k)
   unfolding header_check
   header_refused n k e = rw e
 
-  module _ (e : line_check ed line ≡ Passes) where
+  module _ (e : line_check ed line ≡ Ok tt) where
     pub header_wide : most_cells < length (cells_of (cut ed line)) → header_check ed t line ≡ too_many_cells
     unfolding header_check
     header_wide l = rw (e, header_length ed t (cells_of (cut ed line)), lt-ltb most_cells (length (cells_of (cut ed line))) l)
@@ -243,17 +234,17 @@ module _ (ed : Edition) (t : Table) (line : Bytes) where
     header_names l = rw (e, header_length ed t (cells_of (cut ed line)), le-ltb most_cells (length (cells_of (cut ed line))) l)
 
   -- a header that passes has at most `most_cells`
-  pub header_few : header_check ed t line ≡ Passes → length (cells_of (cut ed line)) ≤ most_cells
+  pub header_few : header_check ed t line ≡ Ok tt → length (cells_of (cut ed line)) ≤ most_cells
   header_few p = go (line_check ed line) refl (ltb most_cells (length (cells_of (cut ed line)))) refl
     where
-      never : header_check ed t line ≡ Passes → (n k : ℕ) → header_check ed t line ≡ Fails n k → length (cells_of (cut ed line)) ≤ most_cells
+      never : header_check ed t line ≡ Ok tt → (n k : ℕ) → header_check ed t line ≡ Err (fault n k) → length (cells_of (cut ed line)) ≤ most_cells
       never q n k f = let z : ◌≡◌ {A = ℕ} 0 1 = cc in absurd (let y : ⊥ = omega arith in y)
 
       go : (c : Check) → line_check ed line ≡ c → (b : Bool) → ltb most_cells (length (cells_of (cut ed line))) ≡ b → length (cells_of (cut ed line)) ≤ most_cells
-      go (Fails n k) e b q = never p n k (header_refused n k e)
-      go Passes e false q = ltb-false most_cells (length (cells_of (cut ed line))) q
-      go Passes e true q = never p 4 0 (header_wide e (ltb-true most_cells (length (cells_of (cut ed line))) q))
+      go (Err f) e b q = never p f.number f.column (header_refused f.number f.column e)
+      go (Ok _) e false q = ltb-false most_cells (length (cells_of (cut ed line))) q
+      go (Ok _) e true q = never p 4 0 (header_wide e (ltb-true most_cells (length (cells_of (cut ed line))) q))
 
 -- what is kept of a header that passes
-pub heading_kept : (ed : Edition) (t : Table) (line : Bytes) → header_check ed t line ≡ Passes → (heading ed t line).at ≡ places (header ed t (cells_of (cut ed line)))
+pub heading_kept : (ed : Edition) (t : Table) (line : Bytes) → header_check ed t line ≡ Ok tt → (heading ed t line).at ≡ places (header ed t (cells_of (cut ed line)))
 heading_kept ed t line p = rw p

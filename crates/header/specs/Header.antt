@@ -1,9 +1,7 @@
 -- The header, and the cell that stands under a column.
 use Rattle.std.specs.Prelude.{List, map, [], ◌∷◌, Bool, false, ◌||◌, ◌&&◌, not, ℕ, suc, ◌+◌, eqb, ltb, length}
 use Rattle.words.specs.Words.{Bytes, whether◌then◌else◌}
-use Rattle.refusals.specs.Verdicts.{◌when◌, quote_fault, ◌⊳◌, cell_count, column_missing, column_twice, too_many_cells, ◌before◌, in_text, in_header, text_too_long, line_too_long}
-use Rattle.refusals.specs.declared.Check.{Check}
-use Rattle.refusals.specs.declared.Verdict.{Verdict}
+use Rattle.refusals.specs.Verdicts.{◌when◌, quote_fault, ◌⊳◌, cell_count, column_missing, column_twice, too_many_cells, ◌before◌, in_text, in_header, text_too_long, line_too_long, Check, Verdict}
 use Rattle.lines.specs.Lines.{lines, head_line, overlong, long_line}
 use Rattle.cells.specs.Cells.{content, Cut, faulty_cell, cells_of, cut}
 use Rattle.editions.specs.declared.Edition.{Edition}

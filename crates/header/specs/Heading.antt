@@ -1,10 +1,8 @@
 -- What the code keeps of a header.
 -- Inner: no promise and no contract of a public function speaks of it.
-use Rattle.std.specs.Prelude.{List, [], ◌∷◌, ◌≡◌, ℕ, zero, suc, ◌<◌, length, get_or, replicate, ltb}
+use Rattle.std.specs.Prelude.{List, [], ◌∷◌, ◌≡◌, ℕ, zero, suc, ◌<◌, length, get_or, replicate, ltb, Ok, Err}
 use Rattle.words.specs.Words.{Bytes}
-use Rattle.refusals.specs.declared.Check.{Check}
-use Rattle.refusals.specs.declared.Check.TheVariants.{Passes, Fails}
-use Rattle.refusals.specs.Verdicts.{◌⊳◌, ◌when◌, column_missing, column_twice}
+use Rattle.refusals.specs.Verdicts.{◌⊳◌, ◌when◌, column_missing, column_twice, Check}
 use Rattle.cells.specs.Cells.{cut, cells_of}
 use Rattle.cells.specs.Numbered.{MarksOf}
 use Rattle.editions.specs.declared.Edition.{Edition}
@@ -37,8 +35,8 @@ cells_kept at = get_or at 0 0
 
 -- a header that passes is kept as its places
 abbrev pub headed : Check → Header → Heading
-headed Passes h = record { check = Passes; at = places h }
-headed (Fails n k) h = record { check = Fails n k; at = replicate header_places 0 }
+headed (Ok _) h = record { check = Ok tt; at = places h }
+headed (Err f) h = record { check = Err f; at = replicate header_places 0 }
 
 abbrev pub heading : Edition → Table → Bytes → Heading
 heading e t line = headed (header_check e t line) (header e t (cells_of (cut e line)))
@@ -51,8 +49,8 @@ pub record NamesOf (h : Header) (names : Noted) : Type 0 where
 -- a line cut into its cells: how many they are, and their bounds where there is room for them
 pub record LineCut (e : Edition) (line : Bytes) (bounds : List ℕ) (c : CutLine) : Type 0 where
   pub is : c.check ≡ line_check e line
-  pub counted : c.check ≡ Passes → length (cells_of (cut e line)) ≡ c.cells
-  pub marks : c.check ≡ Passes → c.cells < length bounds → MarksOf e line bounds c.cells
+  pub counted : c.check ≡ Ok tt → length (cells_of (cut e line)) ≡ c.cells
+  pub marks : c.check ≡ Ok tt → c.cells < length bounds → MarksOf e line bounds c.cells
 
 -- 3, then 2, of a header's names
 abbrev pub names_check : Edition → Table → Header → Check

@@ -1,8 +1,7 @@
 -- What the code finds at the top of a text.
 -- Inner: no promise and no contract of a public function speaks of it.
-use Rattle.std.specs.Prelude.{◌≡◌, ◌≤◌, length, drop}
+use Rattle.std.specs.Prelude.{◌≡◌, ◌≤◌, length, drop, Ok}
 use Rattle.words.specs.Words.{Bytes}
-use Rattle.refusals.specs.declared.Verdict.TheVariants.{Accepted}
 use Rattle.lines.specs.Lines.{line_after, head_line, lines, row_lines, line_start, most_bytes}
 use Rattle.editions.specs.declared.Edition.{Edition}
 use Rattle.tables.specs.declared.Table.{Table}
@@ -23,4 +22,4 @@ pub record TopKept (e : Edition) (t : Table) (s : Bytes) (top : Top) : Type 0 wh
 
 pub record TopOf (e : Edition) (t : Table) (s : Bytes) (top : Top) : Type 0 where
   pub is : top.verdict ≡ top_faults e t s
-  pub kept : top.verdict ≡ Accepted → TopKept e t s top
+  pub kept : top.verdict ≡ Ok tt → TopKept e t s top

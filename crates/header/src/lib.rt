@@ -1,7 +1,7 @@
 // The header of a text.
 #![tactic(auto)]
 
-ghost use Rattle.std.specs.Prelude.{◌≡◌, List, ◌&&◌, not, ℕ, ◌<◌, eqb, get_or, set};
+ghost use Rattle.std.specs.Prelude.{◌≡◌, List, ◌&&◌, not, ℕ, ◌<◌, eqb, get_or, set, Err};
 ghost use Rattle.words.specs.Words.{whether◌then◌else◌};
 ghost use Rattle.cells.specs.Cells.{cut, cells_of};
 ghost use Rattle.cells.specs.Numbered.{MarksOf};
@@ -10,10 +10,9 @@ ghost use Rattle.header.specs.Heading.{headed, header_places, places, LineCut, N
 ghost use Rattle.header.specs.Header.{missing, header};
 ghost use Rattle.header.specs.Top.{TopOf};
 
-use cells::Answer;
 use editions::Edition;
 use lines::{MOST_BYTES, MOST_LINE};
-use refusals::{Check, Place, Verdict};
+use refusals::{Check, Fault, Place, Verdict};
 use tables::{COLUMN_ROOM, Columns, Table};
 
 // What is kept of a header: at place 0 how many cells it has, and at the place of each column the cell that names it, counted from 1, or 0.
@@ -67,11 +66,11 @@ pub fn wide(n: usize) -> u64
 }
 
 // Nothing is kept of a header that has a fault.
-fn no_heading(fault: Check) -> Heading
-    ensures { (n k : ℕ) (h : List ℕ) → fault ≡ Check.Fails n k → result ≡ headed (Check.Fails n k) h }
+fn no_heading(fault: Fault) -> Heading
+    ensures { (h : List ℕ) → result ≡ headed (Err fault) h }
 {
     Heading {
-        check: fault,
+        check: Err(fault),
         at: NO_PLACES,
     }
 }
@@ -81,28 +80,24 @@ fn comes_again(at: &Places, column: usize) -> bool
     requires { column < header_places }
     ensures { result ≡ (not (eqb column 0) && not (eqb (get_or at.now column 0) 0)) }
 {
-    if column == 0 {
-        return false;
-    }
-    at[column] != 0
+    column != 0 && at[column] != 0
 }
 
 // Notes the cell of a known column.
-fn note(at: Places, column: usize, cell: usize) -> Places
+fn note(mut at: Places, column: usize, cell: usize) -> Places
     requires { column < header_places }
     ensures { result ≡ (whether eqb column 0 then at else set at column cell) }
 {
-    let mut noted = at;
     if column != 0 {
-        noted[column] = cell;
+        at[column] = cell;
     }
-    noted
+    at
 }
 
 fn lacks(required: bool, cell: usize) -> bool
     ensures { result ≡ (required && eqb cell 0) }
 {
-    if required { cell == 0 } else { false }
+    required && cell == 0
 }
 
 // The lowest required column that no cell names, or 0.
@@ -112,14 +107,12 @@ fn lowest_missing(edition: Edition, t: Table, columns: &Columns, at: &Places) ->
 {
     let count = t.columns(edition);
     let mut lowest = 0;
-    let mut k = 0;
-    'columns: while k < count {
+    'columns: for k in 0..count {
         let rules = tables::rules_at(columns, k);
         if lacks(rules.required, at[k + 1]) {
             lowest = k + 1;
             break 'columns;
         }
-        k += 1;
     }
     lowest
 }
@@ -132,8 +125,7 @@ fn note_names(line: &[u8], bounds: &[usize], cells: usize, edition: Edition, t: 
     let mut at = NO_PLACES;
     at[0] = cells;
     let mut twice = 0;
-    let mut i = 0;
-    'names: while i < cells {
+    'names: for i in 0..cells {
         let column = column_names::column_of(
             edition,
             t,
@@ -143,9 +135,7 @@ fn note_names(line: &[u8], bounds: &[usize], cells: usize, edition: Edition, t: 
             twice = column;
             break 'names;
         }
-        let noted = note(at, column, i + 1);
-        at = noted;
-        i += 1;
+        at = note(at, column, i + 1);
     }
     Noted { twice, at }
 }
@@ -162,20 +152,15 @@ fn map_names(
     requires { MarksOf edition line.now bounds.now cells × (columns.now ≡ listed edition t) }
     ensures { result ≡ headed (names_check edition t (header edition t (cells_of (cut edition line.now)))) (header edition t (cells_of (cut edition line.now))) }
 {
-    let names = note_names(line, bounds, cells, edition, t);
-    let twice = names.twice;
-    let at = names.at;
+    let Noted { twice, at } = note_names(line, bounds, cells, edition, t);
     if twice != 0 {
-        return no_heading(Check::column_twice(wide(twice)));
+        return no_heading(Fault::column_twice(twice as u64));
     }
     let lowest = lowest_missing(edition, t, columns, &at);
     if lowest != 0 {
-        return no_heading(Check::column_missing(wide(lowest)));
+        return no_heading(Fault::column_missing(lowest as u64));
     }
-    Heading {
-        check: Check::Passes,
-        at,
-    }
+    Heading { check: Ok(()), at }
 }
 
 // 17 and 6, of any line of a table. The bounds of its cells are kept where the caller has room for them.
@@ -184,18 +169,17 @@ pub fn cut_line(edition: Edition, line: &[u8], bounds: &mut [usize]) -> CutLine
 {
     if MOST_LINE < line.len() {
         return CutLine {
-            check: Check::line_too_long(),
+            check: Err(Fault::line_too_long()),
             cells: 0,
         };
     }
-    let answer = cells::cells_of(edition, line, bounds);
-    match answer {
-        Answer::Bad(cell) => CutLine {
-            check: Check::quote_fault(wide(cell)),
+    match cells::cells_of(edition, line, bounds) {
+        Err(cell) => CutLine {
+            check: Err(Fault::quote_fault(wide(cell))),
             cells: 0,
         },
-        Answer::Good(cells) => CutLine {
-            check: Check::Passes,
+        Ok(cells) => CutLine {
+            check: Ok(()),
             cells,
         },
     }
@@ -211,13 +195,10 @@ pub fn read_header(line: &[u8], edition: Edition, t: Table, columns: &Columns) -
     let check = cut.check;
     let cells = cut.cells;
     match check {
-        Check::Fails {
-            number: _,
-            column: _,
-        } => no_heading(check),
-        Check::Passes => {
+        Err(fault) => no_heading(fault),
+        Ok(()) => {
             if MOST_CELLS < cells {
-                return no_heading(Check::too_many_cells());
+                return no_heading(Fault::too_many_cells());
             }
             map_names(line, &bounds, cells, edition, t, columns)
         }
@@ -230,7 +211,7 @@ pub fn read_top(bytes: &[u8], edition: Edition, t: Table, columns: &Columns) -> 
     ensures { TopOf edition t bytes.now result }
 {
     if MOST_BYTES < bytes.len() {
-        let verdict = Check::text_too_long().on(t.number(), Place::NO_LINE);
+        let verdict = Err(Fault::text_too_long().on(t.number(), Place::NO_LINE));
         return Top {
             verdict,
             at: NO_PLACES,
@@ -244,7 +225,7 @@ pub fn read_top(bytes: &[u8], edition: Edition, t: Table, columns: &Columns) -> 
     let heading = read_header(&bytes[0..end], edition, t, columns);
     let check = heading.check;
     let at = heading.at;
-    let verdict = check.on(t.number(), Place::HEADER_LINE);
+    let verdict = refusals::placed(check, t.number(), Place::HEADER_LINE);
     let line = lines::line_after(edition, Place::HEADER_LINE, &bytes[0..end]);
     Top {
         verdict,

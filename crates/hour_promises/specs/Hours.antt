@@ -1,9 +1,8 @@
 -- What demands 2 and 3 say of the hours of request 8/13. Each is a type; whoever has an element of it has a proof. How near the hours are to the seconds is
 -- claimed in hours/specs/Claims.antt.
-use Rattle.std.specs.Prelude.{◌≡◌, List, false, ℕ, length}
+use Rattle.std.specs.Prelude.{◌≡◌, List, false, ℕ, length, Some}
 use Rattle.words.specs.Words.{Bytes, Row}
 use Rattle.editions.specs.Editions.{choice}
-use Rattle.editions.specs.declared.Choice.TheVariants.{Chosen}
 use Rattle.editions.specs.declared.Edition.{Edition}
 use Rattle.tables.specs.Parts.{book_rows}
 use Rattle.book.specs.Book.{Book}
@@ -20,7 +19,7 @@ use Rattle.promises.specs.Promises.{run, with_blocks, slips_called, some_slip, t
 -- as the accepted slips leave them
 abbrev pub HoursAfresh : Type 0
 HoursAfresh = (n : ℕ) (e : Edition) (d : Delivery) (b : Book) (ss : List Bytes) (book work : List Row) (version type : ℕ) →
-    choice n ≡ Chosen e → reading e d ≡ leaves b → length book ≡ book_rows → length work ≡ work_rows →
+    choice n ≡ Some e → reading e d ≡ leaves b → length book ≡ book_rows → length work ≡ work_rows →
     (hours_call (slips_called ss (read_call n d book).book work) version type ≡ hours_call (read_call n (with_blocks (written (run ss b)) d) book).book version type)
     × ((first last : ℕ) →
     season_hours_call (slips_called ss (read_call n d book).book work) version type first last

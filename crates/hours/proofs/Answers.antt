@@ -7,9 +7,8 @@ use native.Mathlib.Omega.{arith}
 use lib.Dec.{lit<}
 use lib.Ieee.{Float, of_bits, binary64}
 use Rattle.words.specs.Words.{Row}
-use Rattle.refusals.specs.Verdicts.{◌when◌, ◌before◌, nowhere, bad_loan, not_there, no_date}
-use Rattle.refusals.specs.declared.Verdict.{Verdict}
-use Rattle.refusals.specs.declared.Verdict.TheVariants.{Accepted, Refused}
+use Rattle.refusals.specs.Verdicts.{◌when◌, ◌before◌, nowhere, bad_loan, not_there, no_date, Verdict}
+use Rattle.std.specs.Prelude.{Ok, Err}
 use Rattle.refusals.specs.declared.Place.{Place}
 use Rattle.dates.specs.Calendar.{is_date}
 use Rattle.tables.specs.declared.Table.TheVariants.{VehicleType}
@@ -37,28 +36,28 @@ zero_bits = refl
 -- answers by their verdict -------------------------------------------------------------------------------------------------------------
 
 type_most : (w : Verdict) (s n most : ℕ) → s < most → (type_answered w s n).seconds < most
-type_most Accepted s n most h = h
-type_most (Refused p) s n most h = omega arith
+type_most (Ok _) s n most h = h
+type_most (Err p) s n most h = omega arith
 
 season_most : (w : Verdict) (s most : ℕ) → s < most → (season_answered w s).seconds < most
-season_most Accepted s most h = h
-season_most (Refused p) s most h = omega arith
+season_most (Ok _) s most h = h
+season_most (Err p) s most h = omega arith
 
 type_verdict : (w : Verdict) (s n : ℕ) → (type_answered w s n).verdict ≡ w
-type_verdict Accepted s n = refl
-type_verdict (Refused p) s n = refl
+type_verdict (Ok _) s n = refl
+type_verdict (Err p) s n = refl
 
 -- the hours are those of the seconds that are answered: a refusal has 0 seconds
 pub hours_told : (w : Verdict) (s n : ℕ) (x : Float) → (hours_answered (type_answered w s n).verdict (hours_of s) x).hours ≡ hours_of (type_answered w s n).seconds
-hours_told Accepted s n x = refl
-hours_told (Refused p) s n x = sym hours_none
+hours_told (Ok _) s n x = refl
+hours_told (Err p) s n x = sym hours_none
 
 pub season_hours_told : (w : Verdict) (s : ℕ)
     → ◌≡◌ {A = SeasonHours} (record { verdict = (season_answered w s).verdict; hours = hours_of (season_answered w s).seconds }) (season_hours_answered (season_answered w s).verdict (hours_of s))
-season_hours_told Accepted s = refl
-season_hours_told (Refused p) s = ap (λ (x : Float). record { verdict = Refused p; hours = x }) hours_none
+season_hours_told (Ok _) s = refl
+season_hours_told (Err p) s = ap (λ (x : Float). record { verdict = Err p; hours = x }) hours_none
 
-keeps : (b there : Bool) → (nowhere (bad_loan when not b) before nowhere (not_there when not there)) ≡ Accepted → b ≡ true
+keeps : (b there : Bool) → (nowhere (bad_loan when not b) before nowhere (not_there when not there)) ≡ Ok tt → b ≡ true
 keeps true there e = refl
 keeps false there e = cc
 
@@ -81,7 +80,7 @@ module _ (xs : List Row) (version type : ℕ) where
   abbrev n : ℕ
   n = count_of version type blocks
 
-  pub keeps_asked : asked ≡ Accepted → keeps_rule xs ≡ true
+  pub keeps_asked : asked ≡ Ok tt → keeps_rule xs ≡ true
   keeps_asked e = keeps (keeps_rule xs) (knows VehicleType (version ∷ type ∷ []) (book_of xs)) e
 
   pub seconds_fit : (type_call xs version type).seconds < 2 ^ 53
@@ -110,13 +109,13 @@ module _ (xs : List Row) (version type : ℕ) where
     seconds_told : (w : Verdict) → f.verdict ≡ w → h ≡ hours_of (type_answered w S n).seconds
     seconds_told w a = i ∙ ap (λ (g : TypeAnswer). hours_of g.seconds) e ∙ ap (λ (v : Verdict). hours_of (type_answered v S n).seconds) (sym verdict_told ∙ a)
 
-    pub keeps_there : f.verdict ≡ Accepted → keeps_rule xs ≡ true
+    pub keeps_there : f.verdict ≡ Ok tt → keeps_rule xs ≡ true
     keeps_there a = keeps_asked (sym verdict_told ∙ a)
 
-    pub hours_there : f.verdict ≡ Accepted → (s : Float) → s ≡ clerk (seconds_each version type blocks)
+    pub hours_there : f.verdict ≡ Ok tt → (s : Float) → s ≡ clerk (seconds_each version type blocks)
         → ◌≡◌ {A = HoursAnswer} (record { verdict = f.verdict; hours = h; summed = s }) (hours_call xs version type)
-    hours_there a s j = rw (seconds_told Accepted a, j, a, sym verdict_told ∙ a)
+    hours_there a s j = rw (seconds_told (Ok tt) a, j, a, sym verdict_told ∙ a)
 
-    pub hours_refused : (p : Place) → f.verdict ≡ Refused p → (s : Float) → s ≡ none
+    pub hours_refused : (p : Place) → f.verdict ≡ Err p → (s : Float) → s ≡ none
         → ◌≡◌ {A = HoursAnswer} (record { verdict = f.verdict; hours = h; summed = s }) (hours_call xs version type)
-    hours_refused p a s j = rw (seconds_told (Refused p) a, hours_none, j, a, sym verdict_told ∙ a)
+    hours_refused p a s j = rw (seconds_told (Err p) a, hours_none, j, a, sym verdict_told ∙ a)

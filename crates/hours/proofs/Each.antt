@@ -73,17 +73,17 @@ module _ (version type : ℕ) where
 
   -- along the loop -------------------------------------------------------------------------------------------------------------------------
 
-  pub each_next : (xs : List Row) (sum next : Float) (i : ℕ) (row : Row) (here : Bool) (s : ℕ) → i < length xs → row ≡ get_or xs i [] → here ≡ of_type version type row → s ≡ seconds row
-      → next ≡ (whether here then add binary64 sum (hours_of s) else sum) → clerk_from sum (seconds_each version type (drop i xs)) ≡ clerk_from next (seconds_each version type (drop (i + 1) xs))
+  -- a block of the type adds its hours
+  pub each_more : (xs : List Row) (sum : Float) (i : ℕ) → i < length xs → of_type version type (get_or xs i []) ≡ true
+      → clerk_from sum (seconds_each version type (drop i xs)) ≡ clerk_from (add binary64 sum (hours_of (seconds (get_or xs i [])))) (seconds_each version type (drop (i + 1) xs))
   unfolding seconds_each clerk_from
-  each_next xs sum next i row here s l e f g h = rw (drop_step [] xs i l, ← e, ← f, h, g) (go here)
-    where
-      rest : List ℕ
-      rest = seconds_each version type (drop (i + 1) xs)
+  each_more xs sum i l here = rw (drop_step [] xs i l, here)
 
-      go : (b : Bool) → clerk_from sum (whether b then seconds row ∷ rest else rest) ≡ clerk_from (whether b then add binary64 sum (hours_of (seconds row)) else sum) rest
-      go true = refl
-      go false = refl
+  -- another adds nothing
+  pub each_same : (xs : List Row) (sum : Float) (i : ℕ) → i < length xs → of_type version type (get_or xs i []) ≡ false
+      → clerk_from sum (seconds_each version type (drop i xs)) ≡ clerk_from sum (seconds_each version type (drop (i + 1) xs))
+  unfolding seconds_each
+  each_same xs sum i l here = rw (drop_step [] xs i l, here)
 
   pub each_end : (xs : List Row) (sum : Float) (i : ℕ) → length xs ≤ i → clerk_from sum (seconds_each version type (drop i xs)) ≡ sum
   unfolding seconds_each clerk_from
@@ -124,8 +124,3 @@ module _ (version type : ℕ) where
         let t = together_each blocks in
         let n = length_each blocks in
         rw (← t, ← n) (sum_near ss (rw n count_few) (rw t seconds_few))
-
--- one sum --------------------------------------------------------------------------------------------------------------------------------
-
-pub added_there : (sum h : Float) (here : Bool) (s : ℕ) → here ≡ true → h ≡ hours_of s → add binary64 sum h ≡ (whether here then add binary64 sum (hours_of s) else sum)
-added_there sum h here s e f = rw (e, f)

@@ -6,8 +6,8 @@ use native.Mathlib.Omega.{arith}
 use lib.IntN.{pos}
 use lib.Ieee.{Float}
 use Rattle.words.specs.Words.{Row}
-use Rattle.refusals.specs.declared.Verdict.{Verdict}
-use Rattle.refusals.specs.declared.Verdict.TheVariants.{Accepted, Refused}
+use Rattle.std.specs.Prelude.{Ok, Err}
+use Rattle.refusals.specs.Verdicts.{Verdict}
 use Rattle.refusals.specs.declared.Place.{Place}
 use Rattle.tables.specs.declared.Table.TheVariants.{VehicleType}
 use Rattle.book.specs.Book.{knows}
@@ -62,8 +62,8 @@ clerk_near book version type = go (asked_verdict book (knows VehicleType (versio
 
     go : (w : Verdict) → asked_verdict book (knows VehicleType (version ∷ type ∷ []) (book_of book)) ≡ w
         → Near 52 (type_answered w S n).count (type_answered w S n).seconds (hours_answered (type_answered w S n).verdict (hours_of S) x).summed
-    go Accepted e = each_near version type book (keeps_asked book version type e)
-    go (Refused p) e = none_near
+    go (Ok _) e = each_near version type book (keeps_asked book version type e)
+    go (Err p) e = none_near
 
 pub no_blocks_none : NoBlocksNone
 no_blocks_none book version type e = go (asked_verdict book (knows VehicleType (version ∷ type ∷ []) (book_of book))) e
@@ -79,21 +79,21 @@ no_blocks_none book version type e = go (asked_verdict book (knows VehicleType (
 
     go : (w : Verdict) → (type_answered w S (count_of version type blocks)).count ≡ 0
         → ((hours_answered (type_answered w S (count_of version type blocks)).verdict (hours_of S) x).hours ≡ none) × ((hours_answered (type_answered w S (count_of version type blocks)).verdict (hours_of S) x).summed ≡ none)
-    go Accepted e = let z = none_counted version type blocks e in (ap hours_of z.0 ∙ hours_none, z.1)
-    go (Refused p) e = (refl, refl)
+    go (Ok _) e = let z = none_counted version type blocks e in (ap hours_of z.0 ∙ hours_none, z.1)
+    go (Err p) e = (refl, refl)
 
 pub no_season_none : NoSeasonNone
 no_season_none book version type first last e = season_hours_of book version type first last ∙ ap hours_of e ∙ hours_none
 
 -- an answer that is a refusal has no hours
-refused_none : (w : Verdict) (h x : Float) (p : Place) → (hours_answered w h x).verdict ≡ Refused p
+refused_none : (w : Verdict) (h x : Float) (p : Place) → (hours_answered w h x).verdict ≡ Err p
     → ((hours_answered w h x).hours ≡ none) × ((hours_answered w h x).summed ≡ none)
-refused_none Accepted h x p e = (cc, cc)
-refused_none (Refused q) h x p e = (refl, refl)
+refused_none (Ok _) h x p e = (cc, cc)
+refused_none (Err q) h x p e = (refl, refl)
 
-season_refused_none : (w : Verdict) (h : Float) (p : Place) → (season_hours_answered w h).verdict ≡ Refused p → (season_hours_answered w h).hours ≡ none
-season_refused_none Accepted h p e = cc
-season_refused_none (Refused q) h p e = refl
+season_refused_none : (w : Verdict) (h : Float) (p : Place) → (season_hours_answered w h).verdict ≡ Err p → (season_hours_answered w h).hours ≡ none
+season_refused_none (Ok _) h p e = cc
+season_refused_none (Err q) h p e = refl
 
 pub refusals_none : RefusedNone
 refusals_none book version type p = (

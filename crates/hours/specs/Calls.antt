@@ -1,8 +1,7 @@
 -- What the questions for the ledger answer. Nothing that is lent to them changes.
-use Rattle.std.specs.Prelude.{◌≡◌, List, [], ◌∷◌, ℕ, Float}
+use Rattle.std.specs.Prelude.{◌≡◌, List, [], ◌∷◌, ℕ, Float, Ok, Err}
 use Rattle.words.specs.Words.{Row, whether◌then◌else◌}
-use Rattle.refusals.specs.declared.Verdict.{Verdict}
-use Rattle.refusals.specs.declared.Verdict.TheVariants.{Accepted, Refused}
+use Rattle.refusals.specs.Verdicts.{Verdict}
 use Rattle.book.specs.Room.{book_of}
 use Rattle.rules.specs.Rules.{seconds}
 use Rattle.questions.specs.Questions.{of_type, seconds_of}
@@ -20,8 +19,8 @@ seconds_each version type (x ∷ xs) = whether of_type version type x then secon
 
 -- "No blocks gives 0 exactly, as do 16 and 15."
 abbrev pub hours_answered : Verdict → Float → Float → HoursAnswer
-hours_answered Accepted hours summed = record { verdict = Accepted; hours = hours; summed = summed }
-hours_answered (Refused p) hours summed = record { verdict = Refused p; hours = none; summed = none }
+hours_answered (Ok _) hours summed = record { verdict = Ok tt; hours = hours; summed = summed }
+hours_answered (Err p) hours summed = record { verdict = Err p; hours = none; summed = none }
 
 -- "Give it one type's whole seconds S divided by 3,600 at the very end." "Then sum as the ledger clerk does: each block's hours rounded, added in
 -- rising key order."
@@ -31,8 +30,8 @@ hours_call book version type =
     hours_answered (type_call book version type).verdict (hours_of (seconds_of version type blocks)) (clerk (seconds_each version type blocks))
 
 abbrev pub season_hours_answered : Verdict → Float → SeasonHours
-season_hours_answered Accepted hours = record { verdict = Accepted; hours = hours }
-season_hours_answered (Refused p) hours = record { verdict = Refused p; hours = none }
+season_hours_answered (Ok _) hours = record { verdict = Ok tt; hours = hours }
+season_hours_answered (Err p) hours = record { verdict = Err p; hours = none }
 
 -- "Calendar sums go by the first rule alone."
 abbrev pub season_hours_call : List Row → ℕ → ℕ → ℕ → ℕ → SeasonHours

@@ -1,8 +1,7 @@
 -- What is claimed of the hours that are handed out, whatever slice is lent. Each is a type; whoever has an element of it has a proof.
-use Rattle.std.specs.Prelude.{◌≡◌, List, ℕ}
+use Rattle.std.specs.Prelude.{◌≡◌, List, ℕ, Err}
 use Rattle.words.specs.Words.{Row}
 use Rattle.refusals.specs.declared.Place.{Place}
-use Rattle.refusals.specs.declared.Verdict.TheVariants.{Refused}
 use Rattle.questions.specs.Calls.{type_call}
 use Rattle.seasons.specs.Calls.{season_call}
 use Rattle.hour_numbers.specs.Hours.{none, Near}
@@ -35,5 +34,5 @@ NoSeasonNone = (book : List Row) (version type first last : ℕ) → (season_cal
 -- "as do 16 and 15", and 23 of a season
 abbrev pub RefusedNone : Type 0
 RefusedNone = (book : List Row) (version type : ℕ) (p : Place) →
-    ((hours_call book version type).verdict ≡ Refused p → ((hours_call book version type).hours ≡ none) × ((hours_call book version type).summed ≡ none))
-    × ((first last : ℕ) → (season_hours_call book version type first last).verdict ≡ Refused p → (season_hours_call book version type first last).hours ≡ none)
+    ((hours_call book version type).verdict ≡ Err p → ((hours_call book version type).hours ≡ none) × ((hours_call book version type).summed ≡ none))
+    × ((first last : ℕ) → (season_hours_call book version type first last).verdict ≡ Err p → (season_hours_call book version type first last).hours ≡ none)

@@ -1,13 +1,10 @@
 // What the ledger is handed: a type's hours, and the hours of a season.
 #![tactic(auto)]
 
-ghost use Rattle.std.specs.Prelude.{◌≡◌, true, ◌<◌, ◌^◌};
-ghost use Rattle.std.specs.Float.{binary64};
-ghost use Rattle.std.specs.Float.Ieee.{add};
-ghost use Rattle.words.specs.Words.{whether◌then◌else◌};
+ghost use Rattle.std.specs.Prelude.{◌≡◌, true};
 ghost use Rattle.book.specs.Room.{book_of};
 ghost use Rattle.keeping.specs.Keeping.{keeps_rule};
-ghost use Rattle.hour_numbers.specs.Hours.{hours_of, clerk};
+ghost use Rattle.hour_numbers.specs.Hours.{clerk};
 ghost use Rattle.hours.specs.Calls.{seconds_each, HoursPermits, SeasonHoursPermits};
 
 use refusals::Verdict;
@@ -29,31 +26,17 @@ pub struct SeasonHours {
     pub hours: f64,
 }
 
-// The sum with a block's hours added, where the block is of the type.
-fn added(sum: f64, here: bool, seconds: u64) -> f64
-    requires { seconds < 2 ^ 53 }
-    ensures { result ≡ (whether here then add binary64 sum (hours_of seconds) else sum) }
-{
-    if here {
-        return sum + hour_numbers::hours(seconds);
-    }
-    sum
-}
-
 // As the ledger clerk sums: each block's hours rounded, added in rising key order. The bits depend on the order.
 fn hours_summed(book: &[Row], version: u64, number: u64) -> f64
     requires { keeps_rule book.now ≡ true }
     ensures { result ≡ clerk (seconds_each version number (book_of book.now).blocks) }
 {
-    let n = book::count_rows(book, Table::Block);
+    let blocks = book::rows_of(book, Table::Block);
     let mut sum = 0.0;
-    let mut i = 0;
-    'blocks: while i < n {
-        let row = book::row_at(book, Table::Block, i);
-        let here = questions::of_type(row, version, number);
-        let seconds = questions::seconds_of(row);
-        sum = added(sum, here, seconds);
-        i += 1;
+    for row in blocks {
+        if questions::of_type(*row, version, number) {
+            sum += hour_numbers::hours(questions::seconds_of(*row));
+        }
     }
     sum
 }
@@ -66,7 +49,7 @@ pub fn type_hours(book: &[Row], version: u64, number: u64) -> HoursAnswer
     let verdict = found.verdict;
     let hours = hour_numbers::hours(found.seconds);
     match verdict {
-        Verdict::Accepted => {
+        Ok(()) => {
             let summed = hours_summed(book, version, number);
             HoursAnswer {
                 verdict,
@@ -74,7 +57,7 @@ pub fn type_hours(book: &[Row], version: u64, number: u64) -> HoursAnswer
                 summed,
             }
         }
-        Verdict::Refused(_) => HoursAnswer {
+        Err(_) => HoursAnswer {
             verdict,
             hours,
             summed: 0.0,

@@ -9,11 +9,9 @@ use lib.ListN.{length, take, length-append, get_or, set, length-set}
 use lib.Seq.{take_at}
 use borrow.Author.Tests.{le-leb, lt-leb}
 use Rattle.words.specs.Words.{Row}
-use Rattle.refusals.specs.Verdicts.{key_stands, ends_early}
-use Rattle.refusals.specs.declared.Check.{Check}
-use Rattle.refusals.specs.declared.Check.TheVariants.{Passes, Fails}
+use Rattle.refusals.specs.Verdicts.{key_stands, ends_early, Check, fault}
 use Rattle.rows.specs.Room.{filled, used}
-use Rattle.rows.specs.declared.Spot.TheVariants.{At, Gap}
+use Rattle.std.specs.Prelude.{Ok, Err}
 use Rattle.rows.specs.Rows.{column, inserted, rising}
 use Rattle.rows.specs.Spots.{spot}
 use Rattle.rows.proofs.Room.{Versioned, used_filled, used_versioned}
@@ -102,39 +100,39 @@ module _ (t : Table) (xs slots : List Row) (order : List ℕ) (n : ℕ) (on : On
   book_shelf = book_laid (shelf_book t xs slots order n) orderly_shelf
 
   -- where a key stands on the shelf
-  pub shelf_at : (row : Row) (i : ℕ) → spot (key_width t) row (shelved slots order n) ≡ At i → knows t row (shelf_book t xs slots order n) ≡ true
+  pub shelf_at : (row : Row) (i : ℕ) → spot (key_width t) row (shelved slots order n) ≡ Ok i → knows t row (shelf_book t xs slots order n) ≡ true
   shelf_at row i e = rw (rows_with t (shelved slots order n) (book_of xs)) (at_stands (key_width t) row (shelved slots order n) i e)
 
-  pub shelf_gap : (row : Row) (i : ℕ) → spot (key_width t) row (shelved slots order n) ≡ Gap i → knows t row (shelf_book t xs slots order n) ≡ false
+  pub shelf_gap : (row : Row) (i : ℕ) → spot (key_width t) row (shelved slots order n) ≡ Err i → knows t row (shelf_book t xs slots order n) ≡ false
   shelf_gap row i e = rw (rows_with t (shelved slots order n) (book_of xs)) (gap_missing (key_width t) row (shelved slots order n) i e on.rises)
 
-  pub gap_most : (row : Row) (i : ℕ) → spot (key_width t) row (shelved slots order n) ≡ Gap i → i ≤ n
+  pub gap_most : (row : Row) (i : ℕ) → spot (key_width t) row (shelved slots order n) ≡ Err i → i ≤ n
   gap_most row i e = omega (arith, gap_within (key_width t) row (shelved slots order n) i e, length_shelved slots order n on.shelf)
 
   module _ (row : Row) where
     -- a row that is refused leaves the shelf as it was
-    refused_entered : (m k : ℕ) (c : Check) → c ≡ Fails m k → c ≡ ruled t row (shelf_book t xs slots order n) → Entered t row xs slots slots order order n c
+    refused_entered : (m k : ℕ) (c : Check) → c ≡ Err (fault m k) → c ≡ ruled t row (shelf_book t xs slots order n) → Entered t row xs slots slots order order n c
     refused_entered m k c f e = record { is = e; on = λ p. absurd (fails p); enters = λ p. absurd (fails p); stays = λ p. (refl, refl) }
       where
-        fails : c ≡ Passes → ⊥
+        fails : c ≡ Ok tt → ⊥
         fails p = let z : ◌≡◌ {A = ℕ} 0 1 = cc in omega arith
 
     pub early_entered : time_fault t row ≡ true → (c : Check) → c ≡ ends_early → Entered t row xs slots slots order order n c
     early_entered e c f = refused_entered _ _ c f (f ∙ sym (ruled_early t row (shelf_book t xs slots order n) e))
 
-    pub stands_entered : time_fault t row ≡ false → (i : ℕ) → spot (key_width t) row (shelved slots order n) ≡ At i → (c : Check) → c ≡ key_stands → Entered t row xs slots slots order order n c
+    pub stands_entered : time_fault t row ≡ false → (i : ℕ) → spot (key_width t) row (shelved slots order n) ≡ Ok i → (c : Check) → c ≡ key_stands → Entered t row xs slots slots order order n c
     stands_entered e i s c f = refused_entered _ _ c f (f ∙ sym (ruled_stands t row (shelf_book t xs slots order n) e (shelf_at row i s)))
 
-    module _ (e : time_fault t row ≡ false) (at : ℕ) (gap : spot (key_width t) row (shelved slots order n) ≡ Gap at) (c : Check) (f : c ≡ unknown t row (book_of xs)) where
+    module _ (e : time_fault t row ≡ false) (at : ℕ) (gap : spot (key_width t) row (shelved slots order n) ≡ Err at) (c : Check) (f : c ≡ unknown t row (book_of xs)) where
       ruled_gap : c ≡ ruled t row (shelf_book t xs slots order n)
       ruled_gap = f ∙ sym (ruled_unknown t row (shelf_book t xs slots order n) e (shelf_gap row at gap) ∙ unknown_with t row (shelved slots order n) (book_of xs))
 
-      pub unknown_entered : (m k : ℕ) → c ≡ Fails m k → Entered t row xs slots slots order order n (Fails m k)
-      unknown_entered m k g = refused_entered m k (Fails m k) refl (sym g ∙ ruled_gap)
+      pub unknown_entered : (m k : ℕ) → c ≡ Err (fault m k) → Entered t row xs slots slots order order n (Err (fault m k))
+      unknown_entered m k g = refused_entered m k (Err (fault m k)) refl (sym g ∙ ruled_gap)
 
       -- a row that keeps the rules
-      pub put_entered : c ≡ Passes → n < room t → 1 ≤ column 1 row → (slots' : List Row) (order' : List ℕ) → slots' ≡ set slots (get_or order n 0) row → order' ≡ put_in n at (get_or order n 0) order
-          → Entered t row xs slots slots' order order' n Passes
+      pub put_entered : c ≡ Ok tt → n < room t → 1 ≤ column 1 row → (slots' : List Row) (order' : List ℕ) → slots' ≡ set slots (get_or order n 0) row → order' ≡ put_in n at (get_or order n 0) order
+          → Entered t row xs slots slots' order order' n (Ok tt)
       put_entered g room v slots' order' s o =
           let r : n < length slots = omega (arith, on.long) in
           let i = put_inserted slots order n on.shelf at row r (gap_most row at gap) slots' order' s o (key_width t) gap in

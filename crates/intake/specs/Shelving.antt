@@ -1,9 +1,8 @@
 -- The book while one of its tables stands on a shelf.
 -- Inner: no promise and no contract of a public function speaks of it.
-use Rattle.std.specs.Prelude.{List, ◌≡◌, true, ℕ, suc, length}
+use Rattle.std.specs.Prelude.{List, ◌≡◌, true, ℕ, suc, length, Ok}
 use Rattle.words.specs.Words.{Row}
-use Rattle.refusals.specs.declared.Check.{Check}
-use Rattle.refusals.specs.declared.Check.TheVariants.{Passes}
+use Rattle.refusals.specs.Verdicts.{Check}
 use Rattle.rows.specs.Rows.{rising}
 use Rattle.rows.specs.Room.{used}
 use Rattle.shelf.specs.Shelf.{shelved, Shelf}
@@ -32,6 +31,6 @@ pub record OnShelf (t : Table) (slice slots : List Row) (order : List ℕ) (n : 
 -- a row judged, and entered where it keeps the rules
 pub record Entered (t : Table) (row : Row) (slice slots slots' : List Row) (order order' : List ℕ) (n : ℕ) (c : Check) : Type 0 where
   pub is : c ≡ ruled t row (shelf_book t slice slots order n)
-  pub on : c ≡ Passes → OnShelf t slice slots' order' (suc n)
-  pub enters : c ≡ Passes → shelf_book t slice slots' order' (suc n) ≡ entered t row (shelf_book t slice slots order n)
-  pub stays : (c ≡ Passes → ⊥) → (slots' ≡ slots) × (order' ≡ order)
+  pub on : c ≡ Ok tt → OnShelf t slice slots' order' (suc n)
+  pub enters : c ≡ Ok tt → shelf_book t slice slots' order' (suc n) ≡ entered t row (shelf_book t slice slots order n)
+  pub stays : (c ≡ Ok tt → ⊥) → (slots' ≡ slots) × (order' ≡ order)

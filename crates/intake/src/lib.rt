@@ -13,8 +13,8 @@ ghost use Rattle.rules.specs.Points.{Referable};
 ghost use Rattle.rules.specs.Rules.{time_fault};
 ghost use Rattle.intake.specs.Shelving.{shelf_book, OnShelf, Entered};
 
-use refusals::Check;
-use rows::{Row, Spot};
+use refusals::{Check, Fault};
+use rows::Row;
 use tables::Table;
 
 // A table's rows onto a shelf, and how many they are.
@@ -24,7 +24,7 @@ pub fn shelve(book: &[Row], t: Table, slots: &mut [Row], order: &mut [u16]) -> u
 {
     let used = book::count_rows(book, t);
     let table = book::table_of(book, t);
-    rows::copy(&table[0..used], &mut slots[..used]);
+    slots[..used].copy_from_slice(&table[..used]);
     shelf::number_slots(order);
     used
 }
@@ -39,8 +39,8 @@ pub fn lay_table(book: &mut [Row], t: Table, slots: &[Row], order: &[u16], n: us
     shelf::lay_out(slots, order, n, &mut book[begin..end]);
 }
 
-// Where the key of a row stands on the table's shelf, or would stand. The width is a constant as in `knowing`.
-pub fn spot_of(t: Table, slots: &[Row], order: &[u16], n: usize, row: &Row) -> Spot
+// Where the key of a row stands on the table's shelf (`Ok`), or would stand (`Err`). The width is a constant as in `knowing`.
+pub fn spot_of(t: Table, slots: &[Row], order: &[u16], n: usize, row: &Row) -> Result<usize, usize>
     requires { Shelf slots.now order.now n × (rising (key_width t) (shelved slots.now order.now n) ≡ true) }
     ensures { result ≡ spot (key_width t) row.now (shelved slots.now order.now n) }
 {
@@ -61,17 +61,12 @@ fn put_row(
     n: usize,
     at: usize,
 ) -> Check
-    requires { OnShelf t book.now slots.old order.old n × (n < room t) × (1 ≤ column 1 row) × (time_fault t row ≡ false) × (spot (key_width t) row (shelved slots.old order.old n) ≡ Spot.Gap at) }
+    requires { OnShelf t book.now slots.old order.old n × (n < room t) × (1 ≤ column 1 row) × (time_fault t row ≡ false) × (spot (key_width t) row (shelved slots.old order.old n) ≡ Err at) }
     ensures { Entered t row book.now slots.old slots.new order.old order.new n result }
 {
-    let check = rules::unknown_reference(book, t, row);
-    match check {
-        Check::Fails { number, column } => Check::Fails { number, column },
-        Check::Passes => {
-            shelf::put_slot(slots, order, n, at, row);
-            Check::Passes
-        }
-    }
+    rules::unknown_reference(book, t, row)?;
+    shelf::put_slot(slots, order, n, at, row);
+    Ok(())
 }
 
 // 11, 9, 10, for a reading and for a slip line that adds: a row that keeps the rules enters.
@@ -87,10 +82,10 @@ pub fn enter(
     ensures { Entered t row book.now slots.old slots.new order.old order.new n result }
 {
     if rules::time_fault(t, row) {
-        return Check::ends_early();
+        return Err(Fault::ends_early());
     }
     match spot_of(t, &slots[..], &order[..], n, &row) {
-        Spot::At(_) => Check::key_stands(),
-        Spot::Gap(at) => put_row(book, t, row, slots, order, n, at),
+        Ok(_) => Err(Fault::key_stands()),
+        Err(at) => put_row(book, t, row, slots, order, n, at),
     }
 }

@@ -122,23 +122,12 @@ mark_most : (e : Edition) → mark e ≤ 1
 mark_most Dino21 = lit≤ tt
 mark_most Dino23 = lit≤ tt
 
--- a mark up to it is that of the edition it tells
-mark_told : (n : ℕ) → n ≤ 1 → mark (edition_of (n ∷ [])) ≡ n
-mark_told zero h = refl
-mark_told (suc zero) h = refl
-mark_told (suc (suc n)) h = absurd (omega arith)
-
 pub marks_above : (row : Row) → 1 < column 1 row → same row (marks (edition_of row)) ≡ false
 marks_above row h = go (same row (marks (edition_of row))) refl
   where
     go : (b : Bool) → same row (marks (edition_of row)) ≡ b → b ≡ false
     go true e = absurd (omega (arith, ap (column 1) (same_true row (marks (edition_of row)) e), mark_most (edition_of row)))
     go false e = refl
-
-pub marks_rest : (row : Row) → column 1 row ≤ 1 → same row (wide (take 1 row)) ≡ same row (marks (edition_of row))
-unfolding same
-marks_rest [] h = refl
-marks_rest (n ∷ ns) h = ap (λ (m : ℕ). same (n ∷ ns) (wide (m ∷ []))) (sym (mark_told n h))
 
 -- all rows, from place i on --------------------------------------------------------------------------------------------------------------
 
@@ -167,6 +156,12 @@ pub all_true : {A : Type 0} (f : A → Bool) → ((x : A) → f x ≡ true) → 
 unfolding all
 all_true f h [] = refl
 all_true f h (x ∷ xs) = rw (h x, all_true f h xs)
+
+-- what stands at a place within a list is the same whatever stands past its end
+pub placed_alike : {A : Type 0} (xs : List A) (i : ℕ) (d e : A) → i < length xs → get_or xs i d ≡ get_or xs i e
+placed_alike [] i d e h = absurd (omega arith)
+placed_alike (x ∷ xs) zero d e h = refl
+placed_alike (x ∷ xs) (suc i) d e h = placed_alike xs i d e (omega arith)
 
 -- a table is reached by its place in their order
 pub by_place : (f : Table → Bool) → ((i : ℕ) → i < length tables → f (get_or tables i Calendar) ≡ true) → (t : Table) → f t ≡ true

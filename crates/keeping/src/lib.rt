@@ -15,7 +15,6 @@ ghost use Rattle.rules.specs.Points.{Referable};
 ghost use Rattle.keeping.specs.Keeping.{ranged, lawful, keeps_rule};
 
 use editions::Edition;
-use refusals::Check;
 use rows::{NUMBERS, Row};
 use tables::{BOOK_ROWS, Columns, MARKS, Table};
 
@@ -23,18 +22,13 @@ use tables::{BOOK_ROWS, Columns, MARKS, Table};
 fn in_ranges(t: Table, columns: &Columns, row: Row) -> bool
     ensures { (e : Edition) → columns.now ≡ listed e t → result ≡ ranged (columns_of e t) (take (kept_width t) row) }
 {
-    let n = t.kept();
-    let mut within = true;
-    let mut i = 0;
-    'columns: while i < n {
+    for i in 0..t.kept() {
         let rules = tables::rules_at(columns, i);
         if !ranges::takes(rules, row[i]) {
-            within = false;
-            break 'columns;
+            return false;
         }
-        i += 1;
     }
-    within
+    true
 }
 
 // Whether a row is zero behind the numbers that the book keeps of it.
@@ -42,16 +36,12 @@ fn rest_zero(kept: usize, row: Row) -> bool
     requires { kept ≤ row_numbers }
     ensures { result ≡ same row (wide (take kept row)) }
 {
-    let mut zero = true;
-    let mut i = kept;
-    'columns: while i < NUMBERS {
+    for i in kept..NUMBERS {
         if row[i] != 0 {
-            zero = false;
-            break 'columns;
+            return false;
         }
-        i += 1;
     }
-    zero
+    true
 }
 
 // Whether a row could stand in its table of this book.
@@ -59,23 +49,10 @@ fn is_lawful(book: &[Row], t: Table, columns: &Columns, row: Row) -> bool
     requires { Sound book.now × Referable t (book_of book.now) × (columns.now ≡ listed (book_of book.now).edition t) }
     ensures { result ≡ lawful t (book_of book.now) row }
 {
-    let kept = t.kept();
-    if !rest_zero(kept, row) {
-        return false;
-    }
-    if !in_ranges(t, columns, row) {
-        return false;
-    }
-    if rules::time_fault(t, row) {
-        return false;
-    }
-    match rules::unknown_reference(book, t, row) {
-        Check::Passes => true,
-        Check::Fails {
-            number: _,
-            column: _,
-        } => false,
-    }
+    rest_zero(t.kept(), row)
+        && in_ranges(t, columns, row)
+        && !rules::time_fault(t, row)
+        && rules::unknown_reference(book, t, row).is_ok()
 }
 
 fn lawful_rows(book: &[Row], t: Table) -> bool
@@ -84,18 +61,12 @@ fn lawful_rows(book: &[Row], t: Table) -> bool
 {
     let edition = book::edition_of(book);
     let columns = t.column_rules(edition);
-    let n = book::count_rows(book, t);
-    let mut good = true;
-    let mut i = 0;
-    'rows: while i < n {
-        let row = book::row_at(book, t, i);
-        if !is_lawful(book, t, &columns, row) {
-            good = false;
-            break 'rows;
+    for row in book::rows_of(book, t) {
+        if !is_lawful(book, t, &columns, *row) {
+            return false;
         }
-        i += 1;
     }
-    good
+    true
 }
 
 // Whether a part of the book holds its table.
@@ -103,9 +74,7 @@ fn holding(book: &[Row], t: Table) -> bool
     requires { length book.now ≡ book_rows }
     ensures { result ≡ holds (key_width t) (part t book.now) }
 {
-    let k = t.keys();
-    let table = book::table_of(book, t);
-    rows::holding(table, k)
+    rows::holding(book::table_of(book, t), t.keys())
 }
 
 // Whether the row of marks is that of an edition.
@@ -114,32 +83,22 @@ fn marked(book: &[Row]) -> bool
     ensures { result ≡ same (get_or book.now marks_at []) (marks (book_of book.now).edition) }
 {
     let row = book[MARKS];
-    if row[0] > book::MARK_23 {
-        return false;
-    }
-    rest_zero(1, row)
+    row[0] <= book::MARK_23 && rest_zero(1, row)
 }
 
 // Whether a slice holds the tables and an edition, where nobody vouches for it.
 fn all_tables(book: &[Row]) -> bool
     ensures { (result ≡ true → Sound book.now) × (result ≡ false → keeps_rule book.now ≡ false) }
 {
-    if book.len() != BOOK_ROWS {
+    if book.len() != BOOK_ROWS || !marked(book) {
         return false;
     }
-    if !marked(book) {
-        return false;
-    }
-    let mut good = true;
-    let mut i = 0;
-    'tables: while i < Table::COUNT {
-        if !holding(book, Table::in_order(i)) {
-            good = false;
-            break 'tables;
+    for t in &Table::ORDER {
+        if !holding(book, *t) {
+            return false;
         }
-        i += 1;
     }
-    good
+    true
 }
 
 // 16: the test of the book rule, for any slice.
@@ -149,14 +108,10 @@ pub fn keeps_rule(book: &[Row]) -> bool
     if !all_tables(book) {
         return false;
     }
-    let mut good = true;
-    let mut i = 0;
-    'tables: while i < Table::COUNT {
-        if !lawful_rows(book, Table::in_order(i)) {
-            good = false;
-            break 'tables;
+    for t in &Table::ORDER {
+        if !lawful_rows(book, *t) {
+            return false;
         }
-        i += 1;
     }
-    good
+    true
 }

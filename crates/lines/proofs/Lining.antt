@@ -1,23 +1,24 @@
 -- The lines of a text from a place on: where the first one ends, and that the others follow it. Assumes nothing.
 use mathlib.Core.Path.{◌≡◌, refl, ap, sym, ◌∙◌}
 use mathlib.Core.List.{[], ◌∷◌, List}
-use mathlib.Core.Bool.{Bool, true, false, ◌&&◌, ◌||◌, not}
+use mathlib.Core.Bool.{Bool, true, false, ◌&&◌, not}
 use Prim.Native.Nat.{ℕ, ◌<◌, suc, ◌+◌, ◌≤◌, zero, ◌-◌}
 use native.Mathlib.Omega.{arith}
 use lib.ListN.{length, drop, get_or, drop_of_length-le, length-drop, take}
 use lib.Dec.{eqb, ltb}
 use lib.Seq.{get_or-drop, drop-drop, drop-nil, take-nil}
-use borrow.Author.Tests.{ne_eqb, eq-eqb, eqb-true}
+use borrow.Author.Tests.{ne_eqb, eq-eqb, eqb-true, lt-ltb, le-ltb, ltb-true, ltb-false}
+use Rattle.std.specs.Prelude.{count_by, cond}
+use Rattle.std.proofs.lemmas.List.Recursion.{is_count_by}
 use Rattle.words.specs.Words.{Bytes, whether◌then◌else◌}
 use Rattle.words.proofs.Lists.{drop_step}
 use Rattle.editions.specs.declared.Edition.{Edition}
 use Rattle.editions.specs.declared.Edition.TheVariants.{Dino21}
-use Rattle.cells.specs.Cells.{inside, breaks_stand, next}
-use Rattle.cells.specs.declared.Kind.TheVariants.{Control, Other}
+use Rattle.cells.specs.Cells.{inside, breaks_stand}
 use Rattle.cells.specs.declared.State.{State}
 use Rattle.cells.specs.declared.State.TheVariants.{Fresh, Plain, Inside, Closed, Over, Fault}
 use Rattle.lines.specs.Ends.{slip_length, slip_room, feed_from, line_room, line_length, line_at, slip_line_at}
-use Rattle.lines.specs.Lines.{quoting_behind, onto, lines, lines_from, slip_lines, head_line, row_lines, quoting, resumed, from, ends_row, end_next, feeds}
+use Rattle.lines.specs.Lines.{quoting_behind, onto, lines, lines_from, slip_lines, head_line, row_lines, quoting, from, ends_row, end_next, feeds}
 use Rattle.lines.specs.declared.Line.{Line}
 
 -- a slip's lines ------------------------------------------------------------------------------------------------------------------
@@ -116,22 +117,6 @@ from_on Closed on = refl
 from_on Over on = refl
 from_on Fault on = refl
 
--- every byte that is no quote and no semicolon leaves them alike
-pub any_byte : (q : State) (b : ℕ) → (b ≡ 34 → ⊥) → (b ≡ 59 → ⊥) → quoting q 97 ≡ quoting q b
-any_byte q b n m = rw (ne_eqb b 34 n, ne_eqb b 59 m) (go q (ltb b 32 || eqb b 127))
-  where
-    go : (s : State) (u : Bool) → resumed s (next s Other) ≡ resumed s (next s (whether u then Control else Other))
-    go Fresh true = refl
-    go Fresh false = refl
-    go Plain true = refl
-    go Plain false = refl
-    go Inside true = refl
-    go Inside false = refl
-    go Closed true = refl
-    go Closed false = refl
-    go Over u = refl
-    go Fault u = refl
-
 -- a carriage return neither opens nor closes quotes
 return_inside : (s : State) → inside (quoting s 13) ≡ inside s
 return_inside Fresh = refl
@@ -184,26 +169,14 @@ module _ (e : Edition) (q : State) (s : Bytes) (i : ℕ) where
   unfolding quoting_behind
   behind_none h = rw (drop_of_length-le s h)
 
--- the line feeds of a row, byte by byte
-module _ (s : Bytes) (i : ℕ) where
-  pub feeds_on : i < length s → feeds (drop i s) ≡ (whether eqb (get_or s i 0) 10 then 1 else 0) + feeds (drop (i + 1) s)
-  unfolding feeds
-  feeds_on h = rw (drop_step 0 s i h) (go (eqb (get_or s i 0) 10))
-    where
-      go : (t : Bool) → (whether t then suc (feeds (drop (i + 1) s)) else feeds (drop (i + 1) s)) ≡ (whether t then 1 else 0) + feeds (drop (i + 1) s)
-      go true = omega arith
-      go false = omega arith
-
-  pub feeds_none : length s ≤ i → feeds (drop i s) ≡ 0
-  unfolding feeds
-  feeds_none h = rw (drop_of_length-le s h)
-
-  pub one_at_most : (whether eqb (get_or s i 0) 10 then 1 else 0) ≤ 1
-  one_at_most = go (eqb (get_or s i 0) 10)
-    where
-      go : (t : Bool) → (whether t then 1 else 0) ≤ 1
-      go true = omega arith
-      go false = omega arith
+-- the line feeds of a row are counted
+pub feeds_counted : (s : Bytes) → count_by (λ (b : ℕ). eqb b 10) s ≡ feeds s
+unfolding feeds
+feeds_counted s = sym (is_count_by feeds (λ (b : ℕ). eqb b 10) refl (λ b bs. go (eqb b 10) (feeds bs)) s)
+  where
+    go : (t : Bool) (n : ℕ) → (whether t then suc n else n) ≡ cond t (1 + n) n
+    go true n = omega arith
+    go false n = refl
 
 -- a table's lines -----------------------------------------------------------------------------------------------------------------------
 
@@ -308,12 +281,13 @@ module _ (e : Edition) where
     lined : (n m : ℕ) → n ≡ at + line_length e Fresh (drop at s) → m ≡ at + line_room e Fresh (drop at s) → ◌≡◌ {A = Line} (record { end = n; next = m }) (line_at e s at)
     lined n m p q = rw (p, q)
 
-    pub line_last : length s ≤ feed → ◌≡◌ {A = Line} (record { end = feed; next = feed }) (line_at e s at)
+    pub line_last : length s ≤ feed → ◌≡◌ {A = Line} (record { end = feed; next = whether ltb feed (length s) then feed + 1 else feed }) (line_at e s at)
     line_last h =
-        lined feed feed (rw (length_last Fresh (drop at s) (rw length-drop (omega arith))) is) (rw (room_last Fresh (drop at s) (rw length-drop (omega arith))) is)
+        rw (le-ltb feed (length s) h)
+        (lined feed feed (rw (length_last Fresh (drop at s) (rw length-drop (omega arith))) is) (rw (room_last Fresh (drop at s) (rw length-drop (omega arith))) is))
 
-    pub line_fed : feed < length s → (n : ℕ) → n ≡ at + line_length e Fresh (drop at s) → ◌≡◌ {A = Line} (record { end = n; next = feed + 1 }) (line_at e s at)
-    line_fed h n p = lined n (feed + 1) p (rw (room_fed Fresh (drop at s) (rw length-drop (omega arith))) (omega arith))
+    pub line_fed : feed < length s → (n : ℕ) → n ≡ at + line_length e Fresh (drop at s) → ◌≡◌ {A = Line} (record { end = n; next = whether ltb feed (length s) then feed + 1 else feed }) (line_at e s at)
+    line_fed h n p = rw (lt-ltb feed (length s) h) (lined n (feed + 1) p (rw (room_fed Fresh (drop at s) (rw length-drop (omega arith))) (omega arith)))
 
     pub end_empty : feed ≤ at → feed ≡ at + line_length e Fresh (drop at s)
     end_empty h = rw (length_empty Fresh (drop at s) (omega arith)) (omega arith)
@@ -474,8 +448,9 @@ module _ (s : Bytes) (at feed : ℕ) (is : feed ≡ at + slip_length (drop at s)
   slip_lined : (n : ℕ) → n ≡ at + slip_room (drop at s) → ◌≡◌ {A = Line} (record { end = feed; next = n }) (slip_line_at s at)
   slip_lined n q = rw (is, q)
 
-  pub slip_line_last : length s ≤ feed → ◌≡◌ {A = Line} (record { end = feed; next = feed }) (slip_line_at s at)
-  slip_line_last h = slip_lined feed (rw (slip_room_last (drop at s) (rw length-drop (omega arith))) is)
-
-  pub slip_line_fed : feed < length s → ◌≡◌ {A = Line} (record { end = feed; next = feed + 1 }) (slip_line_at s at)
-  slip_line_fed h = slip_lined (feed + 1) (rw (slip_room_fed (drop at s) (rw length-drop (omega arith))) (omega arith))
+  pub slip_line_lem : ◌≡◌ {A = Line} (record { end = feed; next = whether ltb feed (length s) then feed + 1 else feed }) (slip_line_at s at)
+  slip_line_lem = go (ltb feed (length s)) refl
+    where
+      go : (t : Bool) → ltb feed (length s) ≡ t → ◌≡◌ {A = Line} (record { end = feed; next = whether t then feed + 1 else feed }) (slip_line_at s at)
+      go true h = let l = ltb-true feed (length s) h in slip_lined (feed + 1) (rw (slip_room_fed (drop at s) (rw length-drop (omega arith))) (omega arith))
+      go false h = let l = ltb-false feed (length s) h in slip_lined feed (rw (slip_room_last (drop at s) (rw length-drop (omega arith))) is)

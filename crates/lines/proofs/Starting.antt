@@ -145,7 +145,7 @@ breaks_feeds Dino21 t = sym (none_inside Fresh t)
 breaks_feeds Dino23 t = refl
 
 -- a row has fewer breaks than bytes of its room
-feeds_most : (xs : Bytes) → feeds xs ≤ length xs
+pub feeds_most : (xs : Bytes) → feeds xs ≤ length xs
 unfolding feeds
 feeds_most [] = omega arith
 feeds_most (b ∷ bs) = go (eqb b 10) (feeds_most bs)

@@ -1,7 +1,7 @@
 // The lines of a text.
 #![tactic(auto)]
 
-ghost use Rattle.std.specs.Prelude.{◌≡◌, not, ◌+◌, ◌<◌, ◌≤◌, ◌^◌, eqb, drop, length};
+ghost use Rattle.std.specs.Prelude.{◌≡◌, not, ◌+◌, ◌<◌, ◌≤◌, ◌^◌, eqb, ltb, drop, length};
 ghost use Rattle.words.specs.Words.{whether◌then◌else◌};
 ghost use Rattle.editions.specs.declared.Edition.{Edition};
 ghost use Rattle.cells.specs.Cells.{inside, breakable};
@@ -33,108 +33,52 @@ const CARRIAGE_RETURN: u8 = 13;
 fn line_feed(text: &[u8], at: usize) -> usize
     ensures { result ≡ at + slip_length (drop at text.now) }
 {
-    let mut i = at;
-    'bytes: while i < text.len() {
+    for i in at..text.len() {
         if text[i] == LINE_FEED {
             return i;
         }
-        i += 1;
     }
-    i
+    at.max(text.len())
 }
 
-// How the quotes of a row stand behind a quote.
-fn behind_quote(s: State) -> State
-    ensures { result ≡ quoting s 34 }
-{
-    match s {
-        State::Fresh => State::Inside,
-        State::Plain => State::Plain,
-        State::Inside => State::Closed,
-        State::Closed => State::Inside,
-        State::Over => State::Plain,
-        State::Fault => State::Plain,
-    }
-}
-
-// Behind a semicolon.
-fn behind_semicolon(s: State) -> State
-    ensures { result ≡ quoting s 59 }
-{
-    match s {
-        State::Inside => State::Inside,
-        State::Fresh => State::Fresh,
-        State::Plain => State::Fresh,
-        State::Closed => State::Fresh,
-        State::Over => State::Plain,
-        State::Fault => State::Plain,
-    }
-}
-
-// Behind any other byte.
-fn behind_other(s: State) -> State
-    ensures { result ≡ quoting s 97 }
-{
-    match s {
-        State::Inside => State::Inside,
-        State::Fresh => State::Plain,
-        State::Plain => State::Plain,
-        State::Closed => State::Plain,
-        State::Over => State::Plain,
-        State::Fault => State::Plain,
-    }
-}
-
-// Behind one more byte.
+// How the quotes of a row stand behind one more byte.
 fn behind(s: State, b: u8) -> State
     ensures { result ≡ quoting s b }
 {
-    if b == 34 {
-        return behind_quote(s);
+    match (b, s) {
+        (b'"', State::Fresh | State::Closed) => State::Inside,
+        (b'"', State::Inside) => State::Closed,
+        (b';', State::Fresh | State::Plain | State::Closed) => State::Fresh,
+        (_, State::Inside) => State::Inside,
+        _ => State::Plain,
     }
-    if b == 59 {
-        return behind_semicolon(s);
-    }
-    behind_other(s)
 }
 
 fn is_inside(s: State) -> bool
     ensures { result ≡ inside s }
 {
-    match s {
-        State::Inside => true,
-        State::Fresh => false,
-        State::Plain => false,
-        State::Closed => false,
-        State::Over => false,
-        State::Fault => false,
-    }
+    s == State::Inside
 }
 
 // Whether a byte ends a row by 2.3: a line feed outside quotes.
 fn ends_row(s: State, b: u8) -> bool
     ensures { result ≡ ends_row Edition.Dino23 s b }
 {
-    if b == LINE_FEED {
-        return !is_inside(s);
-    }
-    false
+    b == LINE_FEED && !is_inside(s)
 }
 
 // By 2.3 the line feed that ends a row whose quotes stand so at a place, or the text's end.
 fn quoted_feed(text: &[u8], at: usize, state: State) -> usize
     ensures { result ≡ at + feed_from Edition.Dino23 state (drop at text.now) }
 {
-    let mut i = at;
     let mut s = state;
-    'bytes: while i < text.len() {
+    for i in at..text.len() {
         if ends_row(s, text[i]) {
             return i;
         }
         s = behind(s, text[i]);
-        i += 1;
     }
-    i
+    at.max(text.len())
 }
 
 // The line feed that ends a row whose quotes stand so at a place, or the text's end. By 2.1 quotes do not matter.
@@ -152,10 +96,8 @@ pub fn quotes_behind(bytes: &[u8]) -> State
     ensures { result ≡ quoting_behind Fresh bytes.now }
 {
     let mut s = State::Fresh;
-    let mut i = 0;
-    'bytes: while i < bytes.len() {
-        s = behind(s, bytes[i]);
-        i += 1;
+    for b in bytes {
+        s = behind(s, *b);
     }
     s
 }
@@ -165,13 +107,18 @@ fn before_return(text: &[u8], at: usize, feed: usize) -> usize
     requires { feed < length text.now }
     ensures { (e : Edition) → feed ≡ at + feed_from e Fresh (drop at text.now) → result ≡ at + line_length e Fresh (drop at text.now) }
 {
-    if feed <= at {
-        return feed;
+    if at < feed && text[feed - 1] == CARRIAGE_RETURN {
+        feed - 1
+    } else {
+        feed
     }
-    if text[feed - 1] == CARRIAGE_RETURN {
-        return feed - 1;
-    }
-    feed
+}
+
+// Where the next line begins: behind this one's line feed, or at the text's end, behind which none begins.
+fn behind_feed(text: &[u8], feed: usize) -> usize
+    ensures { result ≡ (whether ltb feed (length text.now) then feed + 1 else feed) }
+{
+    if feed < text.len() { feed + 1 } else { feed }
 }
 
 // The line of a table's text that begins at a place.
@@ -179,16 +126,13 @@ pub fn next_line(edition: Edition, text: &[u8], at: usize) -> Line
     ensures { result ≡ line_at edition text.now at }
 {
     let feed = row_feed(edition, text, at, State::Fresh);
+    let next = behind_feed(text, feed);
     if text.len() <= feed {
-        return Line {
-            end: feed,
-            next: feed,
-        };
+        return Line { end: feed, next };
     }
-    let end = before_return(text, at, feed);
     Line {
-        end,
-        next: feed + 1,
+        end: before_return(text, at, feed),
+        next,
     }
 }
 
@@ -197,29 +141,17 @@ pub fn next_slip_line(text: &[u8], at: usize) -> Line
     ensures { result ≡ slip_line_at text.now at }
 {
     let end = line_feed(text, at);
-    if text.len() <= end {
-        return Line { end, next: end };
+    Line {
+        end,
+        next: behind_feed(text, end),
     }
-    Line { end, next: end + 1 }
-}
-
-fn feed_counted(b: u8) -> u64
-    ensures { result ≡ (whether eqb b 10 then 1 else 0) }
-{
-    if b == LINE_FEED { 1 } else { 0 }
 }
 
 // How many line feeds stand in some bytes.
 fn feeds_in(bytes: &[u8]) -> u64
     ensures { (result ≡ feeds bytes.now) × (result ≤ length bytes.now) }
 {
-    let mut n: u64 = 0;
-    let mut i = 0;
-    'bytes: while i < bytes.len() {
-        n += feed_counted(bytes[i]);
-        i += 1;
-    }
-    n
+    bytes.iter().filter(|b| **b == LINE_FEED).count() as u64
 }
 
 // How many breaks stand in a row.

@@ -5,10 +5,7 @@ ghost use Rattle.std.specs.Prelude.{◌≡◌, [], ◌∷◌, ◌++◌, map, ◌
 ghost use Rattle.cells.specs.Cells.{parted};
 ghost use Rattle.numbers.specs.Putting.{put};
 ghost use Rattle.numbers.specs.Numbers.{decimal};
-ghost use Rattle.numbers.specs.Powers.{powers_of_ten};
 ghost use Rattle.rows.specs.Rows.{row_numbers};
-
-use numbers::Powers;
 
 pub const LINE_FEED: u8 = 10;
 
@@ -17,20 +14,19 @@ pub fn write_bytes(out: &mut [u8], bytes: &[u8]) -> usize
     requires { length bytes.now ≤ length out.old }
     ensures { (result ≡ length bytes.now) × (out.new ≡ put bytes.now out.old) }
 {
-    let mut i = 0;
-    'bytes: while i < bytes.len() {
-        out[i] = bytes[i];
-        i += 1;
+    // Not by `copy_from_slice`: it goes through a type of the library that has a method with a division, and scripts/undivided takes none in a writing.
+    for (i, byte) in bytes.iter().enumerate() {
+        out[i] = *byte;
     }
-    i
+    bytes.len()
 }
 
 // A number, and the byte that ends its cell.
-fn write_cell(out: &mut [u8], n: u64, end: u8, powers: &Powers) -> usize
-    requires { (length (decimal n) + 1 ≤ length out.old) × (powers.now ≡ powers_of_ten) }
+fn write_cell(out: &mut [u8], n: u64, end: u8) -> usize
+    requires { length (decimal n) + 1 ≤ length out.old }
     ensures { (result ≡ length (decimal n) + 1) × (out.new ≡ put (decimal n ++ (end ∷ [])) out.old) }
 {
-    let at = numbers::write_number(out, n, powers);
+    let at = numbers::write_number(out, n);
     out[at] = end;
     at + 1
 }
@@ -41,10 +37,8 @@ pub fn numbers_length(numbers: &[u64]) -> usize
     ensures { ((separator : ℕ) → result ≡ length (parted separator (map decimal numbers.now)) + 1) × (result ≤ length numbers.now * 21) }
 {
     let mut size = 0;
-    let mut i = 0;
-    'numbers: while i < numbers.len() {
-        size += numbers::digit_count(numbers[i]) + 1;
-        i += 1;
+    for n in numbers {
+        size += numbers::digit_count(*n) + 1;
     }
     size
 }
@@ -54,13 +48,12 @@ pub fn write_numbers(out: &mut [u8], numbers: &[u64], separator: u8) -> usize
     requires { (1 ≤ length numbers.now) × (length (parted separator (map decimal numbers.now)) + 1 ≤ length out.old) }
     ensures { (result ≡ length (parted separator (map decimal numbers.now)) + 1) × (out.new ≡ put (parted separator (map decimal numbers.now) ++ (10 ∷ [])) out.old) }
 {
-    let powers = numbers::powers_of_ten();
-    let last = numbers.len() - 1;
+    let Some((last, others)) = numbers.split_last() else {
+        unreachable!();
+    };
     let mut at = 0;
-    let mut i = 0;
-    'numbers: while i < last {
-        at += write_cell(&mut out[at..], numbers[i], separator, &powers);
-        i += 1;
+    for n in others {
+        at += write_cell(&mut out[at..], *n, separator);
     }
-    at + write_cell(&mut out[at..], numbers[last], LINE_FEED, &powers)
+    at + write_cell(&mut out[at..], *last, LINE_FEED)
 }

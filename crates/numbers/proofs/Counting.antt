@@ -7,7 +7,7 @@ use native.Mathlib.Numerals.{add-one}
 use lib.ListN.{length}
 use Rattle.numbers.specs.Numbers.{decimal}
 use Rattle.numbers.proofs.Decimals.{power_le}
-use Rattle.numbers.proofs.Writing.{decimal_more_length, decimal_some, decimal_width, decimal_short}
+use Rattle.numbers.proofs.Writing.{decimal_more_length, decimal_some, decimal_width}
 
 -- a number that reaches a power of ten has more digits than the power
 pub decimal_long : (w n : ℕ) → 10 ^ w ≤ n → w + 1 ≤ length (decimal n)
@@ -21,12 +21,5 @@ pub decimal_exact : (w n : ℕ) → 1 ≤ w → w ≤ length (decimal n) → n <
 decimal_exact zero n some long h = absurd (omega arith)
 decimal_exact (suc w) n some long h = omega (arith, decimal_width w n h)
 
-pub decimal_full : (n : ℕ) → 10 ^ 19 ≤ n → n < 2 ^ 64 → 20 ≡ length (decimal n)
-decimal_full n h fits = omega (arith, decimal_long 19 n h, decimal_short n fits)
-
 pub power_next : (b w : ℕ) → b ≡ 10 ^ w → b * 10 ≡ 10 ^ (w + 1)
 power_next b w e = rw (add-one, pow-suc) (omega arith)
-
--- below 19 the next power has room in 64 bits
-pub power_fits : (b w : ℕ) → b ≡ 10 ^ w → w < 19 → b * 10 < 2 ^ 64
-power_fits b w e h = omega (arith, power_le w 18 (omega arith))

@@ -9,24 +9,24 @@ use native.Mathlib.Nat.{pow-suc, pow-le-pow_right}
 use lib.ListN.{length, drop, get_or, drop_of_length-le}
 use lib.Dec.{lit<, leb}
 use borrow.Author.Tests.{le-leb, lt-leb, leb-true}
+use Rattle.std.specs.Prelude.{Option, Some, None}
+use Rattle.std.specs.Char.{is_ascii_digit}
 use Rattle.words.specs.Words.{Bytes, whether◌then◌else◌}
 use Rattle.words.proofs.Lists.{drop_step}
 use Rattle.numbers.specs.Numbers.{all_digits, value_from, is_decimal, value}
-use Rattle.numbers.specs.declared.Digits.{Digits}
-use Rattle.numbers.specs.declared.Digits.TheVariants.{Other, Value}
 use Rattle.numbers.specs.Decimals.{decimal_of}
 
 -- what is read of a number n with the rest of its digits behind it
-abbrev pub read_from : ℕ → Bytes → Digits
-read_from n s = whether all_digits s then Value (value_from n s) else Other
+abbrev pub read_from : ℕ → Bytes → Option ℕ
+read_from n s = whether all_digits s then Some (value_from n s) else None
 
 -- by the length alone
 module _ (width : ℕ) (s : Bytes) where
-  pub decimal_empty : length s ≡ 0 → decimal_of width s ≡ Other
+  pub decimal_empty : length s ≡ 0 → decimal_of width s ≡ None
   unfolding decimal_of
   decimal_empty h = simp (lt-leb 1 (length s) (omega arith))
 
-  pub decimal_long : width < length s → decimal_of width s ≡ Other
+  pub decimal_long : width < length s → decimal_of width s ≡ None
   unfolding decimal_of
   decimal_long h = simp (lt-leb (length s) width h, and-false)
 
@@ -36,21 +36,17 @@ module _ (width : ℕ) (s : Bytes) where
 
 -- one byte of a decimal
 module _ (s : Bytes) (i n : ℕ) where
-  pub read_end : length s ≤ i → read_from n (drop i s) ≡ Value n
+  pub read_end : length s ≤ i → read_from n (drop i s) ≡ Some n
   unfolding all_digits value_from
   read_end h = rw (drop_of_length-le s h)
 
-  pub read_low : i < length s → get_or s i 0 < 48 → read_from n (drop i s) ≡ Other
+  pub read_none : i < length s → is_ascii_digit (get_or s i 0) ≡ false → read_from n (drop i s) ≡ None
   unfolding all_digits
-  read_low h l = simp (drop_step 0 s i h, lt-leb 48 (get_or s i 0) l)
+  read_none h e = rw (drop_step 0 s i h, e)
 
-  pub read_high : i < length s → 57 < get_or s i 0 → read_from n (drop i s) ≡ Other
-  unfolding all_digits
-  read_high h g = simp (drop_step 0 s i h, lt-leb (get_or s i 0) 57 g, and-false)
-
-  pub read_digit : i < length s → 48 ≤ get_or s i 0 → get_or s i 0 ≤ 57 → read_from n (drop i s) ≡ read_from (n * 10 + (get_or s i 0 - 48)) (drop (i + 1) s)
+  pub read_digit : i < length s → is_ascii_digit (get_or s i 0) ≡ true → read_from n (drop i s) ≡ read_from (n * 10 + (get_or s i 0 - 48)) (drop (i + 1) s)
   unfolding all_digits value_from
-  read_digit h l g = simp (drop_step 0 s i h, le-leb 48 (get_or s i 0) l, le-leb (get_or s i 0) 57 g)
+  read_digit h e = rw (drop_step 0 s i h, e)
 
 -- one digit more, and what the widest number comes to
 pub digit_more : (n d i : ℕ) → n < 10 ^ i → d ≤ 9 → n * 10 + d < 10 ^ (i + 1)
@@ -72,14 +68,14 @@ first_digit b bs h =
     (leb-true 48 b d.0, leb-true b 57 d.1, d.2)
 
 -- what a value that was read tells
-pub decimal_value : (width : ℕ) (s : Bytes) (v : ℕ) → decimal_of width s ≡ Value v → (is_decimal width s ≡ true) × (value s ≡ v)
+pub decimal_value : (width : ℕ) (s : Bytes) (v : ℕ) → decimal_of width s ≡ Some v → (is_decimal width s ≡ true) × (value s ≡ v)
 unfolding decimal_of
 decimal_value width s v e = go (is_decimal width s) refl e
   where
-    go : (t : Bool) → is_decimal width s ≡ t → (whether t then Value (value s) else Other) ≡ Value v → (is_decimal width s ≡ true) × (value s ≡ v)
+    go : (t : Bool) → is_decimal width s ≡ t → (whether t then Some (value s) else None) ≡ Some v → (is_decimal width s ≡ true) × (value s ≡ v)
     go true p q = (p, cc)
     go false p q = let w : ◌≡◌ {A = ℕ} 0 1 = cc in absurd (omega arith)
 
-pub no_decimal : (width : ℕ) (s : Bytes) → all_digits s ≡ false → decimal_of width s ≡ Other
+pub no_decimal : (width : ℕ) (s : Bytes) → all_digits s ≡ false → decimal_of width s ≡ None
 unfolding decimal_of
 no_decimal width s h = simp (h, and-false)

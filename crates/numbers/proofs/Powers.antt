@@ -3,14 +3,14 @@ use mathlib.Core.Path.{◌≡◌, refl, ap, sym, ◌∙◌}
 use mathlib.Core.Bool.{Bool, true, false}
 use mathlib.Core.List.{[], ◌∷◌, ◌++◌}
 use Prim.Native.Nat.{ℕ, zero, suc, ◌+◌, ◌-◌, ◌*◌, ◌/◌, ◌%◌, ◌^◌, ◌≤◌, ◌<◌}
-use native.Mathlib.Nat.{pow-suc, mul_assoc, mul_comm, add-mul, lt_of_mul-lt-mul_right}
+use native.Mathlib.Nat.{pow-suc, mul_assoc}
 use native.Mathlib.Numerals.{add-one}
 use native.Mathlib.Omega.{arith}
 use lib.ListN.{length, get_or, drop, take, set, length-set}
 use lib.Seq.{take_all}
 use lib.Dec.{leb}
-use borrow.Author.Tests.{leb-true, leb-false, lt-leb}
-use Rattle.words.specs.Words.{Bytes, whether◌then◌else◌}
+use borrow.Author.Tests.{leb-true, leb-false}
+use Rattle.words.specs.Words.{Bytes}
 use Rattle.words.proofs.Lists.{drop_step}
 use Rattle.numbers.specs.Numbers.{decimal}
 use Rattle.numbers.specs.Powers.{powers_from, powers_of_ten}
@@ -31,52 +31,6 @@ power_at k h = power_from 19 1 k h ∙ omega arith
 
 pub power_next_left : (w i : ℕ) → i < w → 10 ^ (w - i) ≡ 10 * 10 ^ (w - 1 - i)
 power_next_left w i h = let e : w - i ≡ suc (w - 1 - i) = omega arith in rw e (omega (arith, pow-suc 10 (w - 1 - i)))
-
--- an amount is in there so many times, and not once more
-abbrev pub Times : ℕ → ℕ → ℕ → Type 0
-Times a l k = (k * a ≤ l) × (l - k * a < a)
-
--- what a test tells
-abbrev Told : ℕ → ℕ → Bool → Type 0
-Told a l true = a ≤ l
-Told a l false = l < a
-
-told : (a l : ℕ) (b : Bool) → leb a l ≡ b → Told a l b
-told a l true e = leb-true a l e
-told a l false e = leb-false a l e
-
-abbrev one : Bool → ℕ
-one b = whether b then 1 else 0
-
--- the multiples that are reached, added up
-pub three_multiples : (a l x y z : ℕ) → l < a * 4 → x ≡ one (leb a l) → y ≡ one (leb (a * 2) l) → z ≡ one (leb (a * 3) l) → Times a l (x + y + z)
-three_multiples a l x y z h ex ey ez =
-    rw (ex, ey, ez) (go (leb a l) (leb (a * 2) l) (leb (a * 3) l) (told a l _ refl) (told (a * 2) l _ refl) (told (a * 3) l _ refl))
-  where
-    go : (b c d : Bool) → Told a l b → Told (a * 2) l c → Told (a * 3) l d → Times a l (one b + one c + one d)
-    go true true true p q r = (omega arith, omega arith)
-    go true true false p q r = (omega arith, omega arith)
-    go true false true p q r = (omega arith, omega arith)
-    go true false false p q r = (omega arith, omega arith)
-    go false true true p q r = (omega arith, omega arith)
-    go false true false p q r = (omega arith, omega arith)
-    go false false true p q r = (omega arith, omega arith)
-    go false false false p q r = (omega arith, omega arith)
-
--- of two, where a third is out of reach
-pub two_multiples : (a l x y : ℕ) → l < a * 3 → x ≡ one (leb a l) → y ≡ one (leb (a * 2) l) → Times a l (x + y)
-two_multiples a l x y h ex ey =
-    let none : 0 ≡ one (leb (a * 3) l) = rw (lt-leb (a * 3) l h) in
-    let all = three_multiples a l x y 0 (omega arith) ex ey none in
-    let e : x + y + 0 ≡ x + y = omega arith in
-    rw e at all
-
--- a digit of fours and ones, with what is left behind both
-pub digit_whole : (n p f o : ℕ) → f * (p * 4) ≤ n → o * p ≤ n - f * (p * 4) → (f * 4 + o) * p + (n - f * (p * 4) - o * p) ≡ n
-digit_whole n p f o h k = omega (arith, add-mul (f * 4) o p, mul_assoc f 4 p, mul_comm p 4)
-
-pub digit_below : (d l n p : ℕ) → d * p + l ≡ n → n < 10 * p → d < 10
-digit_below d l n p e h = lt_of_mul-lt-mul_right p (omega arith)
 
 -- the last digits of a number, so many that zeros may lead
 unfoldable pub padded : ℕ → ℕ → Bytes
@@ -151,11 +105,11 @@ last_written s w o out v i ew room h t =
 
 -- of twenty digits the first is 1
 pub twenty_reach : (n w : ℕ) → w ≡ length (decimal n) → w - 1 ≡ 19 → 10 ^ 19 ≤ n
-twenty_reach n w e h = go (leb (10 ^ 19) n) (told (10 ^ 19) n _ refl)
+twenty_reach n w e h = go (leb (10 ^ 19) n) refl
   where
-    go : (b : Bool) → Told (10 ^ 19) n b → 10 ^ 19 ≤ n
-    go true p = p
-    go false p = absurd (omega (arith, decimal_width 18 n p))
+    go : (b : Bool) → leb (10 ^ 19) n ≡ b → 10 ^ 19 ≤ n
+    go true p = leb-true (10 ^ 19) n p
+    go false p = let below : n < 10 ^ 19 = leb-false (10 ^ 19) n p in absurd (omega (arith, decimal_width 18 n below))
 
 pub first_of_twenty : (n w : ℕ) (o : Bytes) → w ≡ length (decimal n) → w ≤ length o → w - 1 ≡ 19 → n < 2 ^ 64 → Written (decimal n) w o (set o 0 49) (n - 10 ^ 19) 1
 first_of_twenty n w o e room h fits =

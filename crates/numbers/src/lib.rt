@@ -8,12 +8,6 @@ ghost use Rattle.numbers.specs.Numbers.{decimal};
 ghost use Rattle.numbers.specs.Powers.{powers_of_ten};
 ghost use Rattle.numbers.specs.Putting.{put};
 
-#[derive(Clone, Copy)]
-pub enum Digits {
-    Other,
-    Value(u64),
-}
-
 // 10 to the 19 is the last power of ten in 64 bits.
 const LAST_POWER: usize = 19;
 
@@ -22,7 +16,7 @@ const LAST_TEN: u64 = 10000000000000000000;
 // The powers of ten below the last one, by how many digits stand behind theirs.
 pub type Powers = [u64; LAST_POWER];
 
-const POWERS: Powers = [
+static POWERS: Powers = [
     1,
     10,
     100,
@@ -51,67 +45,50 @@ pub struct Digit {
     pub left: u64,
 }
 
-fn wide(byte: u8) -> u64
-    ensures { result ≡ byte }
-{
-    byte as u64
-}
-
 // The value of 1 to `width` digits, for any width of which every number fits 64 bits.
-pub fn number_of(digits: &[u8], width: usize) -> Digits
+pub fn number_of(digits: &[u8], width: usize) -> Option<u64>
     requires { width ≤ 19 }
     ensures { result ≡ decimal_of width digits.now }
 {
-    if digits.len() == 0 {
-        return Digits::Other;
+    if digits.is_empty() || width < digits.len() {
+        return None;
     }
-    if width < digits.len() {
-        return Digits::Other;
-    }
-    let mut v: u64 = 0;
-    let mut i = 0;
-    'digits: while i < digits.len() {
-        let byte = digits[i];
-        if byte < 48 {
-            return Digits::Other;
+    let mut v = 0;
+    for byte in digits {
+        if !byte.is_ascii_digit() {
+            return None;
         }
-        if 57 < byte {
-            return Digits::Other;
-        }
-        v = v * 10 + wide(byte - 48);
-        i += 1;
+        v = v * 10 + u64::from(*byte - b'0');
     }
-    Digits::Value(v)
+    Some(v)
 }
 
 // How many digits n has.
 pub fn digit_count(n: u64) -> usize
     ensures { result ≡ length (decimal n) }
 {
-    let mut count = 1;
-    let mut bound: u64 = 10;
-    'digits: while bound <= n {
-        if count == LAST_POWER {
-            return LAST_POWER + 1;
+    let mut bound = 1;
+    for count in 1..=LAST_POWER {
+        bound *= 10;
+        if n < bound {
+            return count;
         }
-        bound = bound * 10;
-        count += 1;
     }
-    count
+    LAST_POWER + 1
 }
 
-// The powers, to be lent on. A constant is laid out where it is named: this is asked once for a line of numbers.
-pub fn powers_of_ten() -> Powers
-    ensures { result ≡ powers_of_ten }
+// The powers where they stand: a static is read in place, and never laid out.
+pub fn powers_of_ten() -> &'static Powers
+    ensures { result.now ≡ powers_of_ten }
 {
-    POWERS
+    &POWERS
 }
 
 // 1 where an amount is reached, 0 where it is not: a number to add up, nothing to branch on.
 fn reached(amount: u64, left: u64) -> u64
     ensures { (result ≡ (whether leb amount left then 1 else 0)) × (result ≤ 1) }
 {
-    if amount <= left { 1 } else { 0 }
+    u64::from(amount <= left)
 }
 
 // The digit of n at a power of ten, without a division: how many fours of the power are reached, and of what is left how many ones.
@@ -130,25 +107,25 @@ pub fn digit_of(n: u64, power: u64) -> Digit
 }
 
 // The digits of n at the head of the output, the first of them first; answers how many. Of twenty digits the first is 1, and the last digit is what is left.
-pub fn write_number(out: &mut [u8], n: u64, powers: &Powers) -> usize
-    requires { (length (decimal n) ≤ length out.old) × (powers.now ≡ powers_of_ten) }
+pub fn write_number(out: &mut [u8], n: u64) -> usize
+    requires { length (decimal n) ≤ length out.old }
     ensures { (result ≡ length (decimal n)) × (out.new ≡ put (decimal n) out.old) }
 {
     let count = digit_count(n);
     let last = count - 1;
+    let powers = powers_of_ten();
     let mut left = n;
-    let mut i = 0;
+    let mut first = 0;
     if last == LAST_POWER {
-        out[0] = 49;
+        out[0] = b'1';
         left = n - LAST_TEN;
-        i = 1;
+        first = 1;
     }
-    'digits: while i < last {
+    for i in first..last {
         let d = digit_of(left, powers[last - i]);
-        out[i] = 48 + d.digit;
+        out[i] = b'0' + d.digit;
         left = d.left;
-        i += 1;
     }
-    out[last] = 48 + left as u8;
+    out[last] = b'0' + left as u8;
     count
 }

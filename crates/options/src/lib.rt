@@ -5,7 +5,6 @@ ghost use Rattle.std.specs.Prelude.{◌≡◌, ◌≤◌, length};
 ghost use Rattle.options.specs.Options.{edition_said, SaidByWord, day_said, DayByWord};
 
 use editions::Edition;
-use numbers::Digits;
 use std::env::FillError;
 use std::rt::Env;
 
@@ -22,22 +21,15 @@ const WORD_ROOM: usize = 32;
 
 // How many arguments the program was started with, its own name among them.
 fn arg_count(rt: &impl Env) -> usize {
-    for i in 0..usize::MAX {
-        if let Err(FillError::NotPresent) = rt.arg(i, &mut []) {
-            return i;
-        }
-    }
-    usize::MAX
+    (0..usize::MAX)
+        .find(|i| matches!(rt.arg(*i, &mut []), Err(FillError::NotPresent)))
+        .unwrap_or(usize::MAX)
 }
 
-// Puts an argument at the head of a word's room, and returns how many bytes it has: 0 where it is missing or longer than the room.
-fn arg(rt: &impl Env, i: usize, word: &mut [u8]) -> usize
-    ensures { result ≤ length word.new }
-{
-    match rt.arg(i, word) {
-        Ok(n) => n,
-        Err(_) => 0,
-    }
+// An argument, at the head of the room lent: no bytes where it is missing or longer than the room.
+fn arg<'a>(rt: &impl Env, i: usize, room: &'a mut [u8]) -> &'a [u8] {
+    let n = rt.arg(i, room).unwrap_or(0);
+    &room[..n]
 }
 
 // The number of the edition that a word asks for, or of none.
@@ -58,20 +50,11 @@ pub fn edition_said(word: &[u8]) -> u64
 pub fn edition_before(rt: &impl Env, others: usize) -> u64
     ensures { SaidByWord result }
 {
-    let count = arg_count(rt);
-    if count <= others {
-        return edition_said(&SAID_21);
+    match arg_count(rt).saturating_sub(others) {
+        0 | 1 => edition_said(&SAID_21),
+        2 => edition_said(arg(rt, 1, &mut [0; WORD_ROOM])),
+        _ => edition_said(b""),
     }
-    let words = count - others;
-    if words <= 1 {
-        return edition_said(&SAID_21);
-    }
-    if words != 2 {
-        return edition_said(b"");
-    }
-    let mut word = [0u8; WORD_ROOM];
-    let n = arg(rt, 1, &mut word);
-    edition_said(&word[..n])
 }
 
 pub fn edition_asked(rt: &impl Env) -> u64
@@ -87,10 +70,7 @@ const DAY_WIDTH: usize = 8;
 pub fn day_said(word: &[u8]) -> u64
     ensures { result ≡ day_said word.now }
 {
-    match numbers::number_of(word, DAY_WIDTH) {
-        Digits::Value(n) => n,
-        Digits::Other => 0,
-    }
+    numbers::number_of(word, DAY_WIDTH).unwrap_or(0)
 }
 
 // The same for the program's argument so many places from the end, the last being 1.
@@ -101,7 +81,5 @@ pub fn day_asked(rt: &impl Env, place: usize) -> u64
     if count <= place {
         return day_said(b"");
     }
-    let mut word = [0u8; WORD_ROOM];
-    let n = arg(rt, count - place, &mut word);
-    day_said(&word[..n])
+    day_said(arg(rt, count - place, &mut [0; WORD_ROOM]))
 }

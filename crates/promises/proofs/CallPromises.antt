@@ -1,4 +1,5 @@
 -- Demand 1: what the calls answer and leave behind, for good and bad input alike. Assumes nothing.
+use Rattle.std.proofs.Common.{Option, Some, None}
 use mathlib.Core.Path.{◌≡◌, refl, ◌∙◌, ap, sym, subst}
 use mathlib.Core.List.{List, [], ◌∷◌}
 use mathlib.Core.Bool.{false, not, ◌&&◌, Bool, true}
@@ -10,14 +11,11 @@ use borrow.Author.Tests.{eq-eqb, ne_eqb, eqb-true, ltb-false, le-ltb, lt-ltb}
 use Rattle.words.specs.Words.{Row, Bytes, whether◌then◌else◌}
 use Rattle.words.proofs.Lists.{and_left, take_seam}
 use Rattle.refusals.specs.declared.Place.{Place}
-use Rattle.refusals.specs.declared.Verdict.TheVariants.{Refused, Accepted}
-use Rattle.refusals.specs.Verdicts.{◌when◌, nowhere, bad_loan, place, ◌before◌, output_short, paper}
-use Rattle.refusals.specs.declared.Verdict.{Verdict}
+use Rattle.std.specs.Prelude.{Ok, Err}
+use Rattle.refusals.specs.Verdicts.{◌when◌, nowhere, bad_loan, place, ◌before◌, output_short, paper, Verdict}
 use Rattle.numbers.specs.Putting.{put}
 use Rattle.rows.specs.Room.{zeros}
 use Rattle.editions.specs.Editions.{choice}
-use Rattle.editions.specs.declared.Choice.{Choice}
-use Rattle.editions.specs.declared.Choice.TheVariants as choice-is
 use Rattle.editions.specs.declared.Edition.{Edition}
 use Rattle.tables.specs.Parts.{book_rows}
 use Rattle.book.specs.Book.{empty, Book}
@@ -46,17 +44,17 @@ use Rattle.promises.proofs.BackPromises.{reads_back}
 
 -- a reading --------------------------------------------------------------------------------------------------------------
 
-pub read_sized : (n : ℕ) (e : Edition) (d : Delivery) (slice : List Row) → choice n ≡ choice-is.Chosen e → length slice ≡ book_rows → read_call n d slice ≡ read_outcome (reading e d)
+pub read_sized : (n : ℕ) (e : Edition) (d : Delivery) (slice : List Row) → choice n ≡ Some e → length slice ≡ book_rows → read_call n d slice ≡ read_outcome (reading e d)
 read_sized n e d slice c m = rw (eq-eqb (length slice) book_rows m, c)
 
-empties : (r : Result) (p : Place) → (read_outcome r).verdict ≡ Refused p → (read_outcome r).book ≡ laid empty
+empties : (r : Result) (p : Place) → (read_outcome r).verdict ≡ Err p → (read_outcome r).book ≡ laid empty
 empties (refused q) p h = refl
 empties (leaves b) p h = let z : ◌≡◌ {A = ℕ} 0 1 = cc in let y : ⊥ = omega arith in absurd y
 
 -- by what the number chooses
-empties_by : (c : Choice) (d : Delivery) (p : Place) → (read_by c d).verdict ≡ Refused p → (read_by c d).book ≡ laid empty
-empties_by (choice-is.Chosen e) d p h = empties (reading e d) p h
-empties_by choice-is.Unknown d p h = refl
+empties_by : (c : Option Edition) (d : Delivery) (p : Place) → (read_by c d).verdict ≡ Err p → (read_by c d).book ≡ laid empty
+empties_by (Some e) d p h = empties (reading e d) p h
+empties_by None d p h = refl
 
 pub refused_reading_empties : promises.RefusedReadingEmpties
 refused_reading_empties n d slice p m = rw (eq-eqb (length slice) book_rows m) (empties_by (choice n) d p)
@@ -74,7 +72,7 @@ wrong_book_stays n d slice m = let e : eqb (length slice) book_rows ≡ false = 
 
 -- a slip -----------------------------------------------------------------------------------------------------------------
 
-keeps : (r : Result) (book work : List Row) (p : Place) → (slip_outcome r book work).verdict ≡ Refused p → (slip_outcome r book work).book ≡ book
+keeps : (r : Result) (book work : List Row) (p : Place) → (slip_outcome r book work).verdict ≡ Err p → (slip_outcome r book work).book ≡ book
 keeps (refused q) book work p h = refl
 keeps (leaves b) book work p h = let z : ◌≡◌ {A = ℕ} 0 1 = cc in let y : ⊥ = omega arith in absurd y
 
@@ -107,18 +105,18 @@ wrong_work_stays s book work n =
 
 -- the writer -------------------------------------------------------------------------------------------------------------
 
-untouched : (v : Verdict) (s out : Bytes) (p : Place) → (wrote v s out).verdict ≡ Refused p → ((wrote v s out).size ≡ 0) × ((wrote v s out).out ≡ out)
-untouched Accepted s out p h = let z : ◌≡◌ {A = ℕ} 0 1 = cc in let y : ⊥ = omega arith in absurd y
-untouched (Refused q) s out p h = (refl, refl)
+untouched : (v : Verdict) (s out : Bytes) (p : Place) → (wrote v s out).verdict ≡ Err p → ((wrote v s out).size ≡ 0) × ((wrote v s out).out ≡ out)
+untouched (Ok _) s out p h = let z : ◌≡◌ {A = ℕ} 0 1 = cc in let y : ⊥ = omega arith in absurd y
+untouched (Err q) s out p h = (refl, refl)
 
 pub refused_writing_keeps : promises.RefusedWritingKeeps
 refused_writing_keeps book out p h =
     untouched (nowhere (bad_loan when not (keeps_rule book)) before nowhere (output_short when ltb (length out) (length (written (book_of book))))) (written (book_of book)) out p h
 
 pub refused_sheet_keeps : promises.RefusedSheetKeeps
-refused_sheet_keeps Accepted book out p h =
+refused_sheet_keeps (Ok _) book out p h =
     untouched (nowhere (bad_loan when not (keeps_rule book)) before short_for (sheet_text (book_of book)) out) (sheet_text (book_of book)) out p h
-refused_sheet_keeps (Refused q) book out p h = untouched (short_for (refusal_text q) out) (refusal_text q) out p h
+refused_sheet_keeps (Err q) book out p h = untouched (short_for (refusal_text q) out) (refusal_text q) out p h
 
 -- a book that breaks the rule -------------------------------------------------------------------------------------------
 
@@ -140,9 +138,9 @@ read_length n d slice = go (eqb (length slice) book_rows) refl
     long e (refused p) q = (sound_laid empty orderly_empty).long
     long e (leaves b) q = (sound_laid b (standing_orderly b (left_standing b (e, (d, q))))).long
 
-    chosen : (c : Choice) → length (read_by c d).book ≡ book_rows
-    chosen (choice-is.Chosen e) = long e (reading e d) refl
-    chosen choice-is.Unknown = (sound_laid empty orderly_empty).long
+    chosen : (c : Option Edition) → length (read_by c d).book ≡ book_rows
+    chosen (Some e) = long e (reading e d) refl
+    chosen None = (sound_laid empty orderly_empty).long
 
     go : (q : Bool) → eqb (length slice) book_rows ≡ q → length (read_call n d slice).book ≡ length slice
     go true e = rw e (chosen (choice n) ∙ sym (eqb-true (length slice) book_rows e))
@@ -195,13 +193,13 @@ write_length : (book : List Row) (out : Bytes) → length (write_call book out).
 write_length book out = wrote_length (written (book_of book)) out (keeps_rule book) _ refl
 
 sheet_length : (v : Verdict) (book : List Row) (out : Bytes) → length (sheet_call v book out).out ≡ length out
-sheet_length Accepted book out = wrote_length (sheet_text (book_of book)) out (keeps_rule book) _ refl
-sheet_length (Refused p) book out = wrote_length (refusal_text p) out true _ refl
+sheet_length (Ok _) book out = wrote_length (sheet_text (book_of book)) out (keeps_rule book) _ refl
+sheet_length (Err p) book out = wrote_length (refusal_text p) out true _ refl
 
 then_length : (v : Verdict) (s : Bytes) (book work : List Row) →
     (length (then_slip v s book work).book ≡ length book) × (length (then_slip v s book work).work ≡ length work)
-then_length Accepted s book work = (slip_length_lem s book work, work_length s book work)
-then_length (Refused p) s book work = (refl, cleared_length work)
+then_length (Ok _) s book work = (slip_length_lem s book work, work_length s book work)
+then_length (Err p) s book work = (refl, cleared_length work)
 
 emptied_length : (book : List Row) → length (emptied book) ≡ length book
 emptied_length book = go (eqb (length book) book_rows) refl
@@ -249,7 +247,7 @@ write_call_answers b out l = (
 pub calls_read_back : promises.CallsReadBack
 calls_read_back n ed d b book out c e m h =
     let r : read_call n d book ≡ read_outcome (leaves b) = read_sized n ed d book c m ∙ ap read_outcome e in
-    let w : write_call (read_call n d book).book out ≡ writing.outcome Accepted (length (written b)) (put (written b) out) =
+    let w : write_call (read_call n d book).book out ≡ writing.outcome (Ok tt) (length (written b)) (put (written b) out) =
     ap (λ (z : reading-is.Outcome). write_call z.book out) r ∙ (write_call_answers b out (ed, (d, e))).0 h in
     let text : take (write_call (read_call n d book).book out).size (write_call (read_call n d book).book out).out ≡ written b =
     ap (λ (z : writing.Outcome). take z.size z.out) w ∙ take_seam (written b) (drop (length (written b)) out) in

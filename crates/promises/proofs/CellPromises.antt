@@ -10,9 +10,7 @@ use lib.Seq.{get_or-take, length-take-le}
 use borrow.Author.Tests.{ne_eqb, le-ltb}
 use Rattle.words.specs.Words.{Bytes, Row, whether◌then◌else◌}
 use Rattle.refusals.proofs.Chaining.{both}
-use Rattle.refusals.specs.declared.Check.TheVariants.{Passes}
 use Rattle.refusals.specs.Verdicts.{◌⊳◌, ◌when◌, ◌before◌, placed, too_many_rows, cell_count}
-use Rattle.refusals.specs.declared.Verdict.TheVariants.{Accepted}
 use Rattle.refusals.specs.declared.Cell.{Cell}
 use Rattle.refusals.specs.declared.Cell.TheVariants.{Number}
 use Rattle.lines.specs.Lines.{line_after, starts_on}
@@ -21,16 +19,13 @@ use Rattle.numbers.specs.Numbers.{value, value_from}
 use Rattle.rows.specs.Rows.{column}
 use Rattle.rows.proofs.Rising.{rising_true}
 use Rattle.editions.specs.Editions.{choice}
-use Rattle.editions.specs.declared.Choice.{Choice}
-use Rattle.editions.specs.declared.Choice.TheVariants.{Chosen}
 use Rattle.editions.specs.declared.Edition.{Edition}
 use Rattle.editions.specs.declared.Edition.TheVariants.{Dino21, Dino23}
 use Rattle.tables.specs.Columns.{number, numbered, Column, no_column, columns_of, column_at, kept_width, key_width}
 use Rattle.tables.specs.declared.Table.{Table}
 use Rattle.tables.specs.declared.Table.TheVariants.{VehicleType, Depot, Stop, StopPoint, Block, Calendar}
-use Rattle.tables.specs.declared.Named.TheVariants.{Known}
+use Rattle.std.specs.Prelude.{Option, Some, Ok}
 use Rattle.tables.specs.declared.Rules.{Rules}
-use Rattle.tables.specs.declared.Named.{Named}
 use Rattle.tables.specs.declared.Sort.{Sort}
 use Rattle.tables.specs.declared.Sort.TheVariants.{Decimal}
 use Rattle.tables.proofs.Figures.{kept_columns, kept_decimal, kept_required}
@@ -53,7 +48,7 @@ use Rattle.promises.proofs.TextLaws.{row_on_lem}
 use Rattle.promises.proofs.ExactPromises.{accepted_exactly, step_edition}
 use Rattle.promises.proofs.RowPromises.{rows_exactly, found_copy, copy_at}
 
-numbered_known : (t : Table) → numbered (number t) ≡ Known t
+numbered_known : (t : Table) → numbered (number t) ≡ Some t
 numbered_known VehicleType = refl
 numbered_known Depot = refl
 numbered_known Stop = refl
@@ -75,7 +70,7 @@ contents_long k [] h cs = refl
 contents_long k (x ∷ xs) h cs = ap suc (contents_long (suc k) xs h cs)
 
 -- no column has a fault
-good_at : (k : ℕ) (xs : List Column) (ss : List Bytes) (n : ℕ) → n < length xs → n < length ss → bad_cell k xs ss ≡ Passes →
+good_at : (k : ℕ) (xs : List Column) (ss : List Bytes) (n : ℕ) → n < length xs → n < length ss → bad_cell k xs ss ≡ Ok tt →
     breaks (get_or xs n no_column).rules (get_or ss n []) ≡ false
 unfolding bad_cell
 good_at k [] ss n g f h = absurd (omega arith)
@@ -94,12 +89,12 @@ some_content x s true e r h =
 
 -- nothing is wrong before its rows, and each row passes 17, 6 and 7, and 8 of each cell
 record Checked (e : Edition) (t : Table) (s : Bytes) : Type 0 where
-  top : top_faults e t s ≡ Accepted
-  cutting : (i : ℕ) → i < length (row_lines_of e s) → cut_check e (header_of e t s) (get_or (row_lines_of e s) i []) ≡ Passes
-  cells : (i : ℕ) → i < length (row_lines_of e s) → bad_cell 1 (columns_of e t) (contents e t (header_of e t s) (cells_of (cut e (get_or (row_lines_of e s) i [])))) ≡ Passes
+  top : top_faults e t s ≡ Ok tt
+  cutting : (i : ℕ) → i < length (row_lines_of e s) → cut_check e (header_of e t s) (get_or (row_lines_of e s) i []) ≡ Ok tt
+  cells : (i : ℕ) → i < length (row_lines_of e s) → bad_cell 1 (columns_of e t) (contents e t (header_of e t s) (cells_of (cut e (get_or (row_lines_of e s) i [])))) ≡ Ok tt
 
-judged_checked : (t : Table) (h : Header) (line : Bytes) (b : Book) → judged t h line b ≡ Passes →
-    (cut_check b.edition h line ≡ Passes) × (bad_cell 1 (columns_of b.edition t) (contents b.edition t h (cells_of (cut b.edition line))) ≡ Passes)
+judged_checked : (t : Table) (h : Header) (line : Bytes) (b : Book) → judged t h line b ≡ Ok tt →
+    (cut_check b.edition h line ≡ Ok tt) × (bad_cell 1 (columns_of b.edition t) (contents b.edition t h (cells_of (cut b.edition line))) ≡ Ok tt)
 unfolding judged
 judged_checked t h line b pass =
     let e = b.edition in
@@ -118,32 +113,32 @@ module _ (t : Table) (s : Bytes) (b c : Book) (h : table_read t s b ≡ leaves c
   heading = header_of b.edition t s
 
   line_checked : (i : ℕ) → i < length rows_behind_lem →
-      (cut_check b.edition heading (get_or rows_behind_lem i []) ≡ Passes)
-      × (bad_cell 1 (columns_of b.edition t) (contents b.edition t heading (cells_of (cut b.edition (get_or rows_behind_lem i [])))) ≡ Passes)
+      (cut_check b.edition heading (get_or rows_behind_lem i []) ≡ Ok tt)
+      × (bad_cell 1 (columns_of b.edition t) (contents b.edition t heading (cells_of (cut b.edition (get_or rows_behind_lem i [])))) ≡ Ok tt)
   line_checked i on =
       let l : Bytes = get_or rows_behind_lem i [] in
       let x : Book = onward (row_step b.edition t s) (take i rows_behind_lem) b in
-      subst (λ (z : Edition). (cut_check z heading l ≡ Passes) × (bad_cell 1 (columns_of z t) (contents z t heading (cells_of (cut z l))) ≡ Passes))
+      subst (λ (z : Edition). (cut_check z heading l ≡ Ok tt) × (bad_cell 1 (columns_of z t) (contents z t heading (cells_of (cut z l))) ≡ Ok tt))
       (step_edition b.edition t s (take i rows_behind_lem) b) (judged_checked t heading l x (((accepted_exactly t s b c).0 h).1.passing i on))
 
   table_checked : Checked b.edition t s
   table_checked = record { top = ((accepted_exactly t s b c).0 h).0; cutting = λ i on. (line_checked i on).0; cells = λ i on. (line_checked i on).1 }
 
 -- so by 2.3 no row above a line has a fault that comes first
-none_above : (e : Edition) (table line i : ℕ) (ls : List Bytes) → ((j : ℕ) → j < length ls → line_check e (get_or ls j []) ≡ Passes) → first_above e table line i ls ≡ Accepted
+none_above : (e : Edition) (table line i : ℕ) (ls : List Bytes) → ((j : ℕ) → j < length ls → line_check e (get_or ls j []) ≡ Ok tt) → first_above e table line i ls ≡ Ok tt
 unfolding first_above
 none_above e table line i [] h = refl
 none_above e table line i (l ∷ ls) h = rw (h 0 (omega arith)) (go (ltb i line) (none_above e table line (line_after e i l) ls (λ j g. h (suc j) (omega arith))))
   where
-    go : (q : Bool) → first_above e table line (line_after e i l) ls ≡ Accepted → (placed table i (Passes when q) before first_above e table line (line_after e i l) ls) ≡ Accepted
+    go : (q : Bool) → first_above e table line (line_after e i l) ls ≡ Ok tt → (placed table i (Ok tt when q) before first_above e table line (line_after e i l) ls) ≡ Ok tt
     go true ih = ih
     go false ih = ih
 
 -- 17 and 6 are first in what a row must pass
-line_first : (e : Edition) (h : Header) (line : Bytes) → cut_check e h line ≡ Passes → line_check e line ≡ Passes
+line_first : (e : Edition) (h : Header) (line : Bytes) → cut_check e h line ≡ Ok tt → line_check e line ≡ Ok tt
 line_first e h line pass = (both (line_check e line) (cell_count when not (eqb (length (cells_of (cut e line))) (length h))) pass).0
 
-clear_above : (e : Edition) (t : Table) (s : Bytes) (line : ℕ) → Checked e t s → above e t s line ≡ Accepted
+clear_above : (e : Edition) (t : Table) (s : Bytes) (line : ℕ) → Checked e t s → above e t s line ≡ Ok tt
 clear_above Dino21 t s line c = refl
 clear_above Dino23 t s line c = none_above Dino23 (number t) line (first_line Dino23 s) (row_lines_of Dino23 s) (λ i on. line_first Dino23 (header_of Dino23 t s) (get_or (row_lines_of Dino23 s) i []) (c.cutting i on))
 
@@ -205,7 +200,7 @@ module _ (e : Edition) (t : Table) (s : Bytes) (i n : ℕ) (checked : Checked e 
       ∙ get_or-map value (take (kept_width t) said) n []
       ∙ ap value (get_or-take (kept_width t) said n [] kept ∙ content_same)
 
-  accepted_cell : cell_verdict e t s at (suc n) ≡ Accepted
+  accepted_cell : cell_verdict e t s at (suc n) ≡ Ok tt
   unfolding cell_verdict
   accepted_cell =
       let m : suc n - 1 ≡ n = omega arith in
@@ -235,21 +230,21 @@ module _ (e : Edition) (t : Table) (s : Bytes) (i n : ℕ) (checked : Checked e 
       ∙ ap (λ (q : Bool). whether q then Cell.Empty else Number (value (content cell))) some
       ∙ ap (λ (z : ℕ). Number z) (sym (row_number kept))
 
-  cell_answered : n < kept_width t → table_cell e t s at (suc n) ≡ answered Accepted (Number (column (suc n) (row_read e t (header_of e t s) line)))
+  cell_answered : n < kept_width t → table_cell e t s at (suc n) ≡ answered (Ok tt) (Number (column (suc n) (row_read e t (header_of e t s) line)))
   unfolding table_cell
-  cell_answered kept = rw accepted_cell (ap (λ (z : Cell). answered Accepted z) (cell_number kept))
+  cell_answered kept = rw accepted_cell (ap (λ (z : Cell). answered (Ok tt) z) (cell_number kept))
 
-  cell_accepted : (table_cell e t s at (suc n)).verdict ≡ Accepted
+  cell_accepted : (table_cell e t s at (suc n)).verdict ≡ Ok tt
   unfolding table_cell
   cell_accepted = rw accepted_cell
 
 -- the question by the edition's number and the table's
-pub asked_of_lem : (n : ℕ) (e : Edition) (t : Table) (s : Bytes) (line k : ℕ) → choice n ≡ Chosen e → cell_asked n s (number t) line k ≡ table_cell e t s line k
+pub asked_of_lem : (n : ℕ) (e : Edition) (t : Table) (s : Bytes) (line k : ℕ) → choice n ≡ Some e → cell_asked n s (number t) line k ≡ table_cell e t s line k
 unfolding cell_asked
-asked_of_lem n e t s line k chosen = ap (λ (z : Choice). asked_in z s (number t) line k) chosen ∙ ap (λ (z : Named). asked_of e z s line k) (numbered_known t)
+asked_of_lem n e t s line k chosen = ap (λ (z : Option Edition). asked_in z s (number t) line k) chosen ∙ ap (λ (z : Option Table). asked_of e z s line k) (numbered_known t)
 
 -- from the column's number to its place
-module _ (n : ℕ) (e : Edition) (d : Delivery) (b : Book) (t : Table) (i : ℕ) (chosen : choice n ≡ Chosen e) (r : reading e d ≡ leaves b) (on : i < length (row_lines_of e (text_of t d))) where
+module _ (n : ℕ) (e : Edition) (d : Delivery) (b : Book) (t : Table) (i : ℕ) (chosen : choice n ≡ Some e) (r : reading e d ≡ leaves b) (on : i < length (row_lines_of e (text_of t d))) where
   abbrev text : Bytes
   text = text_of t d
 
@@ -258,12 +253,12 @@ module _ (n : ℕ) (e : Edition) (d : Delivery) (b : Book) (t : Table) (i : ℕ)
       let u : ReadTo e t text b = (left_by e d b r).tables t in
       subst (λ (z : Edition). Checked z t text) u.by (table_checked t text u.before u.after u.read)
 
-  cells_at : (k : ℕ) → 1 ≤ k → k ≤ kept_width t → cell_asked n text (number t) (row_start e text i) k ≡ answered Accepted (Number (column k (row_at e t text i)))
+  cells_at : (k : ℕ) → 1 ≤ k → k ≤ kept_width t → cell_asked n text (number t) (row_start e text i) k ≡ answered (Ok tt) (Number (column k (row_at e t text i)))
   cells_at zero low high = absurd (omega arith)
   cells_at (suc k) low high =
       asked_of_lem n e t text (row_start e text i) (suc k) chosen ∙ cell_answered e t text i k text_checked on (omega (arith, kept_columns e t)) (omega arith)
 
-  accepted_at : (k : ℕ) → 1 ≤ k → k ≤ length (columns_of e t) → (cell_asked n text (number t) (row_start e text i) k).verdict ≡ Accepted
+  accepted_at : (k : ℕ) → 1 ≤ k → k ≤ length (columns_of e t) → (cell_asked n text (number t) (row_start e text i) k).verdict ≡ Ok tt
   accepted_at zero low high = absurd (omega arith)
   accepted_at (suc k) low high = ap (λ (z : CellAnswer). z.verdict) (asked_of_lem n e t text (row_start e text i) (suc k) chosen) ∙ cell_accepted e t text i k text_checked on (omega arith)
 

@@ -9,10 +9,8 @@ use lib.ListN.{get_or}
 use lib.Dec.{eqb}
 use borrow.Author.Tests.{eqb-true, eqb-false}
 use Rattle.words.specs.Words.{Bytes, Row}
-use Rattle.refusals.specs.Verdicts.{placed}
-use Rattle.refusals.specs.declared.Check.{Check}
-use Rattle.refusals.specs.declared.Verdict.{Verdict}
-use Rattle.refusals.specs.declared.Verdict.TheVariants as verdict-is
+use Rattle.refusals.specs.Verdicts.{placed, Check, Verdict}
+use Rattle.std.specs.Prelude.{Ok, Err}
 use Rattle.lines.specs.Lines.{lines, head_line, row_lines, line_after}
 use Rattle.rows.specs.Rows.{rising as rises}
 use Rattle.editions.specs.declared.Edition.{Edition}
@@ -159,8 +157,8 @@ rows_aside h i (l ∷ ls) ys b =
     ∙ go (placed 7 i (judged Calendar h l b)) (rows_read Calendar h on ls (with_rows Block ys x)) (rows_read Calendar h on ls x) (rows_aside h on ls ys x)
   where
     go : (v : Verdict) (q r : Result) → q ≡ mapped (with_rows Block ys) r → unless v q ≡ mapped (with_rows Block ys) (unless v r)
-    go verdict-is.Accepted q r e = e
-    go (verdict-is.Refused p) q r e = refl
+    go (Ok _) q r e = e
+    go (Err p) q r e = refl
 
 calendar_aside : (s : Bytes) (ys : List Row) (b : Book) → table_read Calendar s (with_rows Block ys b) ≡ mapped (with_rows Block ys) (table_read Calendar s b)
 unfolding table_read
@@ -169,8 +167,8 @@ calendar_aside s ys b =
     go (top_faults b.edition Calendar s) _ _ (rows_aside (header_of b.edition Calendar s) (line_after b.edition 1 (head_line ls)) (row_lines ls) ys b)
   where
     go : (v : Verdict) (q r : Result) → q ≡ mapped (with_rows Block ys) r → unless v q ≡ mapped (with_rows Block ys) (unless v r)
-    go verdict-is.Accepted q r e = e
-    go (verdict-is.Refused p) q r e = refl
+    go (Ok _) q r e = e
+    go (Err p) q r e = refl
 
 -- an accepted delivery: what the tables before the blocks leave, the calendar behind them, the book, and each table
 pub record Accepted (ed : Edition) (d : Delivery) (b : Book) : Type 0 where
@@ -208,8 +206,8 @@ left_by ed d b e =
 -- behind other blocks the calendar is read to the same days
 days_behind : (d : Delivery) (b : Book) → table_read Calendar d.days (with_rows Calendar [] b) ≡ leaves b → (v : Verdict) (ys : List Row) →
     (unless v (leaves (with_rows Block ys (with_rows Calendar [] b))) ▹ table_read Calendar d.days) ≡ unless v (leaves (with_rows Block ys b))
-days_behind d b e verdict-is.Accepted ys = calendar_aside d.days ys (with_rows Calendar [] b) ∙ ap (mapped (with_rows Block ys)) e
-days_behind d b e (verdict-is.Refused p) ys = refl
+days_behind d b e (Ok _) ys = calendar_aside d.days ys (with_rows Calendar [] b) ∙ ap (mapped (with_rows Block ys)) e
+days_behind d b e (Err p) ys = refl
 
 -- blocks that stand by right do so without a calendar
 pub held_undated : (b : Book) (ys : List Row) → Held Block b ys → Held Block (with_rows Calendar [] b) ys

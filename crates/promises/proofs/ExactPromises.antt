@@ -7,12 +7,9 @@ use Prim.Native.Nat.{ℕ, zero, suc, ◌+◌, ◌<◌}
 use native.Mathlib.Omega.{arith}
 use lib.ListN.{length, get_or}
 use Rattle.words.specs.Words.{Bytes}
-use Rattle.refusals.specs.Verdicts.{placed, place, paper, ◌when◌, in_text, text_too_long}
+use Rattle.refusals.specs.Verdicts.{placed, place, paper, ◌when◌, in_text, text_too_long, Check, Verdict}
 use Rattle.refusals.specs.declared.Place.{Place}
-use Rattle.refusals.specs.declared.Check.{Check}
-use Rattle.refusals.specs.declared.Check.TheVariants.{Passes, Fails}
-use Rattle.refusals.specs.declared.Verdict.TheVariants.{Refused, Accepted}
-use Rattle.refusals.specs.declared.Verdict.{Verdict}
+use Rattle.std.specs.Prelude.{Ok, Err}
 use Rattle.lines.specs.Lines.{line_after, slip_lines, overlong}
 use Rattle.editions.specs.declared.Edition.{Edition}
 use Rattle.tables.specs.Columns.{number}
@@ -45,22 +42,22 @@ module _ (check : Bytes → Book → Check) (step : Bytes → Book → Book) (ta
     where
       go : (v : Check) → check l b ≡ v → (in_turn_lem (λ i. line (suc i)) ls (step l b) ≡ leaves c → Faultless check step ls (step l b) c) →
           unless (placed table (line 0) (check l b)) (in_turn_lem (λ i. line (suc i)) ls (step l b)) ≡ leaves c → Faultless check step (l ∷ ls) b c
-      go Passes v ih f =
+      go (Ok _) v ih f =
           let r : Faultless check step ls (step l b) c = ih (rw v at f) in
           record { passing = at r; left = r.left }
         where
-          at : Faultless check step ls (step l b) c → (j : ℕ) → j < length (l ∷ ls) → check_at check step (l ∷ ls) j b ≡ Passes
+          at : Faultless check step ls (step l b) c → (j : ℕ) → j < length (l ∷ ls) → check_at check step (l ∷ ls) j b ≡ Ok tt
           at r zero h = v
           at r (suc j) h = r.passing j (omega arith)
-      go (Fails n k) v ih f =
-          let x : refused (place n table (line 0) k) ≡ leaves c = rw v at f in
+      go (Err w) v ih f =
+          let x : refused (place w.number table (line 0) w.column) ≡ leaves c = rw v at f in
           let z : ◌≡◌ {A = ℕ} 0 1 = cc in let y : ⊥ = omega arith in absurd y
 
   faultless_turn : (line : ℕ → ℕ) (ls : List Bytes) (b c : Book) → Faultless check step ls b c → in_turn_lem line ls b ≡ leaves c
   unfolding in_turn_lem onward
   faultless_turn line [] b c h = ap (λ (z : Book). leaves z) (sym h.left)
   faultless_turn line (l ∷ ls) b c h =
-      let here : check l b ≡ Passes = h.passing 0 (omega arith) in
+      let here : check l b ≡ (Ok tt) = h.passing 0 (omega arith) in
       rw here (faultless_turn (λ i. line (suc i)) ls (step l b) c (record { passing = λ j g. h.passing (suc j) (omega arith); left = h.left }))
 
   turn_fault : (line : ℕ → ℕ) (ls : List Bytes) (b : Book) (p : Place) → in_turn_lem line ls b ≡ refused p → FirstFault check step table line ls b p
@@ -70,25 +67,25 @@ module _ (check : Bytes → Book → Check) (step : Bytes → Book → Book) (ta
     where
       go : (v : Check) → check l b ≡ v → (in_turn_lem (λ i. line (suc i)) ls (step l b) ≡ refused p → FirstFault check step table (λ i. line (suc i)) ls (step l b) p) →
           unless (placed table (line 0) (check l b)) (in_turn_lem (λ i. line (suc i)) ls (step l b)) ≡ refused p → FirstFault check step table line (l ∷ ls) b p
-      go Passes v ih f =
+      go (Ok _) v ih f =
           let r : FirstFault check step table (λ i. line (suc i)) ls (step l b) p = ih (rw v at f) in
           record { at = suc r.at; inside = omega (arith, r.inside); fault = r.fault; above = up r }
         where
-          up : (r : FirstFault check step table (λ i. line (suc i)) ls (step l b) p) (j : ℕ) → j < suc r.at → check_at check step (l ∷ ls) j b ≡ Passes
+          up : (r : FirstFault check step table (λ i. line (suc i)) ls (step l b) p) (j : ℕ) → j < suc r.at → check_at check step (l ∷ ls) j b ≡ Ok tt
           up r zero h = v
           up r (suc j) h = r.above j (omega arith)
-      go (Fails n k) v ih f =
-          let x : refused (place n table (line 0) k) ≡ refused p = rw v at f in
-          let q : place n table (line 0) k ≡ p = cc in
-          record { at = 0; inside = omega arith; fault = rw v (ap (λ (z : Place). Refused z) q); above = λ j h. absurd (omega arith) }
+      go (Err w) v ih f =
+          let x : refused (place w.number table (line 0) w.column) ≡ refused p = rw v at f in
+          let q : place w.number table (line 0) w.column ≡ p = cc in
+          record { at = 0; inside = omega arith; fault = rw v (ap (λ (z : Place). Err z) q); above = λ j h. absurd (omega arith) }
 
-  fault_turn : (line : ℕ → ℕ) (ls : List Bytes) (b : Book) (p : Place) (at : ℕ) → at < length ls → placed table (line at) (check_at check step ls at b) ≡ Refused p →
-      ((j : ℕ) → j < at → check_at check step ls j b ≡ Passes) → in_turn_lem line ls b ≡ refused p
+  fault_turn : (line : ℕ → ℕ) (ls : List Bytes) (b : Book) (p : Place) (at : ℕ) → at < length ls → placed table (line at) (check_at check step ls at b) ≡ Err p →
+      ((j : ℕ) → j < at → check_at check step ls j b ≡ Ok tt) → in_turn_lem line ls b ≡ refused p
   unfolding in_turn_lem onward
   fault_turn line [] b p at n f u = absurd (omega arith)
-  fault_turn line (l ∷ ls) b p zero n f u = let v : placed table (line 0) (check l b) ≡ Refused p = f in rw v
+  fault_turn line (l ∷ ls) b p zero n f u = let v : placed table (line 0) (check l b) ≡ Err p = f in rw v
   fault_turn line (l ∷ ls) b p (suc at) n f u =
-      let here : check l b ≡ Passes = u 0 (omega arith) in
+      let here : check l b ≡ (Ok tt) = u 0 (omega arith) in
       rw here (fault_turn (λ i. line (suc i)) ls (step l b) p at (omega arith) f (λ j h. u (suc j) (omega arith)))
 
 -- rows and slip lines are so judged: a row by the line that it starts on, a slip's line by its number
@@ -110,9 +107,9 @@ slip_turned : (ls : List Bytes) (b : Book) → lines_posted 1 ls b ≡ in_turn_l
 slip_turned ls b = slip_in_turn 1 suc ls b (λ j. omega arith)
 
 -- what stands before them
-unless_refused : (v : Verdict) (r : Result) (p : Place) → unless v r ≡ refused p → (v ≡ Refused p) ⊎ ((v ≡ Accepted) × (r ≡ refused p))
-unless_refused Accepted r p h = inr (refl, h)
-unless_refused (Refused q) r p h = let e : q ≡ p = cc in inl (ap (λ (z : Place). Refused z) e)
+unless_refused : (v : Verdict) (r : Result) (p : Place) → unless v r ≡ refused p → (v ≡ Err p) ⊎ ((v ≡ Ok tt) × (r ≡ refused p))
+unless_refused (Ok _) r p h = inr (refl, h)
+unless_refused (Err q) r p h = let e : q ≡ p = cc in inl (ap (λ (z : Place). Err z) e)
 
 pub accepted_exactly : AcceptedExactly
 unfolding table_read
@@ -169,16 +166,16 @@ pub table_edition : (t : Table) (s : Bytes) (b c : Book) → table_read t s b �
 table_edition t s b c h = ap (λ (z : Book). z.edition) ((accepted_exactly t s b c).0 h).1.left ∙ step_edition b.edition t s (row_lines_of b.edition s) b
 
 -- the length of a slip
-short_slip : (t : Bool) → in_text 5 (text_too_long when t) ≡ Accepted → t ≡ false
+short_slip : (t : Bool) → in_text 5 (text_too_long when t) ≡ Ok tt → t ≡ false
 short_slip true h = let z : ◌≡◌ {A = ℕ} 0 1 = cc in let y : ⊥ = omega arith in absurd y
 short_slip false h = refl
 
-long_slip : (t : Bool) (p : Place) → in_text 5 (text_too_long when t) ≡ Refused p → (t ≡ true) × (paper (Refused p) ≡ 1 ∷ 5 ∷ 0 ∷ 0 ∷ [])
+long_slip : (t : Bool) (p : Place) → in_text 5 (text_too_long when t) ≡ Err p → (t ≡ true) × (paper (Err p) ≡ 1 ∷ 5 ∷ 0 ∷ 0 ∷ [])
 long_slip true p h = (refl, ap paper (sym h))
 long_slip false p h = let z : ◌≡◌ {A = ℕ} 0 1 = cc in let y : ⊥ = omega arith in absurd y
 
 -- a place is its four numbers on paper
-paper_place : (p : Place) (n t i k : ℕ) → paper (Refused p) ≡ n ∷ t ∷ i ∷ k ∷ [] → p ≡ place n t i k
+paper_place : (p : Place) (n t i k : ℕ) → paper (Err p) ≡ n ∷ t ∷ i ∷ k ∷ [] → p ≡ place n t i k
 paper_place p n t i k e =
     let a : p.number ≡ n = ap (λ (l : List ℕ). get_or l 0 0) e in
     let b : p.table ≡ t = ap (λ (l : List ℕ). get_or l 1 0) e in

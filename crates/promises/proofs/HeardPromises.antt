@@ -11,12 +11,9 @@ use lib.Seq.{take_all}
 use borrow.Author.Tests.{ltb-false, eqb-true, not-false, eq-eqb}
 use Rattle.words.specs.Words.{Bytes, whether◌then◌else◌}
 use Rattle.refusals.proofs.Chaining.{both}
-use Rattle.refusals.specs.Verdicts.{◌when◌, in_text, text_too_long, ◌⊳◌, ◌before◌, placed, in_header, length_differs}
-use Rattle.refusals.specs.declared.Check.{Check}
-use Rattle.refusals.specs.declared.Check.TheVariants.{Passes, Fails}
+use Rattle.refusals.specs.Verdicts.{◌when◌, in_text, text_too_long, ◌⊳◌, ◌before◌, placed, in_header, length_differs, Check, Verdict}
+use Rattle.std.specs.Prelude.{Ok, Err}
 use Rattle.refusals.specs.declared.Place.{Place}
-use Rattle.refusals.specs.declared.Verdict.{Verdict}
-use Rattle.refusals.specs.declared.Verdict.TheVariants.{Accepted, Refused}
 use Rattle.lines.specs.Lines.{line_after, lines, head_line, row_lines, overlong, most_bytes}
 use Rattle.editions.specs.declared.Edition.{Edition}
 use Rattle.tables.specs.Columns.{number}
@@ -47,7 +44,7 @@ empty_part k = refl
 
 -- a table that is closed -----------------------------------------------------------------------------------------------------
 
-same_length : (a n : ℕ) → length_check a n ≡ Passes → (a ≤ most_bytes) × (a ≡ n)
+same_length : (a n : ℕ) → length_check a n ≡ Ok tt → (a ≤ most_bytes) × (a ≡ n)
 same_length a n e =
     let k = both (text_too_long when ltb most_bytes a) (length_differs when not (eqb a n)) e in
     (ltb-false most_bytes a (unfailed 1 0 (ltb most_bytes a) k.0), eqb-true a n (not-false (eqb a n) (unfailed 18 0 (not (eqb a n)) k.1)))
@@ -60,12 +57,12 @@ closing_heard t a s b =
   where
     go : (v : Check) → length_check a (length s) ≡ v →
         unless (in_text (number t) v) (finished t (bytes_heard t (take (counted a) s) (going b 1 [] []))) ≡ unless (in_text (number t) v) (table_read t s b)
-    go Passes e =
+    go (Ok _) e =
         let k = same_length a (length s) e in
         let n : length s ≤ most_bytes = omega (arith, k.0, k.1) in
         let whole : take (counted a) s ≡ s = take_all (counted a) s (omega (arith, k.1, counted_short a k.0)) in
         rw whole (table_over t s b n)
-    go (Fails n k) e = refl
+    go (Err f) e = refl
 
 pub table_closed : (t : Table) (a : ℕ) (s : Bytes) (r : Result) → Clear t r → closed (part_taken s (announced a (awaits t r))) ≡ next t (r ▹ heard t a s)
 unfolding closing
@@ -92,8 +89,8 @@ Own t (refused p) = p.table ≡ number t
 Own t (leaves b) = Unit {0}
 
 own_unless : (t : Table) (i : ℕ) (v : Check) (r : Result) → Own t r → Own t (unless (placed (number t) i v) r)
-own_unless t i Passes r h = h
-own_unless t i (Fails n k) r h = refl
+own_unless t i (Ok _) r h = h
+own_unless t i (Err f) r h = refl
 
 own_rows : (t : Table) (h : Header) (i : ℕ) (ls : List Bytes) (b : Book) → Own t (rows_read t h i ls b)
 unfolding rows_read
@@ -101,8 +98,8 @@ own_rows t h i [] b = tt
 own_rows t h i (l ∷ ls) b = own_unless t i (judged t h l b) _ (own_rows t h (line_after b.edition i l) ls (entered t (row_read b.edition t h l) b))
 
 unless_before : (v w : Verdict) (r : Result) → unless v (unless w r) ≡ unless (v before w) r
-unless_before Accepted w r = refl
-unless_before (Refused p) w r = refl
+unless_before (Ok _) w r = refl
+unless_before (Err p) w r = refl
 
 own_table : (t : Table) (s : Bytes) (b : Book) → Own t (table_read t s b)
 unfolding table_read
@@ -182,7 +179,7 @@ unfolding table_read
 heard_read t a s b e = rw (e, eq-eqb (length s) (length s) refl) (go (ltb most_bytes (length s)))
   where
     go : (q : Bool) →
-        unless (in_text (number t) (text_too_long when q ⊳ Passes)) (unless (in_text (number t) (text_too_long when q) before in_header (number t) (header_check b.edition t (head_line (lines b.edition s)))) (rows_read t (header_of b.edition t s) (line_after b.edition 1 (head_line (lines b.edition s))) (row_lines (lines b.edition s)) b))
+        unless (in_text (number t) (text_too_long when q ⊳ Ok tt)) (unless (in_text (number t) (text_too_long when q) before in_header (number t) (header_check b.edition t (head_line (lines b.edition s)))) (rows_read t (header_of b.edition t s) (line_after b.edition 1 (head_line (lines b.edition s))) (row_lines (lines b.edition s)) b))
         ≡ unless (in_text (number t) (text_too_long when q) before in_header (number t) (header_check b.edition t (head_line (lines b.edition s)))) (rows_read t (header_of b.edition t s) (line_after b.edition 1 (head_line (lines b.edition s))) (row_lines (lines b.edition s)) b)
     go true = refl
     go false = refl

@@ -9,18 +9,15 @@ use lib.Seq.{take_at, append_snoc}
 use borrow.Author.Tests.{leb-false, lt-leb, le-ltb}
 use Rattle.words.specs.Words.{Row, Bytes}
 use Rattle.refusals.proofs.Chaining.{both}
-use Rattle.refusals.specs.declared.Check.TheVariants.{Passes, Fails}
-use Rattle.refusals.specs.Verdicts.{◌⊳◌, ◌when◌, too_many_rows, ends_early, key_stands, placed, place}
-use Rattle.refusals.specs.declared.Check.{Check}
-use Rattle.refusals.specs.declared.Verdict.{Verdict}
-use Rattle.refusals.specs.declared.Verdict.TheVariants.{Accepted, Refused}
+use Rattle.std.specs.Prelude.{Ok, Err}
+use Rattle.refusals.specs.Verdicts.{◌⊳◌, ◌when◌, too_many_rows, ends_early, key_stands, placed, place, Check, Verdict}
 use Rattle.lines.specs.Lines.{line_after, lines, head_line, row_lines}
 use Rattle.lines.proofs.Starting.{line_after_lem}
 use Rattle.cells.specs.Cells.{cut, cells_of}
 use Rattle.numbers.specs.Numbers.{value}
 use Rattle.rows.specs.Rows.{wide, rising as rises, key_order, inserted, stands}
-use Rattle.rows.specs.declared.Order.{Order}
-use Rattle.rows.specs.declared.Order.TheVariants.{Less, Same, More}
+use Rattle.std.specs.declared.cmp.Ordering.{Ordering}
+use Rattle.std.specs.declared.cmp.Ordering.TheVariants.{Less, Equal, Greater}
 use Rattle.rows.proofs.Rising.{rising_inserted, rising_true}
 use Rattle.rows.proofs.Changes.{length_inserted}
 use Rattle.editions.specs.declared.Edition.{Edition}
@@ -53,7 +50,7 @@ pub record Good (t : Table) (b : Book) (row : Row) : Type 0 where
   pub shape : row ≡ wide (take (kept_width t) row)
   pub inside : ranged (columns_of b.edition t) (take (kept_width t) row) ≡ true
   pub timed : time_fault t row ≡ false
-  pub known : unknown t row b ≡ Passes
+  pub known : unknown t row b ≡ Ok tt
 
 unfoldable pub EachGood : Table → Book → List Row → Type 0
 EachGood t b [] = Unit {0}
@@ -89,10 +86,10 @@ unfolding EachGood inserted
 good_insert t b k row [] g h = (g, tt)
 good_insert t b k row (x ∷ xs) g h = go (key_order k row x) refl (good_insert t b k row xs g h.1)
   where
-    go : (o : Order) → key_order k row x ≡ o → EachGood t b (inserted k row xs) → EachGood t b (inserted k row (x ∷ xs))
+    go : (o : Ordering) → key_order k row x ≡ o → EachGood t b (inserted k row xs) → EachGood t b (inserted k row (x ∷ xs))
     go Less e ih = rw e (g, h)
-    go Same e ih = rw e h
-    go More e ih = rw e (h.0, ih)
+    go Equal e ih = rw e h
+    go Greater e ih = rw e (h.0, ih)
 
 -- what a check that passes says ------------------------------------------------------------------------------------------
 
@@ -110,7 +107,7 @@ contents_long ed StopPoint h cs = refl
 contents_long ed Block h cs = refl
 contents_long ed Calendar h cs = refl
 
-pub judged_taken : (t : Table) (b : Book) (h : Header) (l : Bytes) → judged t h l b ≡ Passes → Taken t b (row_read b.edition t h l)
+pub judged_taken : (t : Table) (b : Book) (h : Header) (l : Bytes) → judged t h l b ≡ Ok tt → Taken t b (row_read b.edition t h l)
 unfolding judged
 judged_taken t b h l p =
     let ed = b.edition in
@@ -165,11 +162,11 @@ held_read t h i (l ∷ ls) b c held e = go (judged t h l b) refl (held_read t h 
         (c ≡ with_rows t (rows t c) (entered t (row_read b.edition t h l) b)) × Held t c (rows t c)) →
         unless (placed (number t) i (judged t h l b)) (rows_read t h (line_after b.edition i l) ls (entered t (row_read b.edition t h l) b)) ≡ leaves c →
         (c ≡ with_rows t (rows t c) b) × Held t c (rows t c)
-    go Passes v ih f =
+    go (Ok _) v ih f =
         let r = ih (held_entered t b (row_read b.edition t h l) (judged_taken t b h l v) held) (rw v at f) in
         (r.0 ∙ with_with t (rows t c) (inserted (key_width t) (row_read b.edition t h l) (rows t b)) b, r.1)
-    go (Fails n k) v ih f =
-        let x : refused (place n (number t) i k) ≡ leaves c = rw v at f in
+    go (Err w) v ih f =
+        let x : refused (place w.number (number t) i w.column) ≡ leaves c = rw v at f in
         let z : ◌≡◌ {A = ℕ} 0 1 = cc in let y : ⊥ = omega arith in absurd y
 
 pub held_table : (t : Table) (s : Bytes) (b c : Book) → Held t b (rows t b) → table_read t s b ≡ leaves c →
@@ -184,7 +181,7 @@ held_table t s b c h e =
 -- what so stands is read back from its plain form ------------------------------------------------------------------------
 
 good_judged : (t : Table) (b : Book) (xs : List Row) (row : Row) → Good t b row → length xs < roomOf t → AboveAll (key_width t) row xs →
-    judged t (plain_header t) (plain_line t row) (with_rows t xs b) ≡ Passes
+    judged t (plain_header t) (plain_line t row) (with_rows t xs b) ≡ Ok tt
 good_judged t b xs row g small up =
     row_judged t row (with_rows t xs b) (good_eleven t row g.shape) g.shape g.inside
     ∙ rw (rows_with t xs b, lt-leb (roomOf t) (length xs) small, g.timed, stands_not (key_width t) row xs up, unknown_with t row xs b) g.known
@@ -260,8 +257,8 @@ rows_append t h i (l ∷ ls) ms b u = rw (next_line b.edition i l u.0) (go (plac
         rows_read t h (suc i) (ls ++ ms) (entered t (row_read b.edition t h l) b) ≡ (rows_read t h (suc i) ls (entered t (row_read b.edition t h l) b) ▹ rows_read t h (suc i + length ls) ms) →
         unless v (rows_read t h (suc i) (ls ++ ms) (entered t (row_read b.edition t h l) b))
         ≡ (unless v (rows_read t h (suc i) ls (entered t (row_read b.edition t h l) b)) ▹ rows_read t h (i + suc (length ls)) ms)
-    go Accepted ih = let m : i + suc (length ls) ≡ suc i + length ls = omega arith in rw m ih
-    go (Refused p) ih = refl
+    go (Ok _) ih = let m : i + suc (length ls) ≡ suc i + length ls = omega arith in rw m ih
+    go (Err p) ih = refl
 
 short_append : (ls : List Bytes) (l : Bytes) → EachShort ls → length l ≤ 65 → EachShort (ls ++ (l ∷ []))
 unfolding EachShort

@@ -5,14 +5,14 @@ use mathlib.Core.Bool.{false}
 use Prim.Native.Nat.{ℕ}
 use Rattle.words.specs.Words.{Row}
 use Rattle.rows.specs.Rows.{key_order, inserted, stands}
-use Rattle.rows.specs.declared.Order.TheVariants.{More, Less}
+use Rattle.std.specs.declared.cmp.Ordering.TheVariants.{Greater, Less}
 use Rattle.rows.proofs.Rising.{Above, Rising}
 use Rattle.rows.proofs.Keys.{less_more}
 
 -- the row's key is above each of the others
 unfoldable pub AboveAll : ℕ → Row → List Row → Type 0
 AboveAll k row [] = Unit {0}
-AboveAll k row (x ∷ xs) = (key_order k row x ≡ More) × AboveAll k row xs
+AboveAll k row (x ∷ xs) = (key_order k row x ≡ Greater) × AboveAll k row xs
 
 pub inserted_last : (k : ℕ) (row : Row) (xs : List Row) → AboveAll k row xs → inserted k row xs ≡ xs ++ (row ∷ [])
 unfolding inserted AboveAll

@@ -9,7 +9,7 @@ use lib.ListN.{length}
 use borrow.Author.Tests.{ne_eqb, le-ltb, leb-true}
 use Rattle.words.specs.Words.{Bytes}
 use Rattle.words.proofs.Lists.{and_left, and_right}
-use Rattle.refusals.specs.declared.Check.TheVariants.{Passes}
+use Rattle.std.specs.Prelude.{Ok}
 use Rattle.numbers.specs.Numbers.{all_digits, decimal}
 use Rattle.numbers.proofs.Writing.{EachDigit, decimal_some, decimal_is, read_back}
 use Rattle.tables.specs.Columns.{in_range}
@@ -33,7 +33,7 @@ digits_unbroken (b ∷ bs) h =
     (ne_eqb b 10 (λ e. omega arith), ne_eqb b 13 (λ e. omega arith), ne_eqb b 34 (λ e. omega arith), digits_unbroken bs h.2)
 
 -- a number of the column's width and range has no fault
-pub cell_good : (k : ℕ) (x : Rules) (w n : ℕ) → x.sort ≡ Decimal → x.width ≡ suc w → n < 10 ^ suc w → in_range x n ≡ true → cell_check k x (decimal n) ≡ Passes
+pub cell_good : (k : ℕ) (x : Rules) (w n : ℕ) → x.sort ≡ Decimal → x.width ≡ suc w → n < 10 ^ suc w → in_range x n ≡ true → cell_check k x (decimal n) ≡ Ok tt
 cell_good k x w n s e h r =
     let d = decimal_is w n h in
     let long = leb 1 (length (decimal n)) && leb (length (decimal n)) (suc w) in

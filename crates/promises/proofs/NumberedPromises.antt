@@ -10,12 +10,9 @@ use lib.Dec.{eqb, leb, ltb}
 use borrow.Author.Tests.{eq-eqb, ne_eqb, eqb-true, lt-ltb, ltb-true, ltb-false, le-leb, leb-true}
 use Rattle.words.specs.Words.{Bytes, Row, whether◌then◌else◌}
 use Rattle.words.proofs.Lists.{and_left, and_right, every}
-use Rattle.refusals.specs.declared.Check.{Check}
-use Rattle.refusals.specs.declared.Check.TheVariants.{Passes, Fails}
-use Rattle.refusals.specs.Verdicts.{◌when◌, ◌⊳◌, placed, place, too_many_rows, column_twice, column_missing, too_many_cells, cell_count, ends_early, key_stands, no_row, ◌before◌, in_text, in_header, text_too_long, paper, line_too_long, cell_empty, cell_too_long, not_digits, out_of_range}
+use Rattle.std.specs.Prelude.{Ok, Err}
+use Rattle.refusals.specs.Verdicts.{◌when◌, ◌⊳◌, placed, place, too_many_rows, column_twice, column_missing, too_many_cells, cell_count, ends_early, key_stands, no_row, ◌before◌, in_text, in_header, text_too_long, paper, line_too_long, cell_empty, cell_too_long, not_digits, out_of_range, Check, Verdict, fault}
 use Rattle.refusals.specs.declared.Place.{Place}
-use Rattle.refusals.specs.declared.Verdict.TheVariants.{Refused, Accepted}
-use Rattle.refusals.specs.declared.Verdict.{Verdict}
 use Rattle.lines.specs.Lines.{lines, head_line, overlong, slip_lines, most_bytes, long_line}
 use Rattle.cells.specs.Cells.{cut, faulty_cell, cells_of, content}
 use Rattle.cells.specs.declared.State.TheVariants.{Fresh}
@@ -80,19 +77,19 @@ missing_required k (x ∷ cols) h m = go x.rules.required refl (member (suc k) h
 
 -- if the check fails, its number is one of these, with a column that it can name
 unfoldable pub given : List Numbered → Check → Bool
-given xs Passes = true
-given xs (Fails n k) = among xs n k
+given xs (Ok _) = true
+given xs (Err f) = among xs f.number f.column
 
 module _ (xs : List Numbered) where
-  given_when : (n k : ℕ) (t : Bool) → (t ≡ true → among xs n k ≡ true) → given xs (Fails n k when t) ≡ true
+  given_when : (n k : ℕ) (t : Bool) → (t ≡ true → among xs n k ≡ true) → given xs (Err (fault n k) when t) ≡ true
   unfolding given
   given_when n k true h = h refl
   given_when n k false h = refl
 
   given_chain : (c e : Check) → given xs c ≡ true → given xs e ≡ true → given xs (c ⊳ e) ≡ true
   unfolding given
-  given_chain Passes e h g = g
-  given_chain (Fails n k) e h g = h
+  given_chain (Ok _) e h g = g
+  given_chain (Err f) e h g = h
 
   -- the cells of columns, of which the first has number k
   given_cells : (k : ℕ) (cols : List Column) (ss : List Bytes) → ((i : ℕ) → i < length cols → (s : Bytes) → given xs (cell_check (k + i) (get_or cols i no_column).rules s) ≡ true) →
@@ -116,12 +113,12 @@ module _ (xs : List Numbered) where
       (given_unknown rs row b (λ k m. h k (or_later (eqb k r.column) (member k (map (λ r. r.column) rs)) m)))
 
 -- where it is placed
-given_placed : (xs : List Numbered) (table line : ℕ) (c : Check) (p : Place) → given xs c ≡ true → placed table line c ≡ Refused p →
+given_placed : (xs : List Numbered) (table line : ℕ) (c : Check) (p : Place) → given xs c ≡ true → placed table line c ≡ Err p →
     (among xs p.number p.column ≡ true) × (p.table ≡ table) × (p.line ≡ line)
 unfolding given
-given_placed xs table line Passes p h e = let z : ◌≡◌ {A = ℕ} 0 1 = cc in let y : ⊥ = omega arith in absurd y
-given_placed xs table line (Fails n k) p h e =
-    let q : place n table line k ≡ p = cc in
+given_placed xs table line (Ok _) p h e = let z : ◌≡◌ {A = ℕ} 0 1 = cc in let y : ⊥ = omega arith in absurd y
+given_placed xs table line (Err f) p h e =
+    let q : place f.number table line f.column ≡ p = cc in
     subst (λ (z : Place). (among xs z.number z.column ≡ true) × (z.table ≡ table) × (z.line ≡ line)) q (h, refl, refl)
 
 -- the checks of rows and of slip lines -------------------------------------------------------------------------------------
@@ -292,7 +289,7 @@ given_line Delete fs row b =
 -- what is given on a line of a text stands in its place on paper
 module _ (e : Edition) (t : Table) (p : Place) where
   on_paper : (xs : List Numbered) (line : ℕ) → line ≤ suc most_bytes → (among xs p.number p.column ≡ true) × (p.table ≡ number t) × (p.line ≡ line) →
-      (whether eqb line 0 then text_numbers else whether eqb line 1 then header_numbers e t else row_numbers e t) ≡ xs → given_in e t (paper (Refused p)) ≡ true
+      (whether eqb line 0 then text_numbers else whether eqb line 1 then header_numbers e t else row_numbers e t) ≡ xs → given_in e t (paper (Err p)) ≡ true
   on_paper xs line n h f = rw (h.2, le-leb line (suc most_bytes) n, f, h.1, eq-eqb (number t) (number t) refl) h.0
 
   row_line_lem : (line : ℕ) → 2 ≤ line → (whether eqb line 0 then text_numbers else whether eqb line 1 then header_numbers e t else row_numbers e t) ≡ row_numbers e t
@@ -302,7 +299,7 @@ module _ (e : Edition) (t : Table) (p : Place) where
   abbrev top_of : Bytes → Bool → Verdict
   top_of s long = in_text (number t) (text_too_long when long) before in_header (number t) (header_check e t (head_line (lines e s)))
 
-  top_given : (s : Bytes) (q : Bool) → overlong s ≡ q → top_of s q ≡ Refused p → given_in e t (paper (Refused p)) ≡ true
+  top_given : (s : Bytes) (q : Bool) → overlong s ≡ q → top_of s q ≡ Err p → given_in e t (paper (Err p)) ≡ true
   unfolding among given
   top_given s true f h = on_paper text_numbers 0 (omega arith) (given_placed text_numbers (number t) 0 text_too_long p refl h) refl
   top_given s false f h =
@@ -310,11 +307,11 @@ module _ (e : Edition) (t : Table) (p : Place) where
       on_paper (header_numbers e t) 1 (omega arith)
       (given_placed (header_numbers e t) (number t) 1 (header_check e t (head_line (lines e s))) p (given_header e t (head_line (lines e s)) (omega (arith, head_within e s))) h) refl
 
-  top_short : (s : Bytes) (q : Bool) → overlong s ≡ q → top_of s q ≡ Accepted → length s ≤ most_bytes
+  top_short : (s : Bytes) (q : Bool) → overlong s ≡ q → top_of s q ≡ Ok tt → length s ≤ most_bytes
   top_short s true f h = let z : ◌≡◌ {A = ℕ} 0 1 = cc in let y : ⊥ = omega arith in absurd y
   top_short s false f h = ltb-false most_bytes (length s) f
 
-table_given : (t : Table) (p : Place) (s : Bytes) (b : Book) → table_read t s b ≡ refused p → given_in b.edition t (paper (Refused p)) ≡ true
+table_given : (t : Table) (p : Place) (s : Bytes) (b : Book) → table_read t s b ≡ refused p → given_in b.edition t (paper (Err p)) ≡ true
 table_given t p s b h =
     let e = b.edition in
     ⊎_elim (λ v. top_given e t p s (overlong s) refl v)
@@ -335,10 +332,10 @@ table_given t p s b h =
 pub reading_numbered : ReadingNumbered
 reading_numbered e d p h = go ((delivery_refused e d p).0 h)
   where
-    on : (t : Table) (s : Bytes) (b : Book) → b.edition ≡ e → table_read t s b ≡ refused p → (t : Table) × (given_in e t (paper (Refused p)) ≡ true)
-    on t s b k f = (t, subst (λ (z : Edition). given_in z t (paper (Refused p)) ≡ true) k (table_given t p s b f))
+    on : (t : Table) (s : Bytes) (b : Book) → b.edition ≡ e → table_read t s b ≡ refused p → (t : Table) × (given_in e t (paper (Err p)) ≡ true)
+    on t s b k f = (t, subst (λ (z : Edition). given_in z t (paper (Err p)) ≡ true) k (table_given t p s b f))
 
-    go : FaultyTable e d p → (t : Table) × (given_in e t (paper (Refused p)) ≡ true)
+    go : FaultyTable e d p → (t : Table) × (given_in e t (paper (Err p)) ≡ true)
     go (in_types f) = on VehicleType d.types (empty_by e) refl f
     go (in_depots b g f) = on Depot d.depots b (table_edition VehicleType d.types (empty_by e) b g) f
     go (in_stops b c g h f) = on Stop d.stops c (table_edition Depot d.depots b c h ∙ table_edition VehicleType d.types (empty_by e) b g) f
@@ -355,7 +352,7 @@ reading_numbered e d p h = go ((delivery_refused e d p).0 h)
         f
 
 slip_on_paper : (e : Edition) (p : Place) (xs : List Numbered) (line : ℕ) → line ≤ suc most_bytes → (among xs p.number p.column ≡ true) × (p.table ≡ 5) × (p.line ≡ line) →
-    (whether eqb line 0 then text_numbers else slip_numbers e) ≡ xs → given_in_slip e (paper (Refused p)) ≡ true
+    (whether eqb line 0 then text_numbers else slip_numbers e) ≡ xs → given_in_slip e (paper (Err p)) ≡ true
 slip_on_paper e p xs line n h f = rw (h.2, le-leb line (suc most_bytes) n, f, h.1) h.0
 
 -- a slip's lines too leave the book its edition
@@ -375,7 +372,7 @@ unfolding among
 slip_numbered s b p h =
     ⊎_elim (λ v. subst (λ (l : List ℕ). given_in_slip b.edition l ≡ true) (sym v.1) refl) (λ f. on_line (ltb-false most_bytes (length s) f.0) f.1) ((slip_refused_at_first s b p).0 h)
   where
-    on_line : length s ≤ most_bytes → FirstFault slip_check slip_leaves 5 suc (slip_lines s) b p → given_in_slip b.edition (paper (Refused p)) ≡ true
+    on_line : length s ≤ most_bytes → FirstFault slip_check slip_leaves 5 suc (slip_lines s) b p → given_in_slip b.edition (paper (Err p)) ≡ true
     on_line short f =
         let e = b.edition in
         let at : f.at < length (slip_lines s) = f.inside in

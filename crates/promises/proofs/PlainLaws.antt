@@ -12,7 +12,7 @@ use borrow.Author.Tests.{le-ltb, eq-eqb}
 use Rattle.words.specs.Words.{whether◌then◌else◌, Bytes, Row}
 use Rattle.words.proofs.Lists.{and_left, and_right}
 use Rattle.refusals.proofs.Chaining.{both}
-use Rattle.refusals.specs.declared.Check.TheVariants.{Passes}
+use Rattle.std.specs.Prelude.{Ok}
 use Rattle.refusals.specs.Verdicts.{◌when◌, ◌⊳◌, too_many_rows}
 use Rattle.lines.specs.Lines.{most_line}
 use Rattle.cells.specs.Cells.{parted, content, cut, cells, cells_of}
@@ -177,7 +177,7 @@ kept_numeric Dino23 Block = (
 
 -- numbers in their columns' ranges have no fault
 good_cells : (k : ℕ) (xs : List Column) (ns : Row) (rest : List Bytes) → Numeric (length ns) xs → ranged xs ns ≡ true →
-    bad_cell (k + length ns) (drop (length ns) xs) rest ≡ Passes → bad_cell k xs (map decimal ns ++ rest) ≡ Passes
+    bad_cell (k + length ns) (drop (length ns) xs) rest ≡ Ok tt → bad_cell k xs (map decimal ns ++ rest) ≡ Ok tt
 unfolding bad_cell Numeric ranged
 good_cells k xs [] rest h r e = let z : k + 0 ≡ k = omega arith in rw z at e
 good_cells k [] (n ∷ ns) rest h r e = refl
@@ -190,7 +190,7 @@ good_cells k (x ∷ xs) (n ∷ ns) rest h r e =
     (good_cells (suc k) xs ns rest h.1 (and_right (in_range x.rules n) (ranged xs ns) r) (rw on at e))
 
 -- and where there is none, the numbers are in their columns' ranges
-pub cells_ranged : (n k : ℕ) (xs : List Column) (ss : List Bytes) → Numeric n xs → bad_cell k xs ss ≡ Passes → ranged xs (map value (take n ss)) ≡ true
+pub cells_ranged : (n k : ℕ) (xs : List Column) (ss : List Bytes) → Numeric n xs → bad_cell k xs ss ≡ Ok tt → ranged xs (map value (take n ss)) ≡ true
 unfolding bad_cell Numeric ranged
 cells_ranged zero k [] ss a h = refl
 cells_ranged zero k (x ∷ xs) ss a h = refl
@@ -263,7 +263,7 @@ contents_cells Dino23 Calendar row (eleven a b c d e f g h i j k) = refl
 contents_plain : (ed : Edition) (t : Table) (row : Row) → Eleven row → contents ed t (plain_header t) (plain_cells t row) ≡ map decimal (take (kept_width t) row) ++ absent ed t
 contents_plain ed t row e = contents_cells ed t row e ∙ ap (λ (l : List Bytes). l ++ absent ed t) (content_decimals (take (kept_width t) row))
 
-absent_good : (ed : Edition) (t : Table) → bad_cell (1 + kept_width t) (drop (kept_width t) (columns_of ed t)) (absent ed t) ≡ Passes
+absent_good : (ed : Edition) (t : Table) → bad_cell (1 + kept_width t) (drop (kept_width t) (columns_of ed t)) (absent ed t) ≡ Ok tt
 unfolding bad_cell columns_of
 absent_good Dino21 VehicleType = refl
 absent_good Dino23 VehicleType = refl
@@ -339,7 +339,7 @@ unbroken_plain t ys = (tested (plain_names t) (names_tested t), unbroken_rows t 
 
 -- the names ---------------------------------------------------------------------------------------------------------------
 
-pub names_good : (ed : Edition) (t : Table) → header_check ed t (plain_names t) ≡ Passes
+pub names_good : (ed : Edition) (t : Table) → header_check ed t (plain_names t) ≡ Ok tt
 unfolding computed required_of
 names_good Dino21 VehicleType = refl
 names_good Dino23 VehicleType = refl
@@ -437,7 +437,7 @@ unfolding judged
 row_judged t row b e s r =
     let ed = b.edition in
     let n : length (take (kept_width t) row) ≡ kept_width t = kept_long t row e in
-    let good : bad_cell 1 (columns_of ed t) (map decimal (take (kept_width t) row) ++ absent ed t) ≡ Passes =
+    let good : bad_cell 1 (columns_of ed t) (map decimal (take (kept_width t) row) ++ absent ed t) ≡ (Ok tt) =
     good_cells 1 (columns_of ed t) (take (kept_width t) row) (absent ed t) (rw n (kept_numeric ed t)) r (rw n (absent_good ed t)) in
     let short : length (plain_line t row) ≤ 65 = line_short ed t row e r in
     rw (le-ltb most_line (length (plain_line t row)) (omega arith), cut_plain ed t row e, cut_counted t row e, eq-eqb (length (plain_header t)) (length (plain_header t)) refl, contents_plain ed t row e, good, kept_values ed t row e, ← s)

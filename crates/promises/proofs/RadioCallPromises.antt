@@ -8,10 +8,9 @@ use native.Mathlib.Omega.{arith}
 use lib.ListN.{length}
 use Rattle.words.specs.Words.{Bytes, whether◌then◌else◌, all}
 use Rattle.words.proofs.Lists.{and_left}
-use Rattle.refusals.specs.Verdicts.{nowhere, not_there, bad_loan}
+use Rattle.refusals.specs.Verdicts.{nowhere, not_there, bad_loan, Verdict}
 use Rattle.refusals.specs.declared.Place.{Place}
-use Rattle.refusals.specs.declared.Verdict.{Verdict}
-use Rattle.refusals.specs.declared.Verdict.TheVariants.{Accepted, Refused}
+use Rattle.std.specs.Prelude.{Ok, Err}
 use Rattle.rows.specs.Rows.{rising}
 use Rattle.tables.specs.Columns.{number}
 use Rattle.tables.specs.Parts.{tables}
@@ -73,12 +72,12 @@ calls_keep c s e = ap keeps_radio (call_lays c s e) ∙ laid_out_keeps (after c 
 unlisted : (p : Place) → lawful_fault p ≡ true → {n : ℕ} → p.number ≡ n → member n reading_numbers ≡ false → ⊥
 unlisted p e f h = never (sym (and_left (member p.number reading_numbers) (member p.table (map number tables)) e) ∙ ap (λ (m : ℕ). member m reading_numbers) f ∙ h)
 
-said_lawful : (c : Call) (k : Radio) (p : Place) → lawful_radio (after c k) ≡ true → said c (after c k) ≡ Refused p → lawful_fault p ≡ true
+said_lawful : (c : Call) (k : Radio) (p : Place) → lawful_radio (after c k) ≡ true → said c (after c k) ≡ Err p → lawful_fault p ≡ true
 said_lawful (announce a) k p e f = let z : ◌≡◌ {A = ℕ} 0 1 = cc in let y : ⊥ = omega arith in absurd y
 said_lawful (part s) k p e f = let z : ◌≡◌ {A = ℕ} 0 1 = cc in let y : ⊥ = omega arith in absurd y
 said_lawful close k p e f = go (standing (after close k)) (standing_of (after close k) e) f
   where
-    go : (r : Result) → lawful_result r ≡ true → verdict_of r ≡ Refused p → lawful_fault p ≡ true
+    go : (r : Result) → lawful_result r ≡ true → verdict_of r ≡ Err p → lawful_fault p ≡ true
     go (refused q) l g = let s : q ≡ p = cc in subst (λ (z : Place). lawful_fault z ≡ true) s l
     go (leaves b) l g = let z : ◌≡◌ {A = ℕ} 0 1 = cc in let y : ⊥ = omega arith in absurd y
 
@@ -89,11 +88,11 @@ refusal_stays c s p v n = go (keeps_radio s) refl v
     k : Radio
     k = radio_in s
 
-    turn : (q : Bool) → in_turn c k ≡ q → keeps_radio s ≡ true → (whether q then said c (after c k) else nowhere not_there) ≡ Refused p → laid_out (after c k) ≡ s
+    turn : (q : Bool) → in_turn c k ≡ q → keeps_radio s ≡ true → (whether q then said c (after c k) else nowhere not_there) ≡ Err p → laid_out (after c k) ≡ s
     turn true f e w = let l = said_lawful c k p (radio_kept c k (handed s e).lawful) w in absurd (⊎_elim (λ m. unlisted p l m refl) (λ m. unlisted p l m refl) n)
     turn false f e w = ap laid_out (out_of_turn c k f).0 ∙ sym (handed s e).is
 
-    go : (q : Bool) → keeps_radio s ≡ q → (whether q then outcome (answer c k) (laid_out (after c k)) else outcome (nowhere bad_loan) s).verdict ≡ Refused p
+    go : (q : Bool) → keeps_radio s ≡ q → (whether q then outcome (answer c k) (laid_out (after c k)) else outcome (nowhere bad_loan) s).verdict ≡ Err p
         → (whether q then outcome (answer c k) (laid_out (after c k)) else outcome (nowhere bad_loan) s).slices ≡ s
     go true e w = turn (in_turn c k) refl e w
     go false e w = refl
@@ -127,7 +126,7 @@ unknown_opening_stays n s u f = (rw (f, u), rw (f, u))
 pub calls_run : CallsRun
 calls_run n ed cs s c e =
     let opened : (open_call n s).slices ≡ laid_out (start ed) = rw (e, c) in
-    ap (called Accepted cs) opened ∙ run_called Accepted cs (start ed) (start_lawful ed)
+    ap (called (Ok tt) cs) opened ∙ run_called (Ok tt) cs (start ed) (start_lawful ed)
 
 -- the last close --------------------------------------------------------------------------------------------------------------------
 
@@ -146,11 +145,11 @@ unfolding last_answer parts run
 last_parts v [] t a n c = refl
 last_parts v (p ∷ ps) t a n c =
     let k = heard_on p t a n c in
-    ap (last_answer Accepted (parts ps)) k.2 ∙ last_parts Accepted ps t a k.0 k.1 ∙ ap (λ (z : Radio). verdict_of (standing (run (parts ps) z))) (sym k.2)
+    ap (last_answer (Ok tt) (parts ps)) k.2 ∙ last_parts (Ok tt) ps t a k.0 k.1 ∙ ap (λ (z : Radio). verdict_of (standing (run (parts ps) z))) (sym k.2)
 
 last_table : (v : Verdict) (a : ℕ) (ps : List Bytes) (t : Table) (r : Result) → last_answer v (announce a ∷ parts ps) (awaits t r) ≡ verdict_of (standing (run (announce a ∷ parts ps) (awaits t r)))
 unfolding last_answer run
-last_table v a ps t r = last_parts Accepted ps t (counted a) 0 (begun r)
+last_table v a ps t r = last_parts (Ok tt) ps t (counted a) 0 (begun r)
 
 six_answers : (o : Verdict) (u v w x y z : List Call) (k : Radio) → (o' : Verdict) × (last_answer o (u ++ (v ++ (w ++ (x ++ (y ++ z))))) k ≡ last_answer o' z (run y (run x (run w (run v (run u k))))))
 six_answers o u v w x y z k = (
@@ -159,11 +158,11 @@ six_answers o u v w x y z k = (
       ∙ last_join _ y z (run x (run w (run v (run u k)))),
 )
 
-last_heard_lem : (ed : Edition) (a : Table → ℕ) (ps : Table → List Bytes) → last_answer Accepted (calls_of a ps) (start ed) ≡ verdict_of (hearing ed (sending_of a ps))
+last_heard_lem : (ed : Edition) (a : Table → ℕ) (ps : Table → List Bytes) → last_answer (Ok tt) (calls_of a ps) (start ed) ≡ verdict_of (hearing ed (sending_of a ps))
 unfolding calls_of
 last_heard_lem ed a ps =
     let f : Five ed a ps = five_heard ed a ps in
-    let k = six_answers Accepted (calls_for a ps VehicleType) (calls_for a ps Depot) (calls_for a ps Stop) (calls_for a ps StopPoint) (calls_for a ps Block) (calls_for a ps Calendar) (start ed) in
+    let k = six_answers (Ok tt) (calls_for a ps VehicleType) (calls_for a ps Depot) (calls_for a ps Stop) (calls_for a ps StopPoint) (calls_for a ps Block) (calls_for a ps Calendar) (start ed) in
     k.1 ∙ ap (last_answer k.0 (calls_for a ps Calendar)) f.stands
     ∙ last_table k.0 (a Calendar) (ps Calendar) Calendar f.result
     ∙ ap (λ (z : Radio). verdict_of (standing z)) (table_heard Calendar (a Calendar) (ps Calendar) f.result f.clear) ∙ ap verdict_of f.last
@@ -175,11 +174,11 @@ as_read (leaves b) = (refl, refl)
 pub radio_reads : RadioReads
 unfolding laid_out sending_of
 radio_reads n ed a ps s c fit e =
-    let o : Outcome = called Accepted (calls_of a ps) (open_call n s).slices in
+    let o : Outcome = called (Ok tt) (calls_of a ps) (open_call n s).slices in
     let d : Sending = sending_of a ps in
     let r : Result = reading ed (delivery_of d) in
     let same : hearing ed d ≡ r = heard_as_read ed d (lengths a ps e) in
-    let out : o ≡ outcome (last_answer Accepted (calls_of a ps) (start ed)) (laid_out (run (calls_of a ps) (start ed))) = calls_run n ed (calls_of a ps) s c fit in (
+    let out : o ≡ outcome (last_answer (Ok tt) (calls_of a ps) (start ed)) (laid_out (run (calls_of a ps) (start ed))) = calls_run n ed (calls_of a ps) s c fit in (
       ap (λ (z : Outcome). z.verdict) out ∙ last_heard_lem ed a ps ∙ ap verdict_of same ∙ (as_read r).0,
       ap (λ (z : Outcome). z.slices.book) out ∙ ap (λ (z : Radio). laid_book (standing z)) (delivery_heard ed a ps) ∙ ap laid_book same ∙ (as_read r).1,
     )

@@ -9,9 +9,8 @@ use lib.ListN.{length, length-append}
 use borrow.Author.Tests.{ltb-true, ltb-false, ne_eqb, eqb-true}
 use Rattle.words.specs.Words.{Bytes, Row, whether◌then◌else◌}
 use Rattle.words.proofs.Lists.{and_left, and_right, every}
-use Rattle.refusals.specs.Verdicts.{◌⊳◌, ◌when◌, placed, in_text, text_too_long, too_many_rows, line_too_long, length_differs}
-use Rattle.refusals.specs.declared.Check.{Check}
-use Rattle.refusals.specs.declared.Check.TheVariants.{Passes, Fails}
+use Rattle.refusals.specs.Verdicts.{◌⊳◌, ◌when◌, placed, in_text, text_too_long, too_many_rows, line_too_long, length_differs, Check, fault}
+use Rattle.std.specs.Prelude.{Ok, Err}
 use Rattle.lines.specs.Lines.{line_after, most_bytes, most_line}
 use Rattle.rows.specs.Rows.{stands, inserted, same_key}
 use Rattle.rows.proofs.Changes.{stands_key, stands_inserted, other_stands_inserted}
@@ -58,13 +57,13 @@ module _ (t : Table) (row : Row) (b : Book) where
       every_table (λ v ys. stands (key_width v) key (rows v b) ≡ true → stands (key_width v) key ys ≡ true) b t (inserted (key_width t) row (rows t b))
       (stands_still (key_width t) key row (rows t b)) (λ v e. e) u
 
-  unknown_still : (xs : List Reference) (x : Row) → unknown_of xs x b ≡ Passes → unknown_of xs x (entered t row b) ≡ Passes
+  unknown_still : (xs : List Reference) (x : Row) → unknown_of xs x b ≡ Ok tt → unknown_of xs x (entered t row b) ≡ Ok tt
   unfolding unknown_of
   unknown_still [] x e = refl
   unknown_still (r ∷ rs) x e = go (finds r x b) refl e (unknown_still rs x)
     where
-      go : (q : Bool) → finds r x b ≡ q → Fails 10 r.column when not q ⊳ unknown_of rs x b ≡ Passes → (unknown_of rs x b ≡ Passes → unknown_of rs x (entered t row b) ≡ Passes)
-          → unknown_of (r ∷ rs) x (entered t row b) ≡ Passes
+      go : (q : Bool) → finds r x b ≡ q → Err (fault 10 r.column) when not q ⊳ unknown_of rs x b ≡ Ok tt → (unknown_of rs x b ≡ Ok tt → unknown_of rs x (entered t row b) ≡ Ok tt)
+          → unknown_of (r ∷ rs) x (entered t row b) ≡ Ok tt
       go true q f ih = rw (knows_still r.to (named r.to r.column x) q) (ih f)
       go false q f ih = let z : ◌≡◌ {A = ℕ} 0 1 = cc in let y : ⊥ = omega arith in absurd y
 
@@ -81,7 +80,7 @@ module _ (t : Table) (row : Row) (b : Book) where
       (subst (λ (l : List Row). Held t (entered t row b) l) (rows_with t (inserted (key_width t) row (rows t b)) b) (held_entered t b row k (s t)))
       (λ u. record { rising = (s u).rising; good = good_still u (rows u b) (s u).good; size = (s u).size })
 
-pub lawful_entered : (t : Table) (h : Header) (l : Bytes) (b : Book) → lawful_book b ≡ true → judged t h l b ≡ Passes → lawful_book (entered t (row_read b.edition t h l) b) ≡ true
+pub lawful_entered : (t : Table) (h : Header) (l : Bytes) (b : Book) → lawful_book b ≡ true → judged t h l b ≡ Ok tt → lawful_book (entered t (row_read b.edition t h l) b) ≡ true
 lawful_entered t h l b e p =
     standing_lawful (entered t (row_read b.edition t h l) b)
     (standing_entered t (row_read b.edition t h l) b (lawful_standing b e) (judged_taken t b h l p))
@@ -119,11 +118,11 @@ unfolding member
 row_listed ed t = refl
 
 -- a check of a line: on, unless it stops the table
-onward_lawful : (t : Table) (n i : ℕ) (xs : List Numbered) → Listed xs → (v : Check) → given xs v ≡ true → (c : Course) → (v ≡ Passes → lawful_course t n c ≡ true)
+onward_lawful : (t : Table) (n i : ℕ) (xs : List Numbered) → Listed xs → (v : Check) → given xs v ≡ true → (c : Course) → (v ≡ Ok tt → lawful_course t n c ≡ true)
     → lawful_course t n (onward (placed (number t) i v) c) ≡ true
 unfolding given
-onward_lawful t n i xs l Passes g c h = h refl
-onward_lawful t n i xs l (Fails m k) g c h = rw (among_listed xs reading_numbers m k l g, table_listed t)
+onward_lawful t n i xs l (Ok _) g c h = h refl
+onward_lawful t n i xs l (Err f) g c h = rw (among_listed xs reading_numbers f.number f.column l g, table_listed t)
 
 -- 1 and 18
 text_lawful : (t : Table) (p q : Bool) (r : Result) → lawful_result r ≡ true → lawful_result (unless (in_text (number t) (text_too_long when p ⊳ length_differs when q)) r) ≡ true
@@ -150,7 +149,7 @@ line_lawful t n b i head rest line l k = go (eqb i 1) refl
     no_header : (j : ℕ) → 1 ≤ j → (m : Bytes) → eqb (line_after ed j m) 1 ≡ false
     no_header j h m = ne_eqb (line_after ed j m) 1 (λ q. omega (arith, line_after_lem ed j m))
 
-    head_kept : header_check ed t line ≡ Passes → lawful_head ed t (line_after ed 1 line) line ≡ true
+    head_kept : header_check ed t line ≡ Ok tt → lawful_head ed t (line_after ed 1 line) line ≡ true
     head_kept e = rw (no_header 1 (omega arith) line, e)
 
     short : length line ≤ most_bytes

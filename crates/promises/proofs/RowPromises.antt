@@ -7,11 +7,10 @@ use native.Mathlib.Omega.{arith}
 use lib.ListN.{length, get_or}
 use Rattle.words.specs.Words.{Row, whether◌then◌else◌, Bytes, same}
 use Rattle.words.proofs.Lists.{same_true, same_refl}
-use Rattle.refusals.specs.Verdicts.{placed, place, ◌when◌, nowhere, not_there}
-use Rattle.refusals.specs.declared.Check.{Check}
-use Rattle.refusals.specs.declared.Check.TheVariants.{Passes, Fails}
+use Rattle.refusals.specs.Verdicts.{placed, place, ◌when◌, nowhere, not_there, Check}
+use Rattle.std.specs.Prelude.{Ok, Err}
 use Rattle.rows.specs.Rows.{key_order, stands, inserted, found, same_key}
-use Rattle.rows.specs.declared.Order.TheVariants.{Less, Same, More}
+use Rattle.std.specs.declared.cmp.Ordering.TheVariants.{Less, Equal, Greater}
 use Rattle.rows.proofs.Changes.{stands_key, found_key, stands_inserted, found_inserted, other_stands_inserted, other_found_inserted, length_inserted}
 use Rattle.rows.proofs.Rising.{Above, Rising}
 use Rattle.rows.proofs.Keys.{order_refl, less_more}
@@ -106,7 +105,7 @@ rows_gained t h i (l ∷ ls) b c e = go (judged t h l b) refl (rows_gained t h (
         (rows_read t h (line_after b.edition i l) ls (entered t (row_read b.edition t h l) b) ≡ leaves c → Gained t (entered t (row_read b.edition t h l) b) c (map (row_read b.edition t h) ls)) →
         unless (placed (number t) i (judged t h l b)) (rows_read t h (line_after b.edition i l) ls (entered t (row_read b.edition t h l) b)) ≡ leaves c →
         Gained t b c (map (row_read b.edition t h) (l ∷ ls))
-    go Passes v ih f =
+    go (Ok _) v ih f =
         let g : Gained t (entered t (row_read b.edition t h l) b) c (map (row_read b.edition t h) ls) = ih (rw v at f) in
         let a : Taken t b (row_read b.edition t h l) = judged_taken t b h l v in
         let own : rows t (entered t (row_read b.edition t h l) b) ≡ inserted (key_width t) (row_read b.edition t h l) (rows t b) =
@@ -124,8 +123,8 @@ rows_gained t h i (l ∷ ls) b c e = go (judged t h l b) refl (rows_gained t h (
               g.finding key ∙ ap (λ (z : List Row). both_found (key_width t) key z (map (row_read b.edition t h) ls)) own
               ∙ (find_fresh (key_width t) key (row_read b.edition t h l) (rows t b) (map (row_read b.edition t h) ls) a.fresh).1;
         }
-    go (Fails n k) v ih f =
-        let x : refused (place n (number t) i k) ≡ leaves c = rw v at f in
+    go (Err w) v ih f =
+        let x : refused (place w.number (number t) i w.column) ≡ leaves c = rw v at f in
         let z : ◌≡◌ {A = ℕ} 0 1 = cc in let y : ⊥ = omega arith in absurd y
 
 -- a table of an accepted delivery
@@ -217,12 +216,12 @@ found_copy k row (x ∷ xs) u h = go (same row x) refl (found_copy k row xs u.1)
     go : (q : Bool) → same row x ≡ q → (1 ≤ copies row xs → found k row xs ≡ row) → found k row (x ∷ xs) ≡ row
     go true e ih =
         let f : row ≡ x = same_true row x e in
-        let o : key_order k row x ≡ Same = ap (λ (z : Row). key_order k row z) (sym f) ∙ order_refl k 0 row in
+        let o : key_order k row x ≡ Equal = ap (λ (z : Row). key_order k row z) (sym f) ∙ order_refl k 0 row in
         rw o (sym f)
     go false e ih =
         let rest : 1 ≤ 0 + copies row xs = rw e at h in
         let in_rest : 1 ≤ copies row xs = omega arith in
-        let o : key_order k row x ≡ More = less_more k x row (above_copy k x row xs u.0 in_rest) in
+        let o : key_order k row x ≡ Greater = less_more k x row (above_copy k x row xs u.0 in_rest) in
         rw o (ih in_rest)
 
 pub copy_at : (f : Bytes → Row) (ls : List Bytes) (i : ℕ) → i < length ls → 1 ≤ copies (f (get_or ls i [])) (map f ls)

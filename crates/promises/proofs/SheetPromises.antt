@@ -1,4 +1,5 @@
 -- Demands 1 and 2: the calls for a day and for its sheet, and how long a sheet is at most. Assumes nothing.
+use Rattle.std.proofs.Common.{Some}
 use mathlib.Core.Path.{◌≡◌, refl, ◌∙◌, ap, sym}
 use mathlib.Core.List.{List, [], ◌∷◌, map, ◌++◌}
 use mathlib.Core.Bool.{Bool, true, false, not, ◌&&◌}
@@ -11,9 +12,8 @@ use borrow.Author.Tests.{eq-eqb, ne_eqb, le-ltb}
 use Rattle.words.specs.Words.{Row, Bytes, bytes, all, whether◌then◌else◌}
 use Rattle.words.proofs.Lists.{and_left, and_right, take_seam}
 use Rattle.refusals.specs.declared.Place.{Place}
-use Rattle.refusals.specs.declared.Verdict.{Verdict}
-use Rattle.refusals.specs.declared.Verdict.TheVariants.{Accepted, Refused}
-use Rattle.refusals.specs.Verdicts.{◌when◌, nowhere, bad_loan, ◌before◌, output_short, paper}
+use Rattle.std.specs.Prelude.{Ok, Err}
+use Rattle.refusals.specs.Verdicts.{◌when◌, nowhere, bad_loan, ◌before◌, output_short, paper, Verdict}
 use Rattle.cells.specs.Cells.{parted}
 use Rattle.numbers.specs.Numbers.{decimal}
 use Rattle.numbers.specs.Putting.{put}
@@ -22,7 +22,6 @@ use Rattle.rows.specs.Room.{zeros}
 use Rattle.rows.specs.Rows.{column, rising}
 use Rattle.editions.specs.Editions.{choice}
 use Rattle.editions.specs.declared.Edition.{Edition}
-use Rattle.editions.specs.declared.Choice.TheVariants.{Chosen}
 use Rattle.tables.specs.Columns.{columns_of, key_width, number}
 use Rattle.tables.specs.Parts.{room, book_rows}
 use Rattle.tables.specs.declared.Table.{Table}
@@ -65,7 +64,7 @@ day_sized : (n : ℕ) (d : Delivery) (s : Bytes) (book work : List Row) → leng
 day_sized n d s book work j = rw (eq-eqb (length work) 512 j)
 
 -- behind a reading
-day_read : (n : ℕ) (e : Edition) (d : Delivery) (s : Bytes) (book work : List Row) (r : Result) → choice n ≡ Chosen e → length book ≡ book_rows → length work ≡ 512 → reading e d ≡ r →
+day_read : (n : ℕ) (e : Edition) (d : Delivery) (s : Bytes) (book work : List Row) (r : Result) → choice n ≡ Some e → length book ≡ book_rows → length work ≡ 512 → reading e d ≡ r →
     day_call n d s book work ≡ then_slip (read_outcome r).verdict s (read_outcome r).book work
 day_read n e d s book work r c i j h =
     day_sized n d s book work j
@@ -73,7 +72,7 @@ day_read n e d s book work r c i j h =
 
 pub day_call_answers : DayCallAnswers
 day_call_answers n e d s book work c i j = (
-  λ p h. day_read n e d s book work (refused p) c i j h ∙ ap (outcome (Refused p) (laid empty)) (rw (eq-eqb (length work) 512 j)),
+  λ p h. day_read n e d s book work (refused p) c i j h ∙ ap (outcome (Err p) (laid empty)) (rw (eq-eqb (length work) 512 j)),
   λ b h. day_read n e d s book work (leaves b) c i j h ∙ slip_call_answers s b work (e, (d, h)) j,
 )
 
@@ -101,16 +100,16 @@ wrong_day_loan_stays n d s book work = (
     wrong_book i false = (refl, rw (ne_eqb (length book) book_rows i))
 
     work_left : (v : Verdict) (ys : List Row) → (then_slip v s ys work).work ≡ cleared work
-    work_left Accepted ys = work_behind (judged_slip s ys work) ys work
-    work_left (Refused p) ys = refl
+    work_left (Ok _) ys = work_behind (judged_slip s ys work) ys work
+    work_left (Err p) ys = refl
 
 -- what was lent is not read ------------------------------------------------------------------------------------------------------
 
 module _ (s : Bytes) (book : List Row) where
   -- the slip's outcome with a working area of its size
   abbrev blank : Result → Outcome
-  blank (refused p) = outcome (Refused p) book (replicate 512 zeros)
-  blank (leaves b) = outcome Accepted (laid b) (replicate 512 zeros)
+  blank (refused p) = outcome (Err p) book (replicate 512 zeros)
+  blank (leaves b) = outcome (Ok tt) (laid b) (replicate 512 zeros)
 
   outcome_blank : (r : Result) (work : List Row) → length work ≡ 512 → slip_outcome r book work ≡ blank r
   outcome_blank (refused p) work n = rw (eq-eqb (length work) 512 n)
@@ -125,8 +124,8 @@ module _ (s : Bytes) (book : List Row) where
   slip_unread work area n m = slip_blank work n ∙ sym (slip_blank area m)
 
   then_unread : (v : Verdict) (work area : List Row) → length work ≡ 512 → length area ≡ 512 → then_slip v s book work ≡ then_slip v s book area
-  then_unread Accepted work area n m = slip_unread work area n m
-  then_unread (Refused p) work area n m = outcome_blank (refused p) work n ∙ sym (outcome_blank (refused p) area m)
+  then_unread (Ok _) work area n m = slip_unread work area n m
+  then_unread (Err p) work area n m = outcome_blank (refused p) work n ∙ sym (outcome_blank (refused p) area m)
 
 -- of any edition, and of none
 read_unread : (n : ℕ) (d : Delivery) (book other : List Row) → length book ≡ book_rows → length other ≡ book_rows → read_call n d book ≡ read_call n d other
@@ -266,10 +265,10 @@ sheet_fits e d s = omega (arith, go (reading e d) refl)
     go (leaves b) h = behind b h (posting s b) refl
 
 -- a text for which there is room is put at the head of the output
-wrote_all : (t out : Bytes) → length t ≤ length out → wrote (short_for t out) t out ≡ writing.outcome Accepted (length t) (put t out)
+wrote_all : (t out : Bytes) → length t ≤ length out → wrote (short_for t out) t out ≡ writing.outcome (Ok tt) (length t) (put t out)
 wrote_all t out h = ap (λ (q : Bool). wrote (nowhere (output_short when q)) t out) (le-ltb (length out) (length t) h)
 
-sheet_laid : (c : Book) (out : Bytes) → Left c → length (sheet_text c) ≤ length out → sheet_call Accepted (laid c) out ≡ writing.outcome Accepted (length (sheet_text c)) (put (sheet_text c) out)
+sheet_laid : (c : Book) (out : Bytes) → Left c → length (sheet_text c) ≤ length out → sheet_call (Ok tt) (laid c) out ≡ writing.outcome (Ok tt) (length (sheet_text c)) (put (sheet_text c) out)
 sheet_laid c out l h =
     let st : Standing c = left_standing c l in
     ap (λ (q : Bool). wrote (nowhere (bad_loan when not q) before short_for (sheet_text (book_of (laid c))) out) (sheet_text (book_of (laid c))) out) (laid_keeps c st)
@@ -284,7 +283,7 @@ sheet_call_answers n e d s book work out c i j h = go (reading e d) refl h
     called o = sheet_call o.verdict o.book out
 
     told : Bytes → writing.Outcome
-    told t = writing.outcome Accepted (length t) (put t out)
+    told t = writing.outcome (Ok tt) (length t) (put t out)
 
     behind : (b : Book) → reading e d ≡ leaves b → (r : Result) → posting s b ≡ r → length (printed r) ≤ length out → called (slip_outcome r (laid b) work) ≡ told (printed r)
     behind b k (refused p) f h = wrote_all (refusal_text p) out h

@@ -10,15 +10,14 @@ use lib.Seq.{take_all}
 use borrow.Author.Tests.{eqb-true, leb-false}
 use Rattle.words.specs.Words.{Row, Bytes}
 use Rattle.refusals.proofs.Chaining.{both}
-use Rattle.refusals.specs.declared.Check.TheVariants.{Passes, Fails}
-use Rattle.refusals.specs.Verdicts.{◌⊳◌, ◌when◌, too_many_rows, ends_early, key_stands, placed, place, in_text, text_too_long}
-use Rattle.refusals.specs.declared.Check.{Check}
+use Rattle.std.specs.Prelude.{Ok, Err}
+use Rattle.refusals.specs.Verdicts.{◌⊳◌, ◌when◌, too_many_rows, ends_early, key_stands, placed, place, in_text, text_too_long, Check}
 use Rattle.lines.specs.Lines.{slip_lines, overlong}
 use Rattle.numbers.specs.Numbers.{value}
 use Rattle.fields.specs.Fields.{fields}
 use Rattle.rows.specs.Rows.{key_order, replaced, removed, wide}
-use Rattle.rows.specs.declared.Order.{Order}
-use Rattle.rows.specs.declared.Order.TheVariants.{Less, Same, More}
+use Rattle.std.specs.declared.cmp.Ordering.{Ordering}
+use Rattle.std.specs.declared.cmp.Ordering.TheVariants.{Less, Equal, Greater}
 use Rattle.rows.proofs.Rising.{rising_removed, rising_replaced}
 use Rattle.rows.proofs.Changes.{length_removed_most, length_replaced}
 use Rattle.editions.specs.declared.Edition.{Edition}
@@ -45,20 +44,20 @@ module _ (b : Book) (row : Row) where
   good_replaced [] g h = tt
   good_replaced (x ∷ xs) g h = go (key_order 4 row x) refl (good_replaced xs g h.1)
     where
-      go : (o : Order) → key_order 4 row x ≡ o → EachGood Block b (replaced 4 row xs) → EachGood Block b (replaced 4 row (x ∷ xs))
+      go : (o : Ordering) → key_order 4 row x ≡ o → EachGood Block b (replaced 4 row xs) → EachGood Block b (replaced 4 row (x ∷ xs))
       go Less f ih = rw f (h.0, ih)
-      go Same f ih = rw f (g, h.1)
-      go More f ih = rw f (h.0, ih)
+      go Equal f ih = rw f (g, h.1)
+      go Greater f ih = rw f (h.0, ih)
 
   good_removed : (xs : List Row) → EachGood Block b xs → EachGood Block b (removed 4 row xs)
   unfolding EachGood removed
   good_removed [] h = tt
   good_removed (x ∷ xs) h = go (key_order 4 row x) refl (good_removed xs h.1)
     where
-      go : (o : Order) → key_order 4 row x ≡ o → EachGood Block b (removed 4 row xs) → EachGood Block b (removed 4 row (x ∷ xs))
+      go : (o : Ordering) → key_order 4 row x ≡ o → EachGood Block b (removed 4 row xs) → EachGood Block b (removed 4 row (x ∷ xs))
       go Less f ih = rw f (h.0, ih)
-      go Same f ih = rw f h.1
-      go More f ih = rw f (h.0, ih)
+      go Equal f ih = rw f h.1
+      go Greater f ih = rw f (h.0, ih)
 
 pub held_removed : (b : Book) (row : Row) (xs : List Row) → Held Block b xs → Held Block b (removed 4 row xs)
 held_removed b row xs h =
@@ -99,7 +98,7 @@ pub record Fielded (ed : Edition) (row : Row) : Type 0 where
 eleven_wide : (row : Row) → Eleven row → row ≡ wide (take 11 row)
 eleven_wide row (eleven a b c d e f g h i j k) = refl
 
-pub fielded : (ed : Edition) (fs : List Bytes) → length fs ≡ 11 → bad_field ed fs ≡ Passes → Fielded ed (map value fs)
+pub fielded : (ed : Edition) (fs : List Bytes) → length fs ≡ 11 → bad_field ed fs ≡ Ok tt → Fielded ed (map value fs)
 fielded ed fs n g =
     let long : length (map value fs) ≡ 11 = length-map fs value ∙ n in
     let e : Eleven (map value fs) = eleven_long (map value fs) long in
@@ -116,7 +115,7 @@ pub record Kept (x c : Book) : Type 0 where
   pub blocks : Held Block x c.blocks
 
 held_line : (b : Book) (ss : List Bytes) (w : Wish) → wish ss ≡ w →
-    line_judged w (numbers ss) (map value (numbers ss)) b ≡ Passes → Held Block b b.blocks → Kept b (granted w (map value (numbers ss)) b)
+    line_judged w (numbers ss) (map value (numbers ss)) b ≡ Ok tt → Held Block b b.blocks → Kept b (granted w (map value (numbers ss)) b)
 unfolding eleven_wished
 held_line b ss Unknown e p h = let z : ◌≡◌ {A = ℕ} 0 1 = cc in let y : ⊥ = omega arith in absurd y
 held_line b ss Add e p h =
@@ -164,7 +163,7 @@ unknown_kept x b e row = sym (unknown_with Block row b.blocks x) ∙ ap (λ (z :
 edition_kept : (x b : Book) → b ≡ with_rows Block b.blocks x → x.edition ≡ b.edition
 edition_kept x b e = sym (ap (λ (z : Book). z.edition) e)
 
-kept_line_lem : (x b : Book) (l : Bytes) → slip_check l b ≡ Passes → Kept x b → Kept x (slip_leaves l b)
+kept_line_lem : (x b : Book) (l : Bytes) → slip_check l b ≡ Ok tt → Kept x b → Kept x (slip_leaves l b)
 kept_line_lem x b l p k =
     let c : Book = slip_leaves l b in
     let n : Kept b c = held_line b (fields l) (wish (fields l)) refl p (held_moved Block x b (edition_kept x b k.apart) (unknown_kept x b k.apart) b.blocks k.blocks) in
@@ -182,9 +181,9 @@ kept_lines x i (l ∷ ls) b c k e = go (slip_check l b) refl (kept_lines x (suc 
   where
     go : (v : Check) → slip_check l b ≡ v → (Kept x (slip_leaves l b) → lines_posted (suc i) ls (slip_leaves l b) ≡ leaves c → Kept x c) →
         unless (placed 5 i (slip_check l b)) (lines_posted (suc i) ls (slip_leaves l b)) ≡ leaves c → Kept x c
-    go Passes v ih f = ih (kept_line_lem x b l v k) (rw v at f)
-    go (Fails n m) v ih f =
-        let t : refused (place n 5 i m) ≡ leaves c = rw v at f in
+    go (Ok _) v ih f = ih (kept_line_lem x b l v k) (rw v at f)
+    go (Err w) v ih f =
+        let t : refused (place w.number 5 i w.column) ≡ leaves c = rw v at f in
         let z : ◌≡◌ {A = ℕ} 0 1 = cc in let y : ⊥ = omega arith in absurd y
 
 pub kept_posted : (x : Book) (s : Bytes) (b : Book) → Kept x b → Kept x (posted s b)
@@ -201,7 +200,7 @@ kept_run x [] b k = k
 kept_run x (s ∷ ss) b k = kept_run x ss (posted s b) (kept_posted x s b k)
 
 -- and the lines of a slip up to one that is reached
-pub kept_onward : (x : Book) (i : ℕ) (ls : List Bytes) (b : Book) → Kept x b → i < length ls → ((j : ℕ) → j < i → check_at slip_check slip_leaves ls j b ≡ Passes) →
+pub kept_onward : (x : Book) (i : ℕ) (ls : List Bytes) (b : Book) → Kept x b → i < length ls → ((j : ℕ) → j < i → check_at slip_check slip_leaves ls j b ≡ Ok tt) →
     Kept x (onward slip_leaves (take i ls) b)
 unfolding onward
 kept_onward x zero ls b k n h = k

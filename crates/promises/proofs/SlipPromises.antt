@@ -9,17 +9,15 @@ use lib.ListN.{length, get_or}
 use borrow.Author.Tests.{lt-leb}
 use Rattle.words.specs.Words.{Bytes, Row, whether◌then◌else◌}
 use Rattle.words.proofs.Lists.{and_left, and_right}
-use Rattle.refusals.specs.Verdicts.{◌⊳◌, ◌when◌, placed, too_many_rows, passes, ends_early, no_block, place, in_text, text_too_long, nowhere, not_there}
-use Rattle.refusals.specs.declared.Check.{Check}
-use Rattle.refusals.specs.declared.Check.TheVariants.{Passes, Fails}
-use Rattle.refusals.specs.declared.Verdict.TheVariants.{Accepted}
+use Rattle.refusals.specs.Verdicts.{◌⊳◌, ◌when◌, placed, too_many_rows, passes, ends_early, no_block, place, in_text, text_too_long, nowhere, not_there, Check, fault}
+use Rattle.std.specs.Prelude.{Ok, Err}
 use Rattle.refusals.specs.declared.Place.{Place}
 use Rattle.lines.specs.Lines.{slip_lines, overlong}
 use Rattle.numbers.specs.Numbers.{value}
 use Rattle.fields.specs.Fields.{fields}
 use Rattle.rows.specs.Rows.{stands, removed, found, key_order, inserted, replaced}
-use Rattle.rows.specs.declared.Order.{Order}
-use Rattle.rows.specs.declared.Order.TheVariants.{Less, Same, More}
+use Rattle.std.specs.declared.cmp.Ordering.{Ordering}
+use Rattle.std.specs.declared.cmp.Ordering.TheVariants.{Less, Equal, Greater}
 use Rattle.rows.proofs.Changes.{stands_removed, length_removed}
 use Rattle.editions.specs.declared.Edition.{Edition}
 use Rattle.tables.specs.declared.Table.TheVariants.{Block, Calendar}
@@ -50,7 +48,7 @@ use Rattle.promises.proofs.RulePromises.{left_standing}
 -- a book of which a delivery's book keeps the other tables, and whose blocks stand by right, is read afresh
 kept_reads : (ed : Edition) (d : Delivery) (b c : Book) → reading ed d ≡ leaves b → Kept b c → reading ed (with_blocks (written c) d) ≡ leaves c
 kept_reads ed d b c e k =
-    with_other_blocks ed d b e (written c) Accepted c.blocks (blocks_back (with_rows Calendar [] b) c.blocks (held_undated b c.blocks k.blocks))
+    with_other_blocks ed d b e (written c) (Ok tt) c.blocks (blocks_back (with_rows Calendar [] b) c.blocks (held_undated b c.blocks k.blocks))
     ∙ ap (λ (z : Book). leaves z) (sym k.apart)
 
 kept_itself : (ed : Edition) (d : Delivery) (b : Book) → reading ed d ≡ leaves b → Kept b b
@@ -83,8 +81,8 @@ read_there_lem ed d b ys row e h n =
     ∙ rw (row_judged Block row (with_rows Block ys c) n.numbers n.shape n.inside, row_read_lem b.edition Block row n.numbers n.shape))
 
 accepted_placed : (i : ℕ) (c : Check) (x : Book) → accepted (unless (placed 4 i c) (leaves x)) ≡ passes c
-accepted_placed i Passes x = refl
-accepted_placed i (Fails n k) x = refl
+accepted_placed i (Ok _) x = refl
+accepted_placed i (Err f) x = refl
 
 module _ (ed : Edition) (d : Delivery) (b : Book) (e : reading ed d ≡ leaves b) where
   blocks_held : Held Block b b.blocks
@@ -94,7 +92,7 @@ module _ (ed : Edition) (d : Delivery) (b : Book) (e : reading ed d ≡ leaves b
       read_there ed d ys row ≡ passes (too_many_rows when full Block (with_rows Block ys b) ⊳ ruled Block row (with_rows Block ys b))
   there ys row h n = ap accepted (read_there_lem ed d b ys row e h n) ∙ accepted_placed (2 + length ys) (too_many_rows when full Block (with_rows Block ys b) ⊳ ruled Block row (with_rows Block ys b)) (entered Block row (with_rows Block ys b))
 
-  exactly : (ss : List Bytes) (w : Wish) → wish ss ≡ w → known w ≡ true → bad_field b.edition (numbers ss) ≡ Passes →
+  exactly : (ss : List Bytes) (w : Wish) → wish ss ≡ w → known w ≡ true → bad_field b.edition (numbers ss) ≡ Ok tt →
       passes (line_judged w (numbers ss) (map value (numbers ss)) b) ≡ admissible w ed d (map value (numbers ss)) b
   unfolding unknown_of eleven_wished
   exactly ss Unknown f u g = let z : ◌≡◌ {A = ℕ} 0 1 = cc in let y : ⊥ = omega arith in absurd y
@@ -159,21 +157,21 @@ refused_exactly ed d b ss s i e r h =
     line_refused ed (with_blocks (written c) d) c line (midway_reads_afresh ed d b ss s i e r) h
     ∙ admissible_beside (wish (fields line)) (written c) ed d (row_in line) c
 
-placed_refused : (t i : ℕ) (c : Check) (x : Book) (p : Place) → unless (placed t i c) (leaves x) ≡ refused p → (c ≡ Fails p.number p.column) × (p.table ≡ t) × (p.line ≡ i)
-placed_refused t i Passes x p h = let z : ◌≡◌ {A = ℕ} 0 1 = cc in let y : ⊥ = omega arith in absurd y
-placed_refused t i (Fails n k) x p h =
-    let q : place n t i k ≡ p = cc in
-    subst (λ (z : Place). (Fails n k ≡ Fails z.number z.column) × (z.table ≡ t) × (z.line ≡ i)) q (refl, refl, refl)
+placed_refused : (t i : ℕ) (c : Check) (x : Book) (p : Place) → unless (placed t i c) (leaves x) ≡ refused p → (c ≡ Err (fault p.number p.column)) × (p.table ≡ t) × (p.line ≡ i)
+placed_refused t i (Ok _) x p h = let z : ◌≡◌ {A = ℕ} 0 1 = cc in let y : ⊥ = omega arith in absurd y
+placed_refused t i (Err f) x p h =
+    let q : place f.number t i f.column ≡ p = cc in
+    subst (λ (z : Place). (◌≡◌ {A = Check} (Err f) (Err (fault z.number z.column))) × (z.table ≡ t) × (z.line ≡ i)) q (refl, refl, refl)
 
 line_alike : (ed : Edition) (d : Delivery) (b : Book) (line : Bytes) (p : Place) → reading ed d ≡ leaves b → well_formed ed line ≡ true → wish (fields line) ≡ Add →
     reading ed (with_blocks (written_with (row_in line) b.blocks) d) ≡ refused p →
-    (slip_check line b ≡ Fails p.number p.column) × (p.table ≡ 4) × (p.line ≡ 2 + length b.blocks)
+    (slip_check line b ≡ Err (fault p.number p.column)) × (p.table ≡ 4) × (p.line ≡ 2 + length b.blocks)
 unfolding eleven_wished
 line_alike ed d b line p e k f r =
     let h = well_formed_lem ed d b line e k in
     let ss = fields line in
     let row = row_in line in
-    let good : bad_field b.edition (numbers ss) ≡ Passes = passed (bad_field b.edition (numbers ss)) (and_right (known (wish ss)) (passes (bad_field b.edition (numbers ss))) h) in
+    let good : bad_field b.edition (numbers ss) ≡ (Ok tt) = passed (bad_field b.edition (numbers ss)) (and_right (known (wish ss)) (passes (bad_field b.edition (numbers ss))) h) in
     let n : Fielded b.edition row = fielded b.edition (numbers ss) (wish_eleven ss (ap eleven_wished f)) good in
     let c : Check = too_many_rows when full Block b ⊳ ruled Block row b in
     let q = placed_refused 4 (2 + length b.blocks) c (entered Block row b) p (sym (read_there_lem ed d b b.blocks row e ((left_by ed d b e).standing Block) n) ∙ r) in
@@ -225,32 +223,32 @@ module _ (v n : ℕ) (row : Row) where
   rows_inserted [] h = rw h
   rows_inserted (x ∷ xs) h = go (key_order 4 row x) refl (rows_inserted xs h)
     where
-      go : (o : Order) → key_order 4 row x ≡ o → type_rows v n (inserted 4 row xs) ≡ type_rows v n xs → type_rows v n (inserted 4 row (x ∷ xs)) ≡ type_rows v n (x ∷ xs)
+      go : (o : Ordering) → key_order 4 row x ≡ o → type_rows v n (inserted 4 row xs) ≡ type_rows v n xs → type_rows v n (inserted 4 row (x ∷ xs)) ≡ type_rows v n (x ∷ xs)
       go Less e ih = rw (e, h)
-      go Same e ih = rw e
-      go More e ih = rw (e, ih)
+      go Equal e ih = rw e
+      go Greater e ih = rw (e, ih)
 
   rows_replaced : (xs : List Row) → of_type v n row ≡ false → of_type v n (found 4 row xs) ≡ false → type_rows v n (replaced 4 row xs) ≡ type_rows v n xs
   unfolding type_rows replaced found
   rows_replaced [] h k = refl
   rows_replaced (x ∷ xs) h k = go (key_order 4 row x) refl (rows_replaced xs h)
     where
-      go : (o : Order) → key_order 4 row x ≡ o → (of_type v n (found 4 row xs) ≡ false → type_rows v n (replaced 4 row xs) ≡ type_rows v n xs) →
+      go : (o : Ordering) → key_order 4 row x ≡ o → (of_type v n (found 4 row xs) ≡ false → type_rows v n (replaced 4 row xs) ≡ type_rows v n xs) →
           type_rows v n (replaced 4 row (x ∷ xs)) ≡ type_rows v n (x ∷ xs)
       go Less e ih = rw (e, ih (rw e at k))
-      go Same e ih = let m : of_type v n x ≡ false = rw e at k in rw (e, h, m)
-      go More e ih = rw (e, ih (rw e at k))
+      go Equal e ih = let m : of_type v n x ≡ false = rw e at k in rw (e, h, m)
+      go Greater e ih = rw (e, ih (rw e at k))
 
   rows_removed : (xs : List Row) → of_type v n (found 4 row xs) ≡ false → type_rows v n (removed 4 row xs) ≡ type_rows v n xs
   unfolding type_rows removed found
   rows_removed [] k = refl
   rows_removed (x ∷ xs) k = go (key_order 4 row x) refl (rows_removed xs)
     where
-      go : (o : Order) → key_order 4 row x ≡ o → (of_type v n (found 4 row xs) ≡ false → type_rows v n (removed 4 row xs) ≡ type_rows v n xs) →
+      go : (o : Ordering) → key_order 4 row x ≡ o → (of_type v n (found 4 row xs) ≡ false → type_rows v n (removed 4 row xs) ≡ type_rows v n xs) →
           type_rows v n (removed 4 row (x ∷ xs)) ≡ type_rows v n (x ∷ xs)
       go Less e ih = rw (e, ih (rw e at k))
-      go Same e ih = let m : of_type v n x ≡ false = rw e at k in rw (e, m)
-      go More e ih = rw (e, ih (rw e at k))
+      go Equal e ih = let m : of_type v n x ≡ false = rw e at k in rw (e, m)
+      go Greater e ih = rw (e, ih (rw e at k))
 
   rows_granted : (w : Wish) (b : Book) → changes w v n row b ≡ false → type_rows v n (granted w row b).blocks ≡ type_rows v n b.blocks
   rows_granted Unknown b h = refl

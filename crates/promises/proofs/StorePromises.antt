@@ -6,10 +6,8 @@ use mathlib.Core.Bool.{Bool, true, false, not}
 use mathlib.Core.List.{List, [], ◌∷◌, ◌++◌, append_assoc}
 use Rattle.words.specs.Words.{Bytes, Row, whether◌then◌else◌}
 use Rattle.refusals.proofs.Chaining.{both}
-use Rattle.refusals.specs.Verdicts.{◌⊳◌, ◌when◌, place, in_text, text_too_long, too_many_rows, ends_early, key_stands, no_block, nowhere, not_there}
-use Rattle.refusals.specs.declared.Check.{Check}
-use Rattle.refusals.specs.declared.Check.TheVariants.{Passes, Fails}
-use Rattle.refusals.specs.declared.Verdict.TheVariants.{Accepted}
+use Rattle.refusals.specs.Verdicts.{◌⊳◌, ◌when◌, place, in_text, text_too_long, too_many_rows, ends_early, key_stands, no_block, nowhere, not_there, Check}
+use Rattle.std.specs.Prelude.{Ok, Err}
 use Rattle.lines.specs.Lines.{slip_lines, overlong}
 use Rattle.fields.specs.Fields.{fields}
 use Rattle.rows.specs.Rows.{same_key, stands, found, rising}
@@ -43,11 +41,11 @@ use Rattle.promises.proofs.CallPromises.{calls_read_afresh}
 
 -- a line -------------------------------------------------------------------------------------------------------------------
 
-not_missing : (q : Bool) → no_block when not q ≡ Passes → q ≡ true
+not_missing : (q : Bool) → no_block when not q ≡ Ok tt → q ≡ true
 not_missing true h = refl
 not_missing false h = let z : ◌≡◌ {A = ℕ} 0 1 = cc in absurd (omega arith)
 
-stood : (fs : List Bytes) (row : Row) (b : Book) (w : Wish) → line_judged w fs row b ≡ Passes → stands 4 row b.blocks ≡ stood_before w
+stood : (fs : List Bytes) (row : Row) (b : Book) (w : Wish) → line_judged w fs row b ≡ Ok tt → stands 4 row b.blocks ≡ stood_before w
 stood fs row b Unknown p = let z : ◌≡◌ {A = ℕ} 0 1 = cc in absurd (omega arith)
 stood fs row b Add p =
     let p5 = both (too_many_rows when full Block b) (bad_field b.edition fs ⊳ ruled Block row b) p in
@@ -72,7 +70,7 @@ module _ (many : List Row → ℕ) (h : Weighs many) where
   line_stores b l p = granted_stores (wish (fields l)) (row_in l) b (stood (numbers (fields l)) (row_in l) b (wish (fields l)) p)
 
 -- the row of each key behind it
-line_said : (b : Book) (l : Bytes) (key : Row) → rising 4 b.blocks ≡ true → slip_check l b ≡ Passes →
+line_said : (b : Book) (l : Bytes) (key : Row) → rising 4 b.blocks ≡ true → slip_check l b ≡ Ok tt →
     found 4 key (slip_leaves l b).blocks
     ≡ (whether same_key 4 key (row_in l) then says (wish (fields l)) (row_in l) (found 4 key b.blocks) else found 4 key b.blocks)
 line_said b l key up p = go (same_key 4 key (row_in l)) refl
@@ -88,13 +86,13 @@ line_said b l key up p = go (same_key 4 key (row_in l)) refl
 -- lines -------------------------------------------------------------------------------------------------------------------
 
 passing : (i : ℕ) (l : Bytes) (ls : List Bytes) (b c : Book) → lines_posted i (l ∷ ls) b ≡ leaves c →
-    (slip_check l b ≡ Passes) × (lines_posted (suc i) ls (slip_leaves l b) ≡ leaves c)
+    (slip_check l b ≡ Ok tt) × (lines_posted (suc i) ls (slip_leaves l b) ≡ leaves c)
 unfolding lines_posted
 passing i l ls b c e = go (slip_check l b) refl
   where
-    go : (v : Check) → slip_check l b ≡ v → (slip_check l b ≡ Passes) × (lines_posted (suc i) ls (slip_leaves l b) ≡ leaves c)
-    go Passes v = (v, rw v at e)
-    go (Fails n k) v = let t : refused (place n 5 i k) ≡ leaves c = rw v at e in let z : ◌≡◌ {A = ℕ} 0 1 = cc in absurd (omega arith)
+    go : (v : Check) → slip_check l b ≡ v → (slip_check l b ≡ Ok tt) × (lines_posted (suc i) ls (slip_leaves l b) ≡ leaves c)
+    go (Ok _) v = (v, rw v at e)
+    go (Err f) v = let t : refused (place f.number 5 i f.column) ≡ leaves c = rw v at e in let z : ◌≡◌ {A = ℕ} 0 1 = cc in absurd (omega arith)
 
 lines_store : (many : List Row → ℕ) (h : Weighs many) (i : ℕ) (ls : List Bytes) (b c : Book) → lines_posted i ls b ≡ leaves c →
     many c.blocks + many (all_taken ls b) ≡ many b.blocks + many (all_brought ls)
@@ -236,7 +234,7 @@ years_fault_ruled_out k ed d b ss book work version type a e m n there =
     let known : stands 2 key c.types ≡ true =
     ap (λ (xs : List Row). stands 2 key xs) (other_tables_kept b ss (ed, (d, e))).0 ∙ (keys_exactly ed d b VehicleType key e).0 ∙ there in
     let asked : type_call (slips_called ss (read_call k d book).book work) version type
-    ≡ record { verdict = Accepted; seconds = seconds_of version type c.blocks; count = count_of version type c.blocks } =
+    ≡ record { verdict = Ok tt; seconds = seconds_of version type c.blocks; count = count_of version type c.blocks } =
     ap (λ (z : List Row). type_call z version type) (calls_read_afresh k ed d b ss book work a e m n).0
     ∙ type_asked c st version type
     ∙ ap (λ (q : Bool). type_answered (nowhere (not_there when not q)) (seconds_of version type c.blocks) (count_of version type c.blocks)) known in (

@@ -10,8 +10,8 @@ use borrow.Author.Tests.{eqb-true}
 use Rattle.words.specs.Words.{Bytes, whether◌then◌else◌}
 use Rattle.refusals.specs.declared.Cell.TheVariants.{Empty}
 use Rattle.refusals.specs.declared.Cell.TheVariants as cell-is
-use Rattle.refusals.specs.declared.Verdict.{Verdict}
-use Rattle.refusals.specs.declared.Verdict.TheVariants.{Accepted, Refused}
+use Rattle.std.specs.Prelude.{Ok, Err}
+use Rattle.refusals.specs.Verdicts.{Verdict}
 use Rattle.refusals.specs.declared.Cell.{Cell}
 use Rattle.cells.specs.Cells.{once, quoted, stretch, content}
 use Rattle.editions.specs.declared.Edition.{Edition}
@@ -60,9 +60,9 @@ text_meant e true at cell = go (eqb (length (content cell)) 0) (quoted cell)
     go false true = refl
     go false false = refl
 
-answered_cell : (v : Verdict) (c : Cell) → (answered v c).verdict ≡ Accepted → (answered v c).cell ≡ c
-answered_cell Accepted c h = refl
-answered_cell (Refused p) c h = let z : ◌≡◌ {A = ℕ} 0 1 = cc in let y : ⊥ = omega arith in absurd y
+answered_cell : (v : Verdict) (c : Cell) → (answered v c).verdict ≡ Ok tt → (answered v c).cell ≡ c
+answered_cell (Ok _) c h = refl
+answered_cell (Err p) c h = let z : ◌≡◌ {A = ℕ} 0 1 = cc in let y : ⊥ = omega arith in absurd y
 
 pub stretches_agree : StretchesAgree
 unfolding table_cell
@@ -70,7 +70,7 @@ stretches_agree n e t s line k chosen sort h =
     let asked = asked_of_lem n e t s line k chosen in
     let v : Verdict = cell_verdict e t s line k in
     let c : Cell = meant e (is_equip t k) (cell_said (column_at e t (k - 1)).rules.sort (cell_start e t s line k) (cell_at e t s line k)) in
-    let f : (answered v c).verdict ≡ Accepted = sym (ap (λ (z : CellAnswer). z.verdict) asked) ∙ h in
+    let f : (answered v c).verdict ≡ (Ok tt) = sym (ap (λ (z : CellAnswer). z.verdict) asked) ∙ h in
     ap (λ (z : CellAnswer). stretch_of s z.cell) asked
     ∙ ap (λ (z : Cell). stretch_of s z) (answered_cell v c f)
     ∙ ap (λ (z : Sort). stretch_of s (meant e (is_equip t k) (cell_said z (cell_start e t s line k) (cell_at e t s line k)))) sort

@@ -4,10 +4,8 @@ use mathlib.Core.Bool.{Bool, true, ◌&&◌, false, ◌||◌}
 use Prim.Native.Nat.{ℕ}
 use native.Mathlib.Omega.{arith}
 use Rattle.words.proofs.Lists.{and_left, and_right}
-use Rattle.refusals.specs.Verdicts.{◌when◌}
-use Rattle.refusals.specs.declared.Check.TheVariants.{Passes, Fails}
-use Rattle.refusals.specs.declared.Verdict.{Verdict}
-use Rattle.refusals.specs.declared.Verdict.TheVariants.{Accepted, Refused}
+use Rattle.refusals.specs.Verdicts.{◌when◌, Verdict, fault}
+use Rattle.std.specs.Prelude.{Ok, Err}
 use Rattle.book.specs.Book.{Book}
 use Rattle.book.specs.Result.{Result, leaves, unless, refused, ◌▹◌}
 
@@ -33,18 +31,18 @@ or_later true q h = refl
 or_later false q h = h
 
 -- a check that passes is not in its case
-pub unfailed : (n k : ℕ) (t : Bool) → Fails n k when t ≡ Passes → t ≡ false
+pub unfailed : (n k : ℕ) (t : Bool) → Err (fault n k) when t ≡ Ok tt → t ≡ false
 unfailed n k true h = let z : ◌≡◌ {A = ℕ} 0 1 = cc in let y : ⊥ = omega arith in absurd y
 unfailed n k false h = refl
 
 -- a result that goes on
 pub going_on : (v : Verdict) (r : Result) (c : Book) → unless v r ≡ leaves c → r ≡ leaves c
-going_on Accepted r c h = h
-going_on (Refused p) r c h = let z : ◌≡◌ {A = ℕ} 0 1 = cc in let y : ⊥ = omega arith in absurd y
+going_on (Ok _) r c h = h
+going_on (Err p) r c h = let z : ◌≡◌ {A = ℕ} 0 1 = cc in let y : ⊥ = omega arith in absurd y
 
-pub unrefused : (v : Verdict) (r : Result) (c : Book) → unless v r ≡ leaves c → v ≡ Accepted
-unrefused Accepted r c h = refl
-unrefused (Refused p) r c h = let z : ◌≡◌ {A = ℕ} 0 1 = cc in let y : ⊥ = omega arith in absurd y
+pub unrefused : (v : Verdict) (r : Result) (c : Book) → unless v r ≡ leaves c → v ≡ Ok tt
+unrefused (Ok _) r c h = refl
+unrefused (Err p) r c h = let z : ◌≡◌ {A = ℕ} 0 1 = cc in let y : ⊥ = omega arith in absurd y
 
 pub came : (r : Result) (f : Book → Result) (c : Book) → (r ▹ f) ≡ leaves c → (b : Book) × (r ≡ leaves b) × (f b ≡ leaves c)
 came (refused p) f c h = let z : ◌≡◌ {A = ℕ} 0 1 = cc in let y : ⊥ = omega arith in absurd y

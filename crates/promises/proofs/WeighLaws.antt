@@ -5,8 +5,8 @@ use mathlib.Core.Path.{◌≡◌, refl}
 use mathlib.Core.Bool.{Bool, true, false}
 use mathlib.Core.List.{List, [], ◌∷◌, ◌++◌}
 use Rattle.words.specs.Words.{Row, whether◌then◌else◌, same}
-use Rattle.rows.specs.declared.Order.{Order}
-use Rattle.rows.specs.declared.Order.TheVariants.{Less, Same, More}
+use Rattle.std.specs.declared.cmp.Ordering.{Ordering}
+use Rattle.std.specs.declared.cmp.Ordering.TheVariants.{Less, Equal, Greater}
 use Rattle.rows.specs.Rows.{key_order, same_key, stands, found, inserted, replaced, removed}
 use Rattle.questions.specs.Questions.{of_type, total}
 use Rattle.promises.specs.Promises.{copies}
@@ -36,11 +36,11 @@ module _ (many : List Row → ℕ) (h : Weighs many) where
     many_inserted [] f = omega (arith, h.nothing)
     many_inserted (x ∷ xs) f = go (key_order k row x) refl (many_inserted xs)
       where
-        go : (o : Order) → key_order k row x ≡ o → (stands k row xs ≡ false → many (inserted k row xs) ≡ many xs + many (row ∷ [])) →
+        go : (o : Ordering) → key_order k row x ≡ o → (stands k row xs ≡ false → many (inserted k row xs) ≡ many xs + many (row ∷ [])) →
             many (inserted k row (x ∷ xs)) ≡ many (x ∷ xs) + many (row ∷ [])
         go Less e ih = rw e (omega (arith, h.nothing, h.more row (x ∷ xs), h.more row []))
-        go Same e ih = let t : true ≡ false = rw e at f in let z : ◌≡◌ {A = ℕ} 0 1 = cc in absurd (omega arith)
-        go More e ih = rw e (omega (arith, h.more x (inserted k row xs), h.more x xs, ih (rw e at f)))
+        go Equal e ih = let t : true ≡ false = rw e at f in let z : ◌≡◌ {A = ℕ} 0 1 = cc in absurd (omega arith)
+        go Greater e ih = rw e (omega (arith, h.more x (inserted k row xs), h.more x xs, ih (rw e at f)))
 
     pub many_replaced : (xs : List Row) → stands k row xs ≡ true → many (replaced k row xs) + many (found k row xs ∷ []) ≡ many xs + many (row ∷ [])
     unfolding replaced found stands

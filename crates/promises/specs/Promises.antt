@@ -1,19 +1,14 @@
 -- The three demands, as statements over the definitions. Each is a type; whoever has an element of it has a proof.
-use Rattle.std.specs.Prelude.{◌≡◌, List, [], ◌∷◌, map, ◌++◌, ◌↔◌, ◌⊎◌, false, true, not, Bool, ◌&&◌, ◌||◌, ◌≤◌, ℕ, zero, suc, ◌<◌, ◌+◌, ◌-◌, ◌^◌, Float, length, replicate, get_or, take, drop, eqb, ltb, leb}
+use Rattle.std.specs.Prelude.{◌≡◌, List, [], ◌∷◌, map, ◌++◌, ◌↔◌, ◌⊎◌, false, true, not, Bool, ◌&&◌, ◌||◌, ◌≤◌, ℕ, zero, suc, ◌<◌, ◌+◌, ◌-◌, ◌^◌, Float, length, replicate, get_or, take, drop, eqb, ltb, leb, Some, None, Ok, Err}
 use Rattle.words.specs.Words.{Bytes, Row, whether◌then◌else◌, same}
 use Rattle.refusals.specs.declared.Place.{Place}
-use Rattle.refusals.specs.declared.Verdict.TheVariants.{Refused, Accepted}
-use Rattle.refusals.specs.declared.Verdict.{Verdict}
-use Rattle.refusals.specs.Verdicts.{placed, ◌when◌, nowhere, not_there, passes, paper}
-use Rattle.refusals.specs.declared.Check.{Check}
-use Rattle.refusals.specs.declared.Check.TheVariants.{Passes, Fails}
+use Rattle.refusals.specs.Verdicts.{placed, ◌when◌, nowhere, not_there, passes, paper, Verdict, Check, fault}
 use Rattle.lines.specs.Lines.{lines, row_lines, slip_lines, line_after, overlong, most_bytes}
 use Rattle.cells.specs.Cells.{stretch}
 use Rattle.fields.specs.Fields.{fields}
 use Rattle.rows.specs.Room.{zeros}
 use Rattle.rows.specs.Rows.{rising, stands, found, column, removed, same_key}
 use Rattle.editions.specs.Editions.{choice}
-use Rattle.editions.specs.declared.Choice.TheVariants as choice-is
 use Rattle.editions.specs.declared.Edition.{Edition}
 use Rattle.tables.specs.Columns.{number, key_width, columns_of, kept_width, column_at, references}
 use Rattle.tables.specs.Parts.{book_rows}
@@ -215,11 +210,11 @@ given_in_slip e p =
 
 -- a reading gives no other number at no other place
 abbrev pub ReadingNumbered : Type 0
-ReadingNumbered = (e : Edition) (d : Delivery) (p : Place) → reading e d ≡ refused p → (t : Table) × (given_in e t (paper (Refused p)) ≡ true)
+ReadingNumbered = (e : Edition) (d : Delivery) (p : Place) → reading e d ≡ refused p → (t : Table) × (given_in e t (paper (Err p)) ≡ true)
 
 -- nor does a slip
 abbrev pub SlipNumbered : Type 0
-SlipNumbered = (s : Bytes) (b : Book) (p : Place) → posting s b ≡ refused p → given_in_slip b.edition (paper (Refused p)) ≡ true
+SlipNumbered = (s : Bytes) (b : Book) (p : Place) → posting s b ≡ refused p → given_in_slip b.edition (paper (Err p)) ≡ true
 
 -- "this paper's number and values": of a verdict its number, table, line and column (`paper`), of a cell's answer its four (`values`).
 -- "(0 for 0, 14, 15, 16)", and 22: a number without a place
@@ -228,31 +223,31 @@ unplaced n = n ∷ 0 ∷ 0 ∷ 0 ∷ []
 
 -- "A refused reading leaves an empty book", and "2.1 after a refused reading"
 abbrev pub RefusedReadingEmpties : Type 0
-RefusedReadingEmpties = (n : ℕ) (d : Delivery) (slice : List Row) (p : Place) → length slice ≡ book_rows → (read_call n d slice).verdict ≡ Refused p →
+RefusedReadingEmpties = (n : ℕ) (d : Delivery) (slice : List Row) (p : Place) → length slice ≡ book_rows → (read_call n d slice).verdict ≡ Err p →
     (read_call n d slice).book ≡ laid empty
 
 -- "an unknown edition is 22, right after 16", with no place: of a reading, of a day and of a cell question
 abbrev pub UnknownEditionRefused : Type 0
-UnknownEditionRefused = (n : ℕ) → choice n ≡ choice-is.Unknown →
+UnknownEditionRefused = (n : ℕ) → choice n ≡ None →
     ((d : Delivery) (slice : List Row) → length slice ≡ book_rows → paper (read_call n d slice).verdict ≡ unplaced 22)
     × ((d : Delivery) (s : Bytes) (book work : List Row) → length book ≡ book_rows → length work ≡ work_rows → paper (day_call n d s book work).verdict ≡ unplaced 22)
     × ((s : Bytes) (table line k : ℕ) → cell_paper (cell_asked n s table line k) ≡ unplaced 22 ++ replicate 4 0)
 
 -- "a refused slip the book untouched"; the working area ends all zero
 abbrev pub RefusedSlipKeeps : Type 0
-RefusedSlipKeeps = (s : Bytes) (book work : List Row) (p : Place) → (slip_call s book work).verdict ≡ Refused p → (slip_call s book work).book ≡ book
+RefusedSlipKeeps = (s : Bytes) (book work : List Row) (p : Place) → (slip_call s book work).verdict ≡ Err p → (slip_call s book work).book ≡ book
 
 abbrev pub WorkCleared : Type 0
 WorkCleared = (s : Bytes) (book work : List Row) → length work ≡ work_rows → (slip_call s book work).work ≡ replicate work_rows zeros
 
 -- "a refused writing the output untouched"
 abbrev pub RefusedWritingKeeps : Type 0
-RefusedWritingKeeps = (book : List Row) (out : Bytes) (p : Place) → (write_call book out).verdict ≡ Refused p →
+RefusedWritingKeeps = (book : List Row) (out : Bytes) (p : Place) → (write_call book out).verdict ≡ Err p →
     ((write_call book out).size ≡ 0) × ((write_call book out).out ≡ out)
 
 -- nor does a refused sheet touch it
 abbrev pub RefusedSheetKeeps : Type 0
-RefusedSheetKeeps = (v : Verdict) (book : List Row) (out : Bytes) (p : Place) → (sheet_call v book out).verdict ≡ Refused p →
+RefusedSheetKeeps = (v : Verdict) (book : List Row) (out : Bytes) (p : Place) → (sheet_call v book out).verdict ≡ Err p →
     ((sheet_call v book out).size ≡ 0) × ((sheet_call v book out).out ≡ out)
 
 -- what is lent at another length is 16 and stays as it came
@@ -291,7 +286,7 @@ BadBookRefused = (book : List Row) → ((b : Book) → Left b → book ≡ laid 
     × ((version day depot block : ℕ) →
     let answer = block_call book version day depot block in
     (paper answer.verdict ≡ unplaced 16) × (answer.numbers ≡ replicate 7 0))
-    × ((out : Bytes) → paper (sheet_call Accepted book out).verdict ≡ unplaced 16)
+    × ((out : Bytes) → paper (sheet_call (Ok tt) book out).verdict ≡ unplaced 16)
 
 -- and every lent slice ends as long as it came
 abbrev pub LengthsKept : Type 0
@@ -316,15 +311,15 @@ check_at check step ls i b = check (get_or ls i []) (onward step (take i ls) b)
 
 -- no line breaks a rule, and the book is what they leave
 pub record Faultless (check : Bytes → Book → Check) (step : Bytes → Book → Book) (ls : List Bytes) (b c : Book) : Type 0 where
-  pub passing : (i : ℕ) → i < length ls → check_at check step ls i b ≡ Passes
+  pub passing : (i : ℕ) → i < length ls → check_at check step ls i b ≡ Ok tt
   pub left : c ≡ onward step ls b
 
 -- the first fault: it has the place, and every line above it passes. `line` is the number of line i, counted from 0
 pub record FirstFault (check : Bytes → Book → Check) (step : Bytes → Book → Book) (table : ℕ) (line : ℕ → ℕ) (ls : List Bytes) (b : Book) (p : Place) : Type 0 where
   pub at : ℕ
   pub inside : at < length ls
-  pub fault : placed table (line at) (check_at check step ls at b) ≡ Refused p
-  pub above : (i : ℕ) → i < at → check_at check step ls i b ≡ Passes
+  pub fault : placed table (line at) (check_at check step ls at b) ≡ Err p
+  pub above : (i : ℕ) → i < at → check_at check step ls i b ≡ Ok tt
 
 -- the row lines of a text, behind the header, and the rows that they say
 abbrev pub row_lines_of : Edition → Bytes → List Bytes
@@ -350,14 +345,14 @@ row_step e t s l b = entered t (row_read e t (header_of e t s) l) b
 abbrev pub AcceptedExactly : Type 0
 AcceptedExactly = (t : Table) (s : Bytes) (b c : Book) →
     (table_read t s b ≡ leaves c)
-    ↔ ((top_faults b.edition t s ≡ Accepted) × Faultless (judged t (header_of b.edition t s)) (row_step b.edition t s) (row_lines_of b.edition s) b c)
+    ↔ ((top_faults b.edition t s ≡ Ok tt) × Faultless (judged t (header_of b.edition t s)) (row_step b.edition t s) (row_lines_of b.edition s) b c)
 
 -- and refused exactly at the first fault
 abbrev pub RefusedAtFirst : Type 0
 RefusedAtFirst = (t : Table) (s : Bytes) (b : Book) (p : Place) →
     (table_read t s b ≡ refused p)
-    ↔ ((top_faults b.edition t s ≡ Refused p)
-    ⊎ ((top_faults b.edition t s ≡ Accepted) × FirstFault (judged t (header_of b.edition t s)) (row_step b.edition t s) (number t) (row_start b.edition s) (row_lines_of b.edition s) b p))
+    ↔ ((top_faults b.edition t s ≡ Err p)
+    ⊎ ((top_faults b.edition t s ≡ Ok tt) × FirstFault (judged t (header_of b.edition t s)) (row_step b.edition t s) (number t) (row_start b.edition s) (row_lines_of b.edition s) b p))
 
 -- a slip likewise, of at most 65,536 bytes
 abbrev pub SlipAcceptedExactly : Type 0
@@ -366,7 +361,7 @@ SlipAcceptedExactly = (s : Bytes) (b c : Book) → (posting s b ≡ leaves c) �
 abbrev pub SlipRefusedAtFirst : Type 0
 SlipRefusedAtFirst = (s : Bytes) (b : Book) (p : Place) →
     (posting s b ≡ refused p)
-    ↔ (((overlong s ≡ true) × (paper (Refused p) ≡ 1 ∷ 5 ∷ 0 ∷ 0 ∷ [])) ⊎ ((overlong s ≡ false) × FirstFault slip_check slip_leaves 5 suc (slip_lines s) b p))
+    ↔ (((overlong s ≡ true) × (paper (Err p) ≡ 1 ∷ 5 ∷ 0 ∷ 0 ∷ [])) ⊎ ((overlong s ≡ false) × FirstFault slip_check slip_leaves 5 suc (slip_lines s) b p))
 
 -- the six tables in order: each is read on the book that the ones before it leave
 pub record InOrder (e : Edition) (d : Delivery) (b : Book) : Type 0 where
@@ -459,18 +454,18 @@ row_at e t s i = row_read e t (header_of e t s) (get_or (row_lines_of e s) i [])
 
 -- "cells .. exactly those of document 01": no cell of an accepted table is refused, on any of its row lines and in any column
 abbrev pub CellsAccepted : Type 0
-CellsAccepted = (n : ℕ) (e : Edition) (d : Delivery) (b : Book) (t : Table) (i k : ℕ) → choice n ≡ choice-is.Chosen e → reading e d ≡ leaves b → i < length (row_lines_of e (text_of t d)) → 1 ≤ k → k ≤ length (columns_of e t) →
-    (cell_asked n (text_of t d) (number t) (row_start e (text_of t d) i) k).verdict ≡ Accepted
+CellsAccepted = (n : ℕ) (e : Edition) (d : Delivery) (b : Book) (t : Table) (i k : ℕ) → choice n ≡ Some e → reading e d ≡ leaves b → i < length (row_lines_of e (text_of t d)) → 1 ≤ k → k ≤ length (columns_of e t) →
+    (cell_asked n (text_of t d) (number t) (row_start e (text_of t d) i) k).verdict ≡ Ok tt
 
 -- and in a column that the book keeps the answer is the number in that line's row, which stands in the book
 abbrev pub CellsAgree : Type 0
-CellsAgree = (n : ℕ) (e : Edition) (d : Delivery) (b : Book) (t : Table) (i k : ℕ) → choice n ≡ choice-is.Chosen e → reading e d ≡ leaves b → i < length (row_lines_of e (text_of t d)) → 1 ≤ k → k ≤ kept_width t →
+CellsAgree = (n : ℕ) (e : Edition) (d : Delivery) (b : Book) (t : Table) (i k : ℕ) → choice n ≡ Some e → reading e d ≡ leaves b → i < length (row_lines_of e (text_of t d)) → 1 ≤ k → k ≤ kept_width t →
     (cell_paper (cell_asked n (text_of t d) (number t) (row_start e (text_of t d) i) k) ≡ 0 ∷ 0 ∷ 0 ∷ 0 ∷ 1 ∷ column k (row_at e t (text_of t d) i) ∷ 0 ∷ 0 ∷ [])
     × (found (key_width t) (row_at e t (text_of t d) i) (rows t b) ≡ row_at e t (text_of t d) i)
 
 -- "The stretch is the caller's own bytes between the quotes, or the whole cell where unquoted": it stands in the text where the answer says
 abbrev pub StretchesAgree : Type 0
-StretchesAgree = (n : ℕ) (e : Edition) (t : Table) (s : Bytes) (line k : ℕ) → choice n ≡ choice-is.Chosen e → (column_at e t (k - 1)).rules.sort ≡ sort-is.Text → (cell_asked n s (number t) line k).verdict ≡ Accepted →
+StretchesAgree = (n : ℕ) (e : Edition) (t : Table) (s : Bytes) (line k : ℕ) → choice n ≡ Some e → (column_at e t (k - 1)).rules.sort ≡ sort-is.Text → (cell_asked n s (number t) line k).verdict ≡ Ok tt →
     stretch_of s (cell_asked n s (number t) line k).cell ≡ stretch (cell_at e t s line k)
 
 -- the delivery with another text of blocks
@@ -492,24 +487,24 @@ WrittenFits = (b : Book) → Left b → length (written b) ≤ most_bytes
 -- a write call answers the text's length and puts the text at the head of the output, or is 14 where there is no room for it
 abbrev pub WriteCallAnswers : Type 0
 WriteCallAnswers = (b : Book) (out : Bytes) → Left b →
-    (length (written b) ≤ length out → write_call (laid b) out ≡ write-call.outcome Accepted (length (written b)) (written b ++ drop (length (written b)) out))
+    (length (written b) ≤ length out → write_call (laid b) out ≡ write-call.outcome (Ok tt) (length (written b)) (written b ++ drop (length (written b)) out))
     × (length out < length (written b) →
     let w = write_call (laid b) out in
     (paper w.verdict ≡ unplaced 14) × (w.size ≡ 0) × (w.out ≡ out))
 
 -- a day is the reading, and then the slip on the book that an accepted one leaves, whatever was lent
 abbrev pub DayCallAnswers : Type 0
-DayCallAnswers = (n : ℕ) (e : Edition) (d : Delivery) (s : Bytes) (book work : List Row) → choice n ≡ choice-is.Chosen e → length book ≡ book_rows → length work ≡ work_rows →
-    ((p : Place) → reading e d ≡ refused p → day_call n d s book work ≡ slip-call.outcome (Refused p) (laid empty) (replicate work_rows zeros))
+DayCallAnswers = (n : ℕ) (e : Edition) (d : Delivery) (s : Bytes) (book work : List Row) → choice n ≡ Some e → length book ≡ book_rows → length work ≡ work_rows →
+    ((p : Place) → reading e d ≡ refused p → day_call n d s book work ≡ slip-call.outcome (Err p) (laid empty) (replicate work_rows zeros))
     × ((b : Book) → reading e d ≡ leaves b → day_call n d s book work ≡ slip_outcome (posting s b) (laid b) work)
 
 -- "one `T` line a type .. then `S` ..; or only `X`": what the calls for a day and then for its sheet leave in the output is the sheet of the
 -- delivery and the slip, 16 and 14 aside
 abbrev pub SheetCallAnswers : Type 0
 SheetCallAnswers = (n : ℕ) (e : Edition) (d : Delivery) (s : Bytes) (book work : List Row) (out : Bytes) →
-    choice n ≡ choice-is.Chosen e → length book ≡ book_rows → length work ≡ work_rows → length (sheet e d s) ≤ length out →
+    choice n ≡ Some e → length book ≡ book_rows → length work ≡ work_rows → length (sheet e d s) ≤ length out →
     let day = day_call n d s book work in
-    sheet_call day.verdict day.book out ≡ write-call.outcome Accepted (length (sheet e d s)) (sheet e d s ++ drop (length (sheet e d s)) out)
+    sheet_call day.verdict day.book out ≡ write-call.outcome (Ok tt) (length (sheet e d s)) (sheet e d s ++ drop (length (sheet e d s)) out)
 
 -- no sheet is longer than what `daysheet` lends for it
 abbrev pub SheetFits : Type 0
@@ -518,14 +513,14 @@ SheetFits = (e : Edition) (d : Delivery) (s : Bytes) → length (sheet e d s) �
 -- so the bytes that the sheet call counts, which `daysheet` prints, are the sheet
 abbrev pub SheetPrinted : Type 0
 SheetPrinted = (n : ℕ) (e : Edition) (d : Delivery) (s : Bytes) (book work : List Row) (out : Bytes) →
-    choice n ≡ choice-is.Chosen e → length book ≡ book_rows → length work ≡ work_rows → length out ≡ sheet_room →
+    choice n ≡ Some e → length book ≡ book_rows → length work ≡ work_rows → length out ≡ sheet_room →
     let day = day_call n d s book work in
     let written = sheet_call day.verdict day.book out in
     take written.size written.out ≡ sheet e d s
 
 -- reading, writing and reading by the calls: the same book again, whatever was lent
 abbrev pub CallsReadBack : Type 0
-CallsReadBack = (n : ℕ) (e : Edition) (d : Delivery) (b : Book) (book : List Row) (out : Bytes) → choice n ≡ choice-is.Chosen e → reading e d ≡ leaves b → length book ≡ book_rows → length (written b) ≤ length out →
+CallsReadBack = (n : ℕ) (e : Edition) (d : Delivery) (b : Book) (book : List Row) (out : Bytes) → choice n ≡ Some e → reading e d ≡ leaves b → length book ≡ book_rows → length (written b) ≤ length out →
     let w = write_call (read_call n d book).book out in
     read_call n (with_blocks (take w.size w.out) d) book ≡ read_call n d book
 
@@ -573,7 +568,7 @@ taken_by l b = takes (wish (fields l)) (row_in l) b
 -- `many` counts rows, as `copies` does, or weighs them. Behind an accepted line the blocks are those before it, with the row that it brings and
 -- without the one that it takes away. `step` is what a line leaves: said of any, so that a wrong one can be held against it (RuledOut)
 abbrev pub LineStores : (Bytes → Book → Book) → (List Row → ℕ) → Type 0
-LineStores step many = (b : Book) (l : Bytes) → slip_check l b ≡ Passes →
+LineStores step many = (b : Book) (l : Bytes) → slip_check l b ≡ Ok tt →
     many (step l b).blocks + many (taken_by l b) ≡ many b.blocks + many (brought_by l)
 
 -- the rows that lines bring
@@ -639,7 +634,7 @@ midway ss s i b = onward slip_leaves (take i (slip_lines s)) (run ss b)
 -- line i is reached: it is a line of the slip, and none above it is refused
 pub record Reached (ss : List Bytes) (s : Bytes) (i : ℕ) (b : Book) : Type 0 where
   pub inside : i < length (slip_lines s)
-  pub above : (j : ℕ) → j < i → check_at slip_check slip_leaves (slip_lines s) j (run ss b) ≡ Passes
+  pub above : (j : ℕ) → j < i → check_at slip_check slip_leaves (slip_lines s) j (run ss b) ≡ Ok tt
 
 -- in the middle of a slip, too, the book is the one got by reading afresh the delivery with its block rows as the lines so far leave them
 abbrev pub MidwayReadsAfresh : Type 0
@@ -685,7 +680,7 @@ RefusedAlike = (e : Edition) (d : Delivery) (b : Book) (ss : List Bytes) (s : By
     let line = get_or (slip_lines s) i [] in
     let blocks = (midway ss s i b).blocks in
     well_formed e line ≡ true → wish (fields line) ≡ Add → reading e (with_blocks (written_with (row_in line) blocks) d) ≡ refused p →
-    (check_at slip_check slip_leaves (slip_lines s) i (run ss b) ≡ Fails p.number p.column) × (p.table ≡ number Block) × (p.line ≡ 2 + length blocks)
+    (check_at slip_check slip_leaves (slip_lines s) i (run ss b) ≡ Err (fault p.number p.column)) × (p.table ≡ number Block) × (p.line ≡ 2 + length blocks)
 
 -- some line of a slip does this, as the book stands before that line
 unfoldable pub some_line : (Bytes → Book → Bool) → List Bytes → Book → Bool
@@ -738,7 +733,7 @@ slips_called (s ∷ ss) book work = slips_called ss (slip_call s book work).book
 -- it is the book that a reading afresh lends, row for row, and so is every answer got from it
 abbrev pub CallsReadAfresh : Type 0
 CallsReadAfresh = (n : ℕ) (e : Edition) (d : Delivery) (b : Book) (ss : List Bytes) (book work : List Row) →
-    choice n ≡ choice-is.Chosen e → reading e d ≡ leaves b → length book ≡ book_rows → length work ≡ work_rows →
+    choice n ≡ Some e → reading e d ≡ leaves b → length book ≡ book_rows → length work ≡ work_rows →
     (slips_called ss (read_call n d book).book work ≡ laid (run ss b))
     × (slips_called ss (read_call n d book).book work ≡ (read_call n (with_blocks (written (run ss b)) d) book).book)
 
@@ -757,7 +752,7 @@ none (n ∷ ns) = false
 -- says: for a block that was deleted 15
 abbrev pub CallsSaid : Type 0
 CallsSaid = (n : ℕ) (e : Edition) (d : Delivery) (b : Book) (ss : List Bytes) (book work : List Row) (version day depot block : ℕ) →
-    choice n ≡ choice-is.Chosen e → reading e d ≡ leaves b → length book ≡ book_rows → length work ≡ work_rows →
+    choice n ≡ Some e → reading e d ≡ leaves b → length book ≡ book_rows → length work ≡ work_rows →
     let key = version ∷ day ∷ depot ∷ block ∷ [] in
     let row = last_said key (honoured ss b) (found 4 key (rows_of e Block d.blocks)) in
     block_call (slips_called ss (read_call n d book).book work) version day depot block ≡ block_answered (nowhere (not_there when none row)) (seven row)
@@ -767,7 +762,7 @@ CallsSaid = (n : ℕ) (e : Edition) (d : Delivery) (b : Book) (ss : List Bytes) 
 -- without what they took away, each row as it stood when it was taken
 abbrev pub YearsFaultRuledOut : Type 0
 YearsFaultRuledOut = (n : ℕ) (e : Edition) (d : Delivery) (b : Book) (ss : List Bytes) (book work : List Row) (version type : ℕ) →
-    choice n ≡ choice-is.Chosen e → reading e d ≡ leaves b → length book ≡ book_rows → length work ≡ work_rows → stands 2 (version ∷ type ∷ []) (rows_of e VehicleType d.types) ≡ true →
+    choice n ≡ Some e → reading e d ≡ leaves b → length book ≡ book_rows → length work ≡ work_rows → stands 2 (version ∷ type ∷ []) (rows_of e VehicleType d.types) ≡ true →
     let answer = type_call (slips_called ss (read_call n d book).book work) version type in
     let old = rows_of e Block d.blocks in
     let brought = all_brought (honoured ss b) in

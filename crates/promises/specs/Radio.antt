@@ -1,12 +1,9 @@
 -- What request 3/13, the delivery by radio, asks, as statements over the definitions. To be read behind Promises.
-use Rattle.std.specs.Prelude.{◌≡◌, List, [], ◌∷◌, ◌++◌, true, false, ◌⊎◌, ◌↔◌, ℕ, eqb, length}
+use Rattle.std.specs.Prelude.{◌≡◌, List, [], ◌∷◌, ◌++◌, true, false, ◌⊎◌, ◌↔◌, ℕ, eqb, length, Some, None, Ok, Err}
 use Rattle.words.specs.Words.{Bytes}
-use Rattle.refusals.specs.Verdicts.{paper}
+use Rattle.refusals.specs.Verdicts.{paper, Verdict}
 use Rattle.refusals.specs.declared.Place.{Place}
-use Rattle.refusals.specs.declared.Verdict.{Verdict}
-use Rattle.refusals.specs.declared.Verdict.TheVariants.{Accepted, Refused}
 use Rattle.editions.specs.Editions.{choice}
-use Rattle.editions.specs.declared.Choice.TheVariants.{Chosen, Unknown}
 use Rattle.editions.specs.declared.Edition.{Edition}
 use Rattle.tables.specs.Columns.{number}
 use Rattle.tables.specs.declared.Table.{Table}
@@ -86,7 +83,7 @@ FaultStays = (t : Table) (a n : ℕ) (p : Place) (s : Bytes) → standing (after
 
 -- "but 18 may still come": in place of a fault of the same table, and so may 1, which is "before 18"
 abbrev pub MayAnswer : Table → Place → Verdict → Type 0
-MayAnswer t p v = (v ≡ Refused p) ⊎ ((p.table ≡ number t) × ((paper v ≡ 18 ∷ number t ∷ 0 ∷ 0 ∷ []) ⊎ (paper v ≡ 1 ∷ number t ∷ 0 ∷ 0 ∷ [])))
+MayAnswer t p v = (v ≡ Err p) ⊎ ((p.table ≡ number t) × ((paper v ≡ 18 ∷ number t ∷ 0 ∷ 0 ∷ []) ⊎ (paper v ≡ 1 ∷ number t ∷ 0 ∷ 0 ∷ [])))
 
 abbrev pub FaultAnswers : Type 0
 FaultAnswers = (t : Table) (a n : ℕ) (p : Place) (ps : List Bytes) → MayAnswer t p (verdict_of (standing (run (parts ps) (hears t a n (stopped p)))))
@@ -125,7 +122,7 @@ CallsKeep = (c : Call) (s : Slices) → keeps_radio s ≡ true → keeps_radio (
 
 -- 16 "stays as it came", and 15 "does nothing": no call gives one of these numbers and changes what is lent, whatever it was handed
 abbrev pub RefusalStays : Type 0
-RefusalStays = (c : Call) (s : Slices) (p : Place) → (radio_call c s).verdict ≡ Refused p → (p.number ≡ 15) ⊎ (p.number ≡ 16) → (radio_call c s).slices ≡ s
+RefusalStays = (c : Call) (s : Slices) (p : Place) → (radio_call c s).verdict ≡ Err p → (p.number ≡ 15) ⊎ (p.number ≡ 16) → (radio_call c s).slices ≡ s
 
 -- "none that keeps the rule closes with a book that breaks the book rule"
 abbrev pub CallsLawful : Type 0
@@ -143,16 +140,16 @@ called v (c ∷ cs) s = called (radio_call c s).verdict cs (radio_call c s).slic
 
 -- "an unknown edition is 22, right after 16": and an earlier delivery may go on
 abbrev pub UnknownOpeningStays : Type 0
-UnknownOpeningStays = (n : ℕ) (s : Slices) → choice n ≡ Unknown → fits s ≡ true → (paper (open_call n s).verdict ≡ unplaced 22) × ((open_call n s).slices ≡ s)
+UnknownOpeningStays = (n : ℕ) (s : Slices) → choice n ≡ None → fits s ≡ true → (paper (open_call n s).verdict ≡ unplaced 22) × ((open_call n s).slices ≡ s)
 
 -- from the opening on, it is the run on what the slices keep
 abbrev pub CallsRun : Type 0
-CallsRun = (n : ℕ) (e : Edition) (cs : List Call) (s : Slices) → choice n ≡ Chosen e → fits s ≡ true →
-    called Accepted cs (open_call n s).slices ≡ outcome (last_answer Accepted cs (start e)) (laid_out (run cs (start e)))
+CallsRun = (n : ℕ) (e : Edition) (cs : List Call) (s : Slices) → choice n ≡ Some e → fits s ≡ true →
+    called (Ok tt) cs (open_call n s).slices ≡ outcome (last_answer (Ok tt) cs (start e)) (laid_out (run cs (start e)))
 
 -- "When the announced bytes have come, verdict, place and book are those of the whole reading, however it was cut."
 abbrev pub RadioReads : Type 0
-RadioReads = (n : ℕ) (e : Edition) (a : Table → ℕ) (ps : Table → List Bytes) (s : Slices) → choice n ≡ Chosen e → fits s ≡ true → ((t : Table) → a t ≡ length (joined (ps t))) →
-    let o = called Accepted (calls_of a ps) (open_call n s).slices in
+RadioReads = (n : ℕ) (e : Edition) (a : Table → ℕ) (ps : Table → List Bytes) (s : Slices) → choice n ≡ Some e → fits s ≡ true → ((t : Table) → a t ≡ length (joined (ps t))) →
+    let o = called (Ok tt) (calls_of a ps) (open_call n s).slices in
     let r = reading e (delivery_of (sending_of a ps)) in
     (o.verdict ≡ (read_outcome r).verdict) × (o.slices.book ≡ (read_outcome r).book)

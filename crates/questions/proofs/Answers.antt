@@ -5,9 +5,8 @@ use mathlib.Core.Bool.{true, false}
 use Prim.Native.Nat.{ℕ}
 use lib.ListN.{replicate}
 use Rattle.words.specs.Words.{Row}
-use Rattle.refusals.specs.declared.Verdict.{Verdict}
-use Rattle.refusals.specs.declared.Verdict.TheVariants.{Accepted, Refused}
-use Rattle.refusals.specs.Verdicts.{nowhere, bad_loan, not_there}
+use Rattle.std.specs.Prelude.{Ok, Err}
+use Rattle.refusals.specs.Verdicts.{nowhere, bad_loan, not_there, Verdict}
 use Rattle.rows.specs.Rows.{wide, found}
 use Rattle.rows.specs.Spots.{row_of}
 use Rattle.rows.proofs.Changes.{row_of_found}
@@ -25,12 +24,12 @@ use Rattle.questions.specs.Questions.{seconds_of, count_of, seven}
 
 -- a refusal has zeros for numbers
 pub type_refused : (v : Verdict) → ◌≡◌ {A = TypeAnswer} (record { verdict = v; seconds = 0; count = 0 }) (type_answered v 0 0)
-type_refused Accepted = refl
-type_refused (Refused p) = refl
+type_refused (Ok _) = refl
+type_refused (Err p) = refl
 
 pub block_refused : (v : Verdict) → ◌≡◌ {A = BlockAnswer} (record { verdict = v; numbers = replicate 7 0 }) (block_answered v (replicate 7 0))
-block_refused Accepted = refl
-block_refused (Refused p) = refl
+block_refused (Ok _) = refl
+block_refused (Err p) = refl
 
 module _ (xs : List Row) (version type : ℕ) where
   abbrev type_key : Row
@@ -43,7 +42,7 @@ module _ (xs : List Row) (version type : ℕ) where
   type_missing e f = rw (e, sym (stands_wide 2 type_key (book_of xs).types) ∙ f)
 
   pub type_there : keeps_rule xs ≡ true → knows VehicleType (wide type_key) (book_of xs) ≡ true
-      → type_answered Accepted (seconds_of version type (book_of xs).blocks) (count_of version type (book_of xs).blocks) ≡ type_call xs version type
+      → type_answered (Ok tt) (seconds_of version type (book_of xs).blocks) (count_of version type (book_of xs).blocks) ≡ type_call xs version type
   type_there e f = rw (e, sym (stands_wide 2 type_key (book_of xs).types) ∙ f)
 
 module _ (xs : List Row) (version day depot block : ℕ) where
@@ -57,7 +56,7 @@ module _ (xs : List Row) (version day depot block : ℕ) where
   block_missing e f = rw (e, sym (stands_wide 4 block_key (book_of xs).blocks) ∙ f)
 
   pub block_there : Sound xs → keeps_rule xs ≡ true → knows Block (wide block_key) (book_of xs) ≡ true
-      → block_answered Accepted (seven (row_of (found 4 (wide block_key) (book_of xs).blocks))) ≡ block_call xs version day depot block
+      → block_answered (Ok tt) (seven (row_of (found 4 (wide block_key) (book_of xs).blocks))) ≡ block_call xs version day depot block
   block_there s e f =
       let g : row_of (found 4 (wide block_key) (book_of xs).blocks) ≡ found 4 block_key (book_of xs).blocks =
       row_of_found 4 (wide block_key) (book_of xs).blocks ((orderly_book xs s).versioned Block) f ∙ found_wide 4 block_key (book_of xs).blocks in

@@ -1,16 +1,14 @@
 -- What the blocks of a type weigh together, block by block, and the bound of each block's seconds. Assumes nothing.
-use mathlib.Core.Path.{◌≡◌}
+use mathlib.Core.Path.{◌≡◌, refl}
 use mathlib.Core.List.{List, [], ◌∷◌}
 use mathlib.Core.Bool.{true, Bool, ◌&&◌, not, false}
 use Prim.Native.Nat.{ℕ, zero, suc, ◌≤◌, ◌<◌, ◌+◌, ◌*◌}
 use native.Mathlib.Omega.{arith}
 use native.Mathlib.Numerals.{add-one}
 use native.Mathlib.Nat.{mul-suc}
-use lib.Dec.{eqb}
 use lib.ListN.{length, get_or, take, drop, drop_of_length-le}
 use lib.Seq.{get_or-take}
-use borrow.Author.Tests.{ne_eqb, eq-eqb}
-use Rattle.words.specs.Words.{Row, same, whether◌then◌else◌}
+use Rattle.words.specs.Words.{Row, same}
 use Rattle.words.proofs.Lists.{and_left, and_right, drop_step}
 use Rattle.refusals.specs.Verdicts.{passes}
 use Rattle.rows.specs.Rows.{wide}
@@ -21,10 +19,11 @@ use Rattle.tables.proofs.Figures.{kept_columns}
 use Rattle.ranges.proofs.Ranges.{range_within}
 use Rattle.book.specs.Book.{Book}
 use Rattle.book.specs.Room.{book_of}
+use Rattle.book.proofs.Laying.{orderly_book}
 use Rattle.rules.specs.Rules.{time_fault, unknown, seconds}
 use Rattle.rules.proofs.Timing.{seconds_most}
 use Rattle.keeping.specs.Keeping.{ranged, lawful, keeps_rule}
-use Rattle.keeping.proofs.Keeping.{keeps_row}
+use Rattle.keeping.proofs.Keeping.{keeps_row, keeps_sound}
 use Rattle.questions.specs.Questions.{of_type, total}
 
 -- a lawful row ----------------------------------------------------------------------------------------------------------------------
@@ -60,13 +59,15 @@ block_seconds xs k i row h e =
     let law : lawful Block (book_of xs) row ≡ true = rw e (keeps_row xs k Block i h) in
     seconds_most row 999999 (omega arith) (lawful_high Block (book_of xs) row law 10 (omega arith))
 
+-- a slice that is the blocks
+module _ (xs rs : List Row) (k : keeps_rule xs ≡ true) (e : rs ≡ (book_of xs).blocks) where
+  pub blocks_few : length rs ≤ 512
+  blocks_few = rw e ((orderly_book xs (keeps_sound xs k)).few Block)
+
+  pub each_seconds : (i : ℕ) → i < length rs → seconds (get_or rs i []) ≤ 999999
+  each_seconds i h = rw e (block_seconds xs k i (get_or (book_of xs).blocks i []) (rw e at h) refl)
+
 -- sums ---------------------------------------------------------------------------------------------------------------------------------
-
-pub type_other : (version type : ℕ) (row : Row) → (get_or row 0 0 ≡ version → ⊥) → of_type version type row ≡ false
-type_other version type row n = rw (ne_eqb (get_or row 0 0) version n)
-
-pub type_same : (version type : ℕ) (row : Row) → get_or row 0 0 ≡ version → of_type version type row ≡ eqb (get_or row 4 0) type
-type_same version type row e = rw (eq-eqb (get_or row 0 0) version e)
 
 -- the first i of rows are summed up, and none of them weighs more than `most`
 pub record Summed (weight : Row → ℕ) (version type : ℕ) (rs : List Row) (most i sum : ℕ) : Type 0 where
@@ -77,18 +78,22 @@ module _ (weight : Row → ℕ) (version type : ℕ) (rs : List Row) (most : ℕ
   pub summed_none : Summed weight version type rs most 0 0
   summed_none = record { bound = omega arith; whole = omega arith }
 
-  share_most : (here : Bool) (w : ℕ) → (whether here then w else 0) ≤ w
-  share_most true w = omega arith
-  share_most false w = omega arith
-
   module _ (i sum : ℕ) (sofar : Summed weight version type rs most i sum) where
-    pub summed_next : i < length rs → (row : Row) → row ≡ get_or rs i [] → (here : Bool) → here ≡ of_type version type row
-        → (d : ℕ) → d ≡ (whether here then weight row else 0) → weight row ≤ most → Summed weight version type rs most (i + 1) (sum + d)
+    -- a block of the type adds its weight
+    pub summed_more : i < length rs → of_type version type (get_or rs i []) ≡ true → weight (get_or rs i []) ≤ most
+        → Summed weight version type rs most (i + 1) (sum + weight (get_or rs i []))
     unfolding total
-    summed_next h row e here f d g m =
-        let l : d ≤ weight row = rw g (share_most here (weight row)) in
+    summed_more h here m =
         let p : most * (i + 1) ≡ most * i + most = rw (add-one i) (mul-suc most i) in
-        let s : total weight version type (drop i rs) ≡ d + total weight version type (drop (i + 1) rs) = rw (drop_step [] rs i h, g, f, e) in
+        let s : total weight version type (drop i rs) ≡ weight (get_or rs i []) + total weight version type (drop (i + 1) rs) = rw (drop_step [] rs i h, here) in
+        record { bound = omega (arith, sofar.bound); whole = omega (arith, sofar.whole) }
+
+    -- another adds nothing
+    pub summed_same : i < length rs → of_type version type (get_or rs i []) ≡ false → Summed weight version type rs most (i + 1) sum
+    unfolding total
+    summed_same h here =
+        let p : most * (i + 1) ≡ most * i + most = rw (add-one i) (mul-suc most i) in
+        let s : total weight version type (drop i rs) ≡ total weight version type (drop (i + 1) rs) = rw (drop_step [] rs i h, here) (omega arith) in
         record { bound = omega (arith, sofar.bound); whole = omega (arith, sofar.whole) }
 
     pub summed_all : length rs ≤ i → sum ≡ total weight version type rs

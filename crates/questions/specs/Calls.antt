@@ -1,9 +1,7 @@
 -- What the questions answer. Nothing that is lent to them changes.
-use Rattle.std.specs.Prelude.{◌≡◌, List, [], ◌∷◌, Bool, not, ℕ, replicate}
+use Rattle.std.specs.Prelude.{◌≡◌, List, [], ◌∷◌, Bool, not, ℕ, replicate, Ok, Err}
 use Rattle.words.specs.Words.{Row}
-use Rattle.refusals.specs.Verdicts.{◌when◌, ◌before◌, nowhere, bad_loan, not_there}
-use Rattle.refusals.specs.declared.Verdict.{Verdict}
-use Rattle.refusals.specs.declared.Verdict.TheVariants.{Accepted, Refused}
+use Rattle.refusals.specs.Verdicts.{◌when◌, ◌before◌, nowhere, bad_loan, not_there, Verdict}
 use Rattle.rows.specs.Rows.{found}
 use Rattle.tables.specs.Columns.{key_width}
 use Rattle.tables.specs.declared.Table.TheVariants.{VehicleType, Block}
@@ -20,8 +18,8 @@ asked_verdict book there = nowhere (bad_loan when not (keeps_rule book)) before 
 
 -- "every refusal zeros for numbers"
 abbrev pub type_answered : Verdict → ℕ → ℕ → TypeAnswer
-type_answered Accepted seconds count = record { verdict = Accepted; seconds = seconds; count = count }
-type_answered (Refused p) seconds count = record { verdict = Refused p; seconds = 0; count = 0 }
+type_answered (Ok _) seconds count = record { verdict = Ok tt; seconds = seconds; count = count }
+type_answered (Err p) seconds count = record { verdict = Err p; seconds = 0; count = 0 }
 
 -- "Type: 16, 15, or seconds and count of its blocks."
 abbrev pub type_call : List Row → ℕ → ℕ → TypeAnswer
@@ -30,8 +28,8 @@ type_call book version type =
     type_answered (asked_verdict book (knows VehicleType (version ∷ type ∷ []) b)) (seconds_of version type b.blocks) (count_of version type b.blocks)
 
 abbrev pub block_answered : Verdict → List ℕ → BlockAnswer
-block_answered Accepted ns = record { verdict = Accepted; numbers = ns }
-block_answered (Refused p) ns = record { verdict = Refused p; numbers = replicate 7 0 }
+block_answered (Ok _) ns = record { verdict = Ok tt; numbers = ns }
+block_answered (Err p) ns = record { verdict = Err p; numbers = replicate 7 0 }
 
 -- "Block: 16, 15, or its seven non-key numbers."
 abbrev pub block_call : List Row → ℕ → ℕ → ℕ → ℕ → BlockAnswer

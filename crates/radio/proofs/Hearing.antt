@@ -8,12 +8,9 @@ use lib.Dec.{eqb, ltb}
 use lib.ListN.{length, length-append}
 use borrow.Author.Tests.{ltb-true, ltb-false, lt-ltb, le-ltb, eq-eqb, ne_eqb}
 use Rattle.words.specs.Words.{Bytes, whether◌then◌else◌}
-use Rattle.refusals.specs.Verdicts.{◌⊳◌, ◌when◌, placed, in_header, too_many_rows, line_too_long}
+use Rattle.refusals.specs.Verdicts.{◌⊳◌, ◌when◌, placed, in_header, too_many_rows, line_too_long, Check, Verdict}
 use Rattle.refusals.specs.declared.Place.{Place}
-use Rattle.refusals.specs.declared.Check.{Check}
-use Rattle.refusals.specs.declared.Check.TheVariants.{Passes, Fails}
-use Rattle.refusals.specs.declared.Verdict.{Verdict}
-use Rattle.refusals.specs.declared.Verdict.TheVariants.{Accepted, Refused}
+use Rattle.std.specs.Prelude.{Ok, Err}
 use Rattle.lines.specs.Lines.{line_after, head_line, row_lines, most_line, most_bytes}
 use Rattle.lines.proofs.Starting.{breaks_most}
 use Rattle.lines.proofs.Starting as starting
@@ -92,8 +89,8 @@ module _ (t : Table) (head : Bytes) where
   row_heard_lem line b i l = rw (ne_eqb i 1 (λ e. omega arith))
 
   result_onward : (v : Verdict) (b : Book) (i : ℕ) → came_to (onward v (going b i head [])) ≡ unless v (leaves b)
-  result_onward Accepted b i = refl
-  result_onward (Refused p) b i = refl
+  result_onward (Ok _) b i = refl
+  result_onward (Err p) b i = refl
 
   -- a long line ends it
   long_row : (s l : Bytes) (ls : List Bytes) (b : Book) (i : ℕ) → 2 ≤ i → most_line < length l → (m : Bytes) → most_line < length m →
@@ -120,8 +117,8 @@ module _ (t : Table) (head : Bytes) where
       row : (line : Bytes) (v : Verdict) → IH →
           finished t (bytes_heard t s (onward v (going (entered t (row_read b.edition t (header_in b.edition t head) line) b) (line_after b.edition i line) head [])))
           ≡ unless v (rows_read t (header_in b.edition t head) (line_after b.edition i line) (lines_behind b.edition [] s) (entered t (row_read b.edition t (header_in b.edition t head) line) b))
-      row line Accepted ih = ih _ (line_after b.edition i line) (omega (arith, line_after_lem b.edition i line))
-      row line (Refused p) ih = finished_stopped t s p
+      row line (Ok _) ih = ih _ (line_after b.edition i line) (omega (arith, line_after_lem b.edition i line))
+      row line (Err p) ih = finished_stopped t s p
 
       go : (q : Bool) → ends_line b.edition rest x ≡ q → (u : Bool) → ltb (length rest) kept_line ≡ u → IH →
           (length (rest ++ (x ∷ [])) ≤ kept_line → finished t (bytes_heard t s (going b i head (rest ++ (x ∷ [])))) ≡ rows_read t (header_in b.edition t head) i (lines_behind b.edition (rest ++ (x ∷ [])) s) b) →
@@ -146,8 +143,8 @@ module _ (t : Table) (head : Bytes) where
   head_heard_lem line b = refl
 
   head_result : (v : Verdict) (b : Book) (line : Bytes) → came_to (onward v (going b (line_after b.edition 1 line) line [])) ≡ unless v (leaves b)
-  head_result Accepted b line = refl
-  head_result (Refused p) b line = refl
+  head_result (Ok _) b line = refl
+  head_result (Err p) b line = refl
 
   long_head : (s l : Bytes) (ls : List Bytes) (b : Book) → most_line < length l → (m : Bytes) → most_line < length m → finished t (bytes_heard t s (line_heard t l b 1 head)) ≡ lines_read t (m ∷ ls) b
   long_head s l ls b n m k = rw (head_heard_lem l b, long_headed b.edition t l n, long_headed b.edition t m k) (finished_stopped t s _)
@@ -160,8 +157,8 @@ module _ (t : Table) (head : Bytes) where
     where
       top : (line : Bytes) (v : Verdict) →
           finished t (bytes_heard t s (onward v (going b (line_after b.edition 1 line) line []))) ≡ unless v (rows_read t (header_in b.edition t line) (line_after b.edition 1 line) (lines_behind b.edition [] s) b)
-      top line Accepted = rows_over t line s b (line_after b.edition 1 line) [] (line_after_lem b.edition 1 line) (omega arith)
-      top line (Refused p) = finished_stopped t s p
+      top line (Ok _) = rows_over t line s b (line_after b.edition 1 line) [] (line_after_lem b.edition 1 line) (omega arith)
+      top line (Err p) = finished_stopped t s p
 
       go : (q : Bool) → ends_line b.edition rest x ≡ q → (u : Bool) → ltb (length rest) kept_line ≡ u →
           (length (rest ++ (x ∷ [])) ≤ kept_line → finished t (bytes_heard t s (going b 1 head (rest ++ (x ∷ [])))) ≡ lines_read t (lines_behind b.edition (rest ++ (x ∷ [])) s) b) →
@@ -183,8 +180,8 @@ table_over t s b n =
 -- a fault that comes of its bytes is the table's own ------------------------------------------------------------------------
 
 own_onward : (t : Table) (i : ℕ) (v : Check) (b : Book) (j : ℕ) (head rest : Bytes) → fault_before t (onward (placed (number t) i v) (going b j head rest)) ≡ false
-own_onward t i Passes b j head rest = refl
-own_onward t i (Fails n k) b j head rest = rw (eq-eqb (number t) (number t) refl)
+own_onward t i (Ok _) b j head rest = refl
+own_onward t i (Err f) b j head rest = rw (eq-eqb (number t) (number t) refl)
 
 own_line : (t : Table) (line : Bytes) (b : Book) (i : ℕ) (head : Bytes) → fault_before t (line_heard t line b i head) ≡ false
 unfolding line_heard
@@ -217,8 +214,8 @@ Of e (going b i head rest) = b.edition ≡ e
 
 module _ (e : Edition) (t : Table) where
   of_onward : (v : Verdict) (c : Course) → Of e c → Of e (onward v c)
-  of_onward Accepted c o = o
-  of_onward (Refused p) c o = tt
+  of_onward (Ok _) c o = o
+  of_onward (Err p) c o = tt
 
   pub of_line : (line : Bytes) (b : Book) (i : ℕ) (head : Bytes) → b.edition ≡ e → Of e (line_heard t line b i head)
   unfolding line_heard

@@ -1,11 +1,8 @@
 -- The delivery by radio: what is kept between parts, and what each call makes of it.
-use Rattle.std.specs.Prelude.{[], ◌∷◌, ◌++◌, Bool, true, false, ◌&&◌, not, ℕ, suc, ltb, eqb, length}
+use Rattle.std.specs.Prelude.{[], ◌∷◌, ◌++◌, Bool, true, false, ◌&&◌, not, ℕ, suc, ltb, eqb, length, Ok, Err}
 use Rattle.words.specs.Words.{Bytes, whether◌then◌else◌}
-use Rattle.refusals.specs.Verdicts.{◌⊳◌, ◌when◌, placed, in_text, in_header, nowhere, text_too_long, not_there, length_differs}
+use Rattle.refusals.specs.Verdicts.{◌⊳◌, ◌when◌, placed, in_text, in_header, nowhere, text_too_long, not_there, length_differs, Check, Verdict}
 use Rattle.refusals.specs.declared.Place.{Place}
-use Rattle.refusals.specs.declared.Check.{Check}
-use Rattle.refusals.specs.declared.Verdict.{Verdict}
-use Rattle.refusals.specs.declared.Verdict.TheVariants.{Accepted, Refused}
 use Rattle.editions.specs.declared.Edition.{Edition}
 use Rattle.cells.specs.Cells.{cut, cells_of}
 use Rattle.cells.specs.declared.State.TheVariants.{Fresh}
@@ -82,8 +79,8 @@ kept_line = suc most_line
 
 -- on, unless there is a refusal
 abbrev pub onward : Verdict → Course → Course
-onward Accepted c = c
-onward (Refused p) c = stopped p
+onward (Ok _) c = c
+onward (Err p) c = stopped p
 
 abbrev pub header_in : Edition → Table → Bytes → Header
 header_in e t head = header e t (cells_of (cut e head))
@@ -215,13 +212,13 @@ standing (hears t a n c) = came_to c
 standing (over r) = r
 
 abbrev pub verdict_of : Result → Verdict
-verdict_of (refused p) = Refused p
-verdict_of (leaves b) = Accepted
+verdict_of (refused p) = Err p
+verdict_of (leaves b) = Ok tt
 
 -- a close answers the verdict of the tables that are closed, any other call that it was taken
 abbrev pub said : Call → Radio → Verdict
-said (announce a) k = Accepted
-said (part s) k = Accepted
+said (announce a) k = Ok tt
+said (part s) k = Ok tt
 said close k = verdict_of (standing k)
 
 abbrev pub answer : Call → Radio → Verdict

@@ -1,13 +1,10 @@
 -- What is kept between parts, in three lent slices: the book, numbers, and lines. "What is kept between parts is no working area".
-use Rattle.std.specs.Prelude.{List, [], ◌∷◌, ◌++◌, Bool, ◌&&◌, ℕ, suc, ◌+◌, ◌-◌, ltb, eqb, length, get_or, take, drop, replicate}
+use Rattle.std.specs.Prelude.{List, [], ◌∷◌, ◌++◌, Bool, ◌&&◌, ℕ, suc, ◌+◌, ◌-◌, ltb, eqb, length, get_or, take, drop, replicate, Option, Some, None, Ok}
 use Rattle.words.specs.Words.{Bytes, Row, whether◌then◌else◌, same}
-use Rattle.refusals.specs.Verdicts.{place, nowhere, bad_loan, unknown_edition}
+use Rattle.refusals.specs.Verdicts.{place, nowhere, bad_loan, unknown_edition, Verdict}
 use Rattle.refusals.specs.declared.Place.{Place}
-use Rattle.refusals.specs.declared.Verdict.{Verdict}
-use Rattle.refusals.specs.declared.Verdict.TheVariants.{Accepted}
 use Rattle.editions.specs.Editions.{choice}
-use Rattle.editions.specs.declared.Choice.{Choice}
-use Rattle.editions.specs.declared.Choice.TheVariants.{Chosen, Unknown}
+use Rattle.editions.specs.declared.Edition.{Edition}
 use Rattle.lines.specs.Lines.{most_line}
 use Rattle.rows.specs.Room.{same_rows}
 use Rattle.tables.specs.Parts.{part_of, tables, book_rows}
@@ -177,9 +174,9 @@ radio_call c s =
 
 -- the opening: what the slices held does not matter; "an unknown edition is 22, right after 16", "one lent at another length is 16", and then all
 -- stay as they came
-abbrev pub open_by : Choice → Slices → Outcome
-open_by (Chosen e) s = outcome Accepted (laid_out (start e))
-open_by Unknown s = outcome (nowhere unknown_edition) s
+abbrev pub open_by : Option Edition → Slices → Outcome
+open_by (Some e) s = outcome (Ok tt) (laid_out (start e))
+open_by None s = outcome (nowhere unknown_edition) s
 
 abbrev pub open_call : ℕ → Slices → Outcome
 open_call n s = whether fits s then open_by (choice n) s else outcome (nowhere bad_loan) s

@@ -9,10 +9,9 @@ use lib.ListN.{length, take}
 use borrow.Author.Tests.{eqb-true, eqb-false, ltb-true, ltb-false, leb-true, leb-false, le-leb, lt-leb}
 use Rattle.words.specs.Words.{Bytes, whether◌then◌else◌}
 use Rattle.words.proofs.Lists.{and_left, and_right}
-use Rattle.refusals.specs.Verdicts.{nowhere, not_there, bad_loan}
+use Rattle.refusals.specs.Verdicts.{nowhere, not_there, bad_loan, Verdict}
 use Rattle.refusals.specs.declared.Place.{Place}
-use Rattle.refusals.specs.declared.Verdict.{Verdict}
-use Rattle.refusals.specs.declared.Verdict.TheVariants.{Accepted, Refused}
+use Rattle.std.specs.Prelude.{Ok, Err}
 use Rattle.tables.specs.declared.Table.{Table}
 use Rattle.tables.specs.declared.Table.TheVariants.{VehicleType, Depot, Stop, StopPoint, Block, Calendar}
 use Rattle.book.specs.Result.{Result}
@@ -91,7 +90,7 @@ module _ (first last : ℕ) (s : Slices) where
     pub too_late : first ≤ turn_of s.numbers → last < turn_of s.numbers → nowhere not_there ≡ admitted first last s
     too_late h k = rw (keeps, le-leb first (turn_of s.numbers) h, lt-leb (turn_of s.numbers) last k)
 
-    pub in_time : first ≤ turn_of s.numbers → turn_of s.numbers ≤ last → Accepted ≡ admitted first last s
+    pub in_time : first ≤ turn_of s.numbers → turn_of s.numbers ≤ last → (Ok tt) ≡ admitted first last s
     in_time h k = rw (keeps, le-leb first (turn_of s.numbers) h, le-leb (turn_of s.numbers) last k)
 
 pub record LetIn (first last : ℕ) (s : Slices) : Type 0 where
@@ -100,13 +99,13 @@ pub record LetIn (first last : ℕ) (s : Slices) : Type 0 where
   pub high : turn_of s.numbers ≤ last
 
 abbrev answered : Bool → Bool → Verdict
-answered kept due = whether kept then (whether due then Accepted else nowhere not_there) else nowhere bad_loan
+answered kept due = whether kept then (whether due then Ok tt else nowhere not_there) else nowhere bad_loan
 
 module _ (first last : ℕ) (s : Slices) (v : Verdict) (is : v ≡ admitted first last s) where
-  pub let_in : v ≡ Accepted → LetIn first last s
+  pub let_in : v ≡ Ok tt → LetIn first last s
   let_in f = go (keeps_radio s) refl (within first last s) refl (sym f ∙ is)
     where
-      go : (q : Bool) → keeps_radio s ≡ q → (r : Bool) → within first last s ≡ r → Accepted ≡ answered q r → LetIn first last s
+      go : (q : Bool) → keeps_radio s ≡ q → (r : Bool) → within first last s ≡ r → (Ok tt) ≡ answered q r → LetIn first last s
       go true e true d g =
           record {
             keeps = e;
@@ -117,11 +116,11 @@ module _ (first last : ℕ) (s : Slices) (v : Verdict) (is : v ≡ admitted firs
       go false e r d g = let z : ◌≡◌ {A = ℕ} 0 1 = cc in let y : ⊥ = omega arith in absurd y
 
   -- a call that is not let in
-  turned_away : (c : Call) → (keeps_radio s ≡ true → within first last s ≡ false → in_turn c (radio_in s) ≡ false) → (p : Place) → v ≡ Refused p
-      → outcome (Refused p) s ≡ radio_call c s
+  turned_away : (c : Call) → (keeps_radio s ≡ true → within first last s ≡ false → in_turn c (radio_in s) ≡ false) → (p : Place) → v ≡ Err p
+      → outcome (Err p) s ≡ radio_call c s
   turned_away c out p f = go (keeps_radio s) refl (within first last s) refl (sym f ∙ is)
     where
-      go : (q : Bool) → keeps_radio s ≡ q → (r : Bool) → within first last s ≡ r → Refused p ≡ answered q r → outcome (Refused p) s ≡ radio_call c s
+      go : (q : Bool) → keeps_radio s ≡ q → (r : Bool) → within first last s ≡ r → Err p ≡ answered q r → outcome (Err p) s ≡ radio_call c s
       go true e true d g = let z : ◌≡◌ {A = ℕ} 0 1 = cc in let y : ⊥ = omega arith in absurd y
       go true e false d g = ap (λ (w : Verdict). outcome w s) g ∙ sym (out_of_turn s e c (out e d))
       go false e r d g = ap (λ (w : Verdict). outcome w s) g ∙ sym (against c s e)
@@ -129,8 +128,8 @@ module _ (first last : ℕ) (s : Slices) (v : Verdict) (is : v ≡ admitted firs
 outside : (i n j : ℕ) → i ≤ n → leb i n && leb n j ≡ false → j < n
 outside i n j h e = leb-false n j (rw (le-leb i n h) at e)
 
-module _ (s : Slices) (v : Verdict) (p : Place) (f : v ≡ Refused p) where
-  pub not_announced : v ≡ admitted 0 (all_closed - 1) s → (a : ℕ) → outcome (Refused p) s ≡ radio_call (announce a) s
+module _ (s : Slices) (v : Verdict) (p : Place) (f : v ≡ Err p) where
+  pub not_announced : v ≡ admitted 0 (all_closed - 1) s → (a : ℕ) → outcome (Err p) s ≡ radio_call (announce a) s
   not_announced e a =
       turned_away 0 (all_closed - 1) s v e (announce a) (λ k d. no_announcing s a (omega (arith, outside 0 (turn_of s.numbers) (all_closed - 1) (omega arith) d))) p f
 
@@ -144,10 +143,10 @@ module _ (s : Slices) (v : Verdict) (p : Place) (f : v ≡ Refused p) where
             absurd (omega (arith, last, outside first_heard (turn_of s.numbers) last_heard (leb-true first_heard (turn_of s.numbers) g) d))
         go false g = leb-false first_heard (turn_of s.numbers) g
 
-    pub no_part : (x : Bytes) → outcome (Refused p) s ≡ radio_call (part x) s
+    pub no_part : (x : Bytes) → outcome (Err p) s ≡ radio_call (part x) s
     no_part x = turned_away first_heard last_heard s v e (part x) (λ k d. unheard s (λ c. in_turn (part x) c ≡ false) (λ t r. refl) (λ r. refl) (early k d)) p f
 
-    pub no_close : outcome (Refused p) s ≡ radio_call close s
+    pub no_close : outcome (Err p) s ≡ radio_call close s
     no_close = turned_away first_heard last_heard s v e close (λ k d. unheard s (λ c. in_turn close c ≡ false) (λ t r. refl) (λ r. refl) (early k d)) p f
 
 -- in turn ---------------------------------------------------------------------------------------------------------------------------
@@ -157,7 +156,7 @@ unfolding radio_call
 in_turn_lem s keeps c k e = rw (keeps, e)
 
 pub announced_in_turn : (s : Slices) → keeps_radio s ≡ true → (a : ℕ) → turn_of s.numbers < all_closed
-    → radio_call (announce a) s ≡ outcome Accepted (laid_out (hears (table_at (turn_of s.numbers)) (counted a) 0 (begun (result_in s))))
+    → radio_call (announce a) s ≡ outcome (Ok tt) (laid_out (hears (table_at (turn_of s.numbers)) (counted a) 0 (begun (result_in s))))
 announced_in_turn s keeps a h = in_turn_lem s keeps (announce a) (awaits (table_at (turn_of s.numbers)) (result_in s)) (is_awaited s h)
 
 module _ (s : Slices) (keeps : keeps_radio s ≡ true) (h : first_heard ≤ turn_of s.numbers) where
@@ -165,7 +164,7 @@ module _ (s : Slices) (keeps : keeps_radio s ≡ true) (h : first_heard ≤ turn
   table = table_of s.numbers
 
   pub part_in_turn : (x : Bytes) → radio_call (part x) s
-      ≡ outcome Accepted (laid_out (hears table (announced_of s.numbers) (counted (come_of s.numbers + length x)) (bytes_heard table (take (announced_of s.numbers - come_of s.numbers) x) (course_in s))))
+      ≡ outcome (Ok tt) (laid_out (hears table (announced_of s.numbers) (counted (come_of s.numbers + length x)) (bytes_heard table (take (announced_of s.numbers - come_of s.numbers) x) (course_in s))))
   part_in_turn x =
       let a = announced_of s.numbers in
       let n = come_of s.numbers in
@@ -174,7 +173,7 @@ module _ (s : Slices) (keeps : keeps_radio s ≡ true) (h : first_heard ≤ turn
       let f : part_taken x (hears table a n (course_in s)) ≡ hears table a (counted (n + length x)) (bytes_heard table (take (a - n) x) (course_in s)) =
       ap (λ (m : ℕ). part_taken x (hears table a m (course_in s))) (sym e) ∙ part_taken_lem table a x n (course_in s) (heard_keeps_lem s keeps h).announced
       ∙ ap (λ (m : ℕ). hears table a (counted (n + length x)) (bytes_heard table (take (a - m) x) (course_in s))) e in
-      in_turn_lem s keeps (part x) (hears table a n (course_in s)) (is_heard s h) ∙ ap (λ (k : Radio). outcome Accepted (laid_out k)) f
+      in_turn_lem s keeps (part x) (hears table a n (course_in s)) (is_heard s h) ∙ ap (λ (k : Radio). outcome (Ok tt) (laid_out k)) f
 
   pub close_in_turn : radio_call close s
       ≡ outcome (verdict_of (closing table (announced_of s.numbers) (come_of s.numbers) (course_in s))) (laid_out (next table (closing table (announced_of s.numbers) (come_of s.numbers) (course_in s))))

@@ -9,27 +9,27 @@ ghost use Rattle.radio_rule.specs.Lent.{slices};
 ghost use Rattle.radio_calls.specs.Calls.{OpenPermits, RadioPermits};
 ghost use Rattle.radio_calls.specs.Turns.{admitted};
 
-use editions::{Choice, Edition};
+use editions::Edition;
 use radio_rule::{HEARD, KEPT, LAST_TURN, OVER, TURN};
-use refusals::{Check, Place, Verdict};
+use refusals::{Fault, Place, Verdict};
 use rows::Row;
 
 fn bad_loan() -> Verdict
     ensures { result ≡ nowhere bad_loan }
 {
-    Check::bad_loan().on(Place::NO_TABLE, Place::NO_LINE)
+    Err(Fault::bad_loan().on(Place::NO_TABLE, Place::NO_LINE))
 }
 
 fn unknown_edition() -> Verdict
     ensures { result ≡ nowhere unknown_edition }
 {
-    Check::unknown_edition().on(Place::NO_TABLE, Place::NO_LINE)
+    Err(Fault::unknown_edition().on(Place::NO_TABLE, Place::NO_LINE))
 }
 
 fn out_of_turn() -> Verdict
     ensures { result ≡ nowhere not_there }
 {
-    Check::not_there().on(Place::NO_TABLE, Place::NO_LINE)
+    Err(Fault::not_there().on(Place::NO_TABLE, Place::NO_LINE))
 }
 
 // 16, then 15: slices against the rule, or a turn that is not from this one to that.
@@ -46,7 +46,7 @@ fn admit(first: u64, last: u64, book: &[Row], kept: &[u64], lines: &[u8]) -> Ver
     if last < turn {
         return out_of_turn();
     }
-    Verdict::Accepted
+    Ok(())
 }
 
 // A delivery begins by the edition of this number, whatever the slices held. 16, then 22.
@@ -56,12 +56,11 @@ pub fn open(edition: u64, book: &mut [Row], kept: &mut [u64], lines: &mut [u8]) 
     if !radio_rule::fit(book, kept, lines) {
         return bad_loan();
     }
-    let choice = Edition::numbered(edition);
-    match choice {
-        Choice::Unknown => unknown_edition(),
-        Choice::Chosen(chosen) => {
+    match Edition::numbered(edition) {
+        None => unknown_edition(),
+        Some(chosen) => {
             radio_slices::empty(chosen, &[0; KEPT], book, kept, lines);
-            Verdict::Accepted
+            Ok(())
         }
     }
 }
@@ -70,14 +69,9 @@ pub fn open(edition: u64, book: &mut [Row], kept: &mut [u64], lines: &mut [u8]) 
 pub fn announce(length: u64, book: &[Row], kept: &mut [u64], lines: &[u8]) -> Verdict
     ensures { RadioPermits (radio.announce length) (slices book.now kept.old lines.now) (outcome result (slices book.now kept.new lines.now)) }
 {
-    let verdict = admit(0, OVER - 1, book, kept, lines);
-    match verdict {
-        Verdict::Refused(p) => Verdict::Refused(p),
-        Verdict::Accepted => {
-            radio_slices::begin_table(length, kept);
-            Verdict::Accepted
-        }
-    }
+    admit(0, OVER - 1, book, kept, lines)?;
+    radio_slices::begin_table(length, kept);
+    Ok(())
 }
 
 // "Please take each table in parts, cut anywhere"
@@ -85,22 +79,15 @@ pub fn part(bytes: &[u8], book: &mut [Row], kept: &mut [u64], lines: &mut [u8]) 
     ensures { RadioPermits (radio.part bytes.now) (slices book.old kept.old lines.old) (outcome result (slices book.new kept.new lines.new)) }
 {
     let admitted = admit(HEARD, LAST_TURN, book, kept, lines);
-    match admitted {
-        Verdict::Refused(p) => Verdict::Refused(p),
-        Verdict::Accepted => {
-            radio_parts::take_part(bytes, book, kept, lines);
-            Verdict::Accepted
-        }
-    }
+    admitted?;
+    radio_parts::take_part(bytes, book, kept, lines);
+    Ok(())
 }
 
 // A table is closed: the verdict of the tables that are closed.
 pub fn close(book: &mut [Row], kept: &mut [u64], lines: &mut [u8]) -> Verdict
     ensures { RadioPermits radio.close (slices book.old kept.old lines.old) (outcome result (slices book.new kept.new lines.new)) }
 {
-    let verdict = admit(HEARD, LAST_TURN, book, kept, lines);
-    match verdict {
-        Verdict::Refused(p) => Verdict::Refused(p),
-        Verdict::Accepted => radio_closing::close_heard(book, kept, lines),
-    }
+    admit(HEARD, LAST_TURN, book, kept, lines)?;
+    radio_closing::close_heard(book, kept, lines)
 }

@@ -7,12 +7,11 @@ use native.Mathlib.Omega.{arith}
 use lib.Dec.{eqb}
 use lib.ListN.{length, take, drop, length-drop}
 use lib.Seq.{length-take-le, take-append_seam}
-use borrow.Author.Tests.{eq-eqb, ne_eqb}
+use borrow.Author.Tests.{ne_eqb}
 use Rattle.words.specs.Words.{Bytes, Row, whether◌then◌else◌}
-use Rattle.refusals.specs.Verdicts.{in_text}
+use Rattle.refusals.specs.Verdicts.{in_text, Verdict}
 use Rattle.refusals.specs.declared.Place.{Place}
-use Rattle.refusals.specs.declared.Verdict.{Verdict}
-use Rattle.refusals.specs.declared.Verdict.TheVariants.{Accepted, Refused}
+use Rattle.std.specs.Prelude.{Ok, Err}
 use Rattle.lines.specs.Lines.{most_line}
 use Rattle.numbers.specs.Putting.{put}
 use Rattle.tables.specs.Columns.{number}
@@ -32,20 +31,13 @@ use Rattle.radio_closing.specs.Closing.{earlier_fault, none_left, Comes}
 
 -- the last line ---------------------------------------------------------------------------------------------------------------------
 
-module _ (k : List ℕ) where
-  pub first_left : line_of k ≡ 1 → false ≡ none_left k
-  first_left e = rw (eq-eqb (line_of k) 1 e)
-
-  pub later_left : (line_of k ≡ 1 → ⊥) → eqb (rest_of k) 0 ≡ none_left k
-  later_left n = rw (ne_eqb (line_of k) 1 n)
-
 -- what a last line came to
 pub comes_last : (t : Table) (c : Course) (b : List Row) (l : Bytes) (h : Heard) → CameTo t c b l h → (d : Course) → c ≡ d → Comes (came_to d) h.verdict b
 comes_last t c b l h came d e = record { is = go h.verdict came.is ∙ ap came_to e; sound = λ f. (came.holds f).sound }
   where
     go : (v : Verdict) → course_held v h.line h.head h.rest b l ≡ c → result_of v b ≡ came_to c
-    go Accepted f = ap came_to f
-    go (Refused p) f = ap came_to f
+    go (Ok _) f = ap came_to f
+    go (Err p) f = ap came_to f
 
 -- the last line, copied to a room of its own
 pub last_copied : (n : ℕ) (l room z : Bytes) → length l ≡ radio_bytes → n ≤ kept_line → room ≡ put (take ((most_line + n) - most_line) (drop most_line l)) z → take (n - 0) (drop 0 room) ≡ take n (drop most_line l)
@@ -65,7 +57,7 @@ module _ (t : Table) (b : List Row) (k : List ℕ) (l : Bytes) (h : Hears b k l)
   abbrev last_one : Bytes
   last_one = take (rest_of k) (drop most_line l)
 
-  pub finish_fault : (flag_of k ≡ 0 → ⊥) → (p : Place) → p ≡ fault_in (slices b k l) → Comes (finished t (course_in (slices b k l))) (Refused p) b
+  pub finish_fault : (flag_of k ≡ 0 → ⊥) → (p : Place) → p ≡ fault_in (slices b k l) → Comes (finished t (course_in (slices b k l))) (Err p) b
   unfolding finished
   finish_fault n p e = record { is = ap refused e ∙ ap (finished t) (sym (course_stopped b k l h n)); sound = λ f. let z : ◌≡◌ {A = ℕ} 0 1 = cc in let y : ⊥ = omega arith in absurd y }
 
@@ -77,7 +69,7 @@ module _ (t : Table) (b : List Row) (k : List ℕ) (l : Bytes) (h : Hears b k l)
     unfolding finished
     finished_going q f = ap (finished t) (course_going b k l h e) ∙ rw (left, f)
 
-    pub finish_none : none_left k ≡ true → Comes (finished t (course_in (slices b k l))) Accepted b
+    pub finish_none : none_left k ≡ true → Comes (finished t (course_in (slices b k l))) (Ok tt) b
     finish_none f = record { is = sym (finished_going true f); sound = λ g. (can_go_on b k l h e).sound }
 
     pub finish_last : none_left k ≡ false → (x : Heard) → x ≡ taken k → (v : Verdict) (y : List Row)
@@ -105,7 +97,7 @@ module _ (t : Table) (b : List Row) (k : List ℕ) (l : Bytes) where
       go true = refl
       go false = refl
 
-  pub closed_before : earlier_fault (number t) k ≡ true → (p : Place) → p ≡ fault_in (slices b k l) → Comes (closing t (announced_of k) (come_of k) (course_in (slices b k l))) (Refused p) b
+  pub closed_before : earlier_fault (number t) k ≡ true → (p : Place) → p ≡ fault_in (slices b k l) → Comes (closing t (announced_of k) (come_of k) (course_in (slices b k l))) (Err p) b
   unfolding closing
   closed_before f p e = record { is = rw (earlier, f) (go (eqb (flag_of k) 0) f); sound = λ g. let z : ◌≡◌ {A = ℕ} 0 1 = cc in let y : ⊥ = omega arith in absurd y }
     where
@@ -114,11 +106,11 @@ module _ (t : Table) (b : List Row) (k : List ℕ) (l : Bytes) where
       go false g = ap refused e
 
   module _ (f : earlier_fault (number t) k ≡ false) where
-    pub closed_length : (p : Place) → in_text (number t) (length_check (announced_of k) (come_of k)) ≡ Refused p → Comes (closing t (announced_of k) (come_of k) (course_in (slices b k l))) (Refused p) b
+    pub closed_length : (p : Place) → in_text (number t) (length_check (announced_of k) (come_of k)) ≡ Err p → Comes (closing t (announced_of k) (come_of k) (course_in (slices b k l))) (Err p) b
     unfolding closing
     closed_length p e = record { is = rw (earlier, f, e); sound = λ g. let z : ◌≡◌ {A = ℕ} 0 1 = cc in let y : ⊥ = omega arith in absurd y }
 
-    pub closed_finished : in_text (number t) (length_check (announced_of k) (come_of k)) ≡ Accepted → (v : Verdict) (x : List Row)
+    pub closed_finished : in_text (number t) (length_check (announced_of k) (come_of k)) ≡ Ok tt → (v : Verdict) (x : List Row)
         → Comes (finished t (course_in (slices b k l))) v x → Comes (closing t (announced_of k) (come_of k) (course_in (slices b k l))) v x
     unfolding closing
     closed_finished e v x c = record { is = rw (earlier, f, e) c.is; sound = c.sound }

@@ -3,8 +3,8 @@ use mathlib.Core.Path.{◌≡◌, refl, ap, ◌∙◌}
 use mathlib.Core.List.{List}
 use Prim.Native.Nat.{ℕ}
 use Rattle.words.specs.Words.{Bytes, Row}
-use Rattle.refusals.specs.declared.Verdict.{Verdict}
-use Rattle.refusals.specs.declared.Verdict.TheVariants.{Accepted, Refused}
+use Rattle.std.specs.Prelude.{Ok, Err}
+use Rattle.refusals.specs.Verdicts.{Verdict}
 use Rattle.tables.specs.declared.Table.{Table}
 use Rattle.book.specs.Holding.{result_of}
 use Rattle.book.specs.Result.{Result}
@@ -15,8 +15,8 @@ use Rattle.radio_slices.specs.Hearing.{table_of}
 use Rattle.radio_closing.specs.Closing.{Comes, closed_heard}
 
 said_of : (v : Verdict) (y : List Row) → v ≡ verdict_of (result_of v y)
-said_of Accepted y = refl
-said_of (Refused p) y = refl
+said_of (Ok _) y = refl
+said_of (Err p) y = refl
 
 pub closed : (b : List Row) (k : List ℕ) (l : Bytes) (t : Table) → t ≡ table_of k → (v : Verdict) (y : List Row)
     → Comes (closing t (announced_of k) (come_of k) (course_in (slices b k l))) v y → (u : Slices) → u ≡ laid_out (next (table_of k) (result_of v y))

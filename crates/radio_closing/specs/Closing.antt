@@ -1,9 +1,8 @@
 -- What the code of a close asks and leaves.
 -- Inner: no promise and no contract of a public function speaks of it.
-use Rattle.std.specs.Prelude.{◌≡◌, List, Bool, false, not, ◌&&◌, ℕ, eqb}
+use Rattle.std.specs.Prelude.{◌≡◌, List, Bool, false, not, ◌&&◌, ℕ, eqb, Ok}
 use Rattle.words.specs.Words.{Bytes, Row, whether◌then◌else◌}
-use Rattle.refusals.specs.declared.Verdict.{Verdict}
-use Rattle.refusals.specs.declared.Verdict.TheVariants.{Accepted}
+use Rattle.refusals.specs.Verdicts.{Verdict}
 use Rattle.book.specs.Holding.{Sound, result_of}
 use Rattle.book.specs.Result.{Result}
 use Rattle.radio.specs.Radio.{next, closing, verdict_of}
@@ -22,7 +21,7 @@ none_left kept = not (eqb (line_of kept) 1) && eqb (rest_of kept) 0
 -- a table came to this: where it is accepted, the slice holds a book
 pub record Comes (r : Result) (v : Verdict) (book : List Row) : Type 0 where
   pub is : result_of v book ≡ r
-  pub sound : v ≡ Accepted → Sound book
+  pub sound : v ≡ Ok tt → Sound book
 
 -- a table that is heard is closed: what its close answers, and what the slices hold behind it
 abbrev pub closed_heard : List Row → List ℕ → Bytes → Outcome

@@ -14,7 +14,7 @@ ghost use Rattle.radio_closing.specs.Closing.{earlier_fault, none_left, Comes, c
 use lines::MOST_BYTES;
 use radio_lines::Heard;
 use radio_rule::{ANNOUNCED, COME, FAULT, FAULT_TABLE, HEAD, LINE, REST, REST_LENGTH};
-use refusals::{Check, Place, Verdict};
+use refusals::{Check, Fault, Place, Verdict};
 use rows::Row;
 use tables::Table;
 
@@ -23,12 +23,12 @@ fn judge_length(announced: u64, come: u64) -> Check
     ensures { result ≡ radio.length_check announced come }
 {
     if (MOST_BYTES as u64) < announced {
-        return Check::text_too_long();
+        return Err(Fault::text_too_long());
     }
     if announced != come {
-        return Check::length_differs();
+        return Err(Fault::length_differs());
     }
-    Check::Passes
+    Ok(())
 }
 
 // Whether the fault that is kept is an earlier table's.
@@ -36,20 +36,14 @@ fn faulty_before(table: u64, kept: &[u64]) -> bool
     requires { length kept.now ≡ radio_numbers }
     ensures { result ≡ earlier_fault table kept.now }
 {
-    if kept[FAULT] == 0 {
-        return false;
-    }
-    kept[FAULT_TABLE] != table
+    kept[FAULT] != 0 && kept[FAULT_TABLE] != table
 }
 
 fn none_left(kept: &[u64]) -> bool
     requires { length kept.now ≡ radio_numbers }
     ensures { result ≡ none_left kept.now }
 {
-    if kept[LINE] == Place::HEADER_LINE {
-        return false;
-    }
-    kept[REST_LENGTH] == 0
+    kept[LINE] != Place::HEADER_LINE && kept[REST_LENGTH] == 0
 }
 
 // "A last line may lack its line feed": the unfinished line is the last. It is copied, for its room is lent on.
@@ -70,10 +64,10 @@ fn finish(t: Table, book: &mut [Row], kept: &[u64], lines: &mut [u8]) -> Verdict
     ensures { Comes (radio.finished t (course_in (slices book.old kept.now lines.old))) result book.new }
 {
     if kept[FAULT] != 0 {
-        return Verdict::Refused(radio_slices::kept_fault(kept));
+        return Err(radio_slices::kept_fault(kept));
     }
     if none_left(kept) {
-        return Verdict::Accepted;
+        return Ok(());
     }
     let from = radio_slices::take_up(kept);
     last_line(t, book, lines, from)
@@ -85,14 +79,11 @@ fn close_table(t: Table, book: &mut [Row], kept: &[u64], lines: &mut [u8]) -> Ve
     ensures { Comes (radio.closing t (announced_of kept.now) (come_of kept.now) (course_in (slices book.old kept.now lines.old))) result book.new }
 {
     if faulty_before(t.number(), kept) {
-        return Verdict::Refused(radio_slices::kept_fault(kept));
+        return Err(radio_slices::kept_fault(kept));
     }
     let check = judge_length(kept[ANNOUNCED], kept[COME]);
-    let verdict = check.on(t.number(), Place::NO_LINE);
-    match verdict {
-        Verdict::Refused(p) => Verdict::Refused(p),
-        Verdict::Accepted => finish(t, book, kept, lines),
-    }
+    refusals::placed(check, t.number(), Place::NO_LINE)?;
+    finish(t, book, kept, lines)
 }
 
 // A table that is heard is closed: the verdict of the tables that are closed, and the next turn.

@@ -5,7 +5,7 @@ use mathlib.Core.List.{[], ◌∷◌, ◌++◌, append_assoc}
 use Prim.Native.Nat.{ℕ, zero, suc, ◌+◌, ◌-◌, ◌≤◌, ◌<◌}
 use native.Mathlib.Omega.{arith}
 use lib.ListN.{length, get_or, take, drop, length-append, length-drop, take-append-drop}
-use lib.Seq.{take-append-le, take-take, take-add, take_at, drop_at, drop-drop, length-take-le}
+use lib.Seq.{take-append-le, take-take, take-add, take_at, drop_at, drop-drop, length-take-le, get_or-take}
 use borrow.Author.Tests.{eq-eqb, ne_eqb}
 use Rattle.words.specs.Words.{Bytes, whether◌then◌else◌}
 use Rattle.numbers.specs.Putting.{put}
@@ -91,19 +91,27 @@ module _ (s room r : Bytes) (n : ℕ) (e : room ≡ s ++ r) (l : n ≡ length s)
   room_long : length room ≡ n + length r
   room_long = ap length e ∙ length-append s r ∙ ap (λ (k : ℕ). k + length r) (sym l)
 
-  pub together_none : n ≡ 0 → EndsAt s room n
-  together_none z = (omega (arith, room_long), ap (λ (k : ℕ). take k room) z ∙ ended_none s (omega arith))
+  put_long : length (take n room) ≡ n
+  put_long = length-take-le n room (omega (arith, room_long))
 
-  pub together_return : 0 < n → get_or room (n - 1) 0 ≡ 13 → EndsAt s room (n - 1)
+  last_put : 0 < n → get_or s (n - 1) 0 ≡ get_or (take n room) (length (take n room) - 1) 0
+  last_put p = rw put_long (sym (get_d_front s r (n - 1) (omega arith)) ∙ ap (λ (z : Bytes). get_or z (n - 1) 0) (sym e) ∙ sym (get_or-take n room (n - 1) 0 (omega arith)))
+
+  pub together_none : length (take n room) < 1 → EndsAt s room n
+  together_none z =
+      let none : n ≡ 0 = omega (arith, put_long) in
+      (omega (arith, room_long), ap (λ (k : ℕ). take k room) none ∙ ended_none s (omega arith))
+
+  pub together_return : 1 ≤ length (take n room) → get_or (take n room) (length (take n room) - 1) 0 ≡ 13 → EndsAt s room (n - 1)
   together_return p b =
       let k : n - 1 ≤ length s = omega arith in
-      let byte : get_or s (n - 1) 0 ≡ 13 = sym (get_d_front s r (n - 1) (omega arith)) ∙ ap (λ (z : Bytes). get_or z (n - 1) 0) (sym e) ∙ b in
-      (omega (arith, room_long), ap (take (n - 1)) e ∙ take-append-le (n - 1) s r k ∙ sym (ended_return s (n - 1) (omega arith) byte))
+      let byte : get_or s (n - 1) 0 ≡ 13 = last_put (omega (arith, put_long)) ∙ b in
+      (omega (arith, room_long), ap (take (n - 1)) e ∙ take-append-le (n - 1) s r k ∙ sym (ended_return s (n - 1) (omega (arith, put_long)) byte))
 
-  pub together_other : 0 < n → (get_or room (n - 1) 0 ≡ 13 → ⊥) → EndsAt s room n
+  pub together_other : 1 ≤ length (take n room) → (get_or (take n room) (length (take n room) - 1) 0 ≡ 13 → ⊥) → EndsAt s room n
   together_other p b =
-      let same : get_or room (n - 1) 0 ≡ get_or s (n - 1) 0 = ap (λ (z : Bytes). get_or z (n - 1) 0) e ∙ get_d_front s r (n - 1) (omega arith) in
-      (omega (arith, room_long), ap (take n) e ∙ take_at s r n (sym l) ∙ sym (ended_other s (n - 1) (omega arith) (λ q. b (same ∙ q))))
+      let some : 0 < n = omega (arith, put_long) in
+      (omega (arith, room_long), ap (take n) e ∙ take_at s r n (sym l) ∙ sym (ended_other s (n - 1) (omega arith) (λ q. b (sym (last_put some) ∙ q))))
 
 -- rows that are finished ------------------------------------------------------------------------------------------------------------
 

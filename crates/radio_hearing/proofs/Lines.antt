@@ -9,8 +9,8 @@ use native.Mathlib.Numerals.{add-one}
 use lib.Seq.{length-take-le, take_all, drop-drop}
 use Rattle.words.specs.Words.{Bytes, Row}
 use Rattle.refusals.specs.declared.Place.{Place}
-use Rattle.refusals.specs.declared.Verdict.{Verdict}
-use Rattle.refusals.specs.declared.Verdict.TheVariants.{Accepted, Refused}
+use Rattle.std.specs.Prelude.{Ok, Err}
+use Rattle.refusals.specs.Verdicts.{Verdict}
 use Rattle.lines.specs.Lines.{most_line, quoting_behind}
 use Rattle.lines.specs.Ends.{line_at, line_length, feed_from}
 use Rattle.lines.specs.declared.Line.{Line}
@@ -64,7 +64,7 @@ module _ (t : Table) (from : Heard) (book : List Row) (lines : Bytes) (hold : Ho
       stopped_came t v (bytes_heard t s (kept from book lines)) (record { at = k.at; refused = k.refused; is = is ∙ k.is }) book lines' from.line from.head from.rest
 
   pub tail_came : (tail ys : Bytes) → Feedless ed stands tail → from.rest + length tail ≤ kept_line → ys ≡ put tail (rest lines (most_line + from.rest)) → (n : ℕ) → n ≡ length tail
-      → CameTo t (bytes_heard t tail (kept from book lines)) book (back lines (most_line + from.rest) ys) (record { verdict = Accepted; line = from.line; head = from.head; rest = from.rest + n })
+      → CameTo t (bytes_heard t tail (kept from book lines)) book (back lines (most_line + from.rest) ys) (record { verdict = Ok tt; line = from.line; head = from.head; rest = from.rest + n })
   tail_came tail ys unfed few ey n en =
       record {
         is = ap (λ (h : Bytes). going (book_of book) from.line h (take (from.rest + n) (drop most_line lines'))) heads
@@ -96,7 +96,7 @@ module _ (t : Table) (from : Heard) (book : List Row) (lines : Bytes) (hold : Ho
 
 -- the bytes of a part in turn: a refusal stays, and what goes on goes on
 module _ (t : Table) (b : Bytes) (c all : Course) (whole : all ≡ bytes_heard t b c) (h : Heard) (book : List Row) (lines : Bytes) (k : CameTo t c book lines h) where
-  pub stays_stopped : (p : Place) → h.verdict ≡ Refused p → (book' : List Row) (lines' : Bytes) → CameTo t all book' lines' h
+  pub stays_stopped : (p : Place) → h.verdict ≡ Err p → (book' : List Row) (lines' : Bytes) → CameTo t all book' lines' h
   stays_stopped p r book' lines' =
       let at : c ≡ stopped p = sym k.is ∙ ap (λ (v : Verdict). course_held v h.line h.head h.rest book lines) r in
       record {
@@ -104,7 +104,7 @@ module _ (t : Table) (b : Bytes) (c all : Course) (whole : all ≡ bytes_heard t
         holds = λ q. not_accepted p (sym r ∙ q);
       }
 
-  pub goes_on : h.verdict ≡ Accepted → (book' : List Row) (lines' : Bytes) (r : Heard) → CameTo t (bytes_heard t b (kept h book lines)) book' lines' r → CameTo t all book' lines' r
+  pub goes_on : h.verdict ≡ Ok tt → (book' : List Row) (lines' : Bytes) (r : Heard) → CameTo t (bytes_heard t b (kept h book lines)) book' lines' r → CameTo t all book' lines' r
   goes_on q book' lines' r n =
       let at : kept h book lines ≡ c = ap (λ (v : Verdict). course_held v h.line h.head h.rest book lines) (sym q) ∙ k.is in
       subst (λ (x : Course). CameTo t x book' lines' r) (ap (bytes_heard t b) at ∙ sym whole) n
@@ -113,7 +113,7 @@ pub over_parted : (t : Table) (s a b : Bytes) (c : Course) → s ≡ a ++ b → 
 over_parted t s a b c e = ap (λ (z : Bytes). bytes_heard t z c) e ∙ over_join t a b c
 
 -- the edition of the book stays
-pub edition_stays : (t : Table) (s : Bytes) (from h : Heard) (book book' : List Row) (lines lines' : Bytes) → CameTo t (bytes_heard t s (kept from book lines)) book' lines' h → h.verdict ≡ Accepted
+pub edition_stays : (t : Table) (s : Bytes) (from h : Heard) (book book' : List Row) (lines lines' : Bytes) → CameTo t (bytes_heard t s (kept from book lines)) book' lines' h → h.verdict ≡ Ok tt
     → (book_of book').edition ≡ (book_of book).edition
 edition_stays t s from h book book' lines lines' k a =
     of_held (book_of book).edition h.verdict h.line h.head h.rest book' lines' (bytes_heard t s (kept from book lines)) k.is (of_bytes (book_of book).edition t s (kept from book lines) refl) a

@@ -16,7 +16,6 @@ use cells::State;
 use editions::Edition;
 use lines::MOST_LINE;
 use radio_lines::Heard;
-use refusals::Verdict;
 use rows::Row;
 use tables::Table;
 
@@ -51,13 +50,10 @@ fn put_together(rest: &[u8], more: &[u8], room: &mut [u8]) -> usize
     let a = number_lines::write_bytes(room, rest);
     let b = number_lines::write_bytes(&mut room[a..], more);
     let n = a + b;
-    if n == 0 {
-        return n;
+    match &room[..n] {
+        [.., CARRIAGE_RETURN] => n - 1,
+        _ => n,
     }
-    if room[n - 1] == CARRIAGE_RETURN {
-        return n - 1;
-    }
-    n
 }
 
 // A line whose line feed is in the part. Where nothing of it came before, it is read where it lies.
@@ -107,7 +103,7 @@ fn keep_tail(tail: &[u8], t: Table, book: &[Row], lines: &mut [u8], from: Heard)
     }
     let n = number_lines::write_bytes(&mut lines[MOST_LINE + rest..], tail);
     Heard {
-        verdict: Verdict::Accepted,
+        verdict: Ok(()),
         line,
         head,
         rest: rest + n,
@@ -147,8 +143,8 @@ fn hear_behind(
     let heard = radio_lines::hear_rows(&part[start..end], t, book, &lines[..], from);
     let verdict = heard.verdict;
     match verdict {
-        Verdict::Refused(_) => heard,
-        Verdict::Accepted => keep_tail(&part[end..], t, &book[..], lines, heard),
+        Err(_) => heard,
+        Ok(()) => keep_tail(&part[end..], t, &book[..], lines, heard),
     }
 }
 
@@ -177,7 +173,7 @@ pub fn hear(part: &[u8], t: Table, book: &mut [Row], lines: &mut [u8], from: Hea
     let heard = end_line(part, feed, t, book, lines, from);
     let verdict = heard.verdict;
     match verdict {
-        Verdict::Refused(_) => heard,
-        Verdict::Accepted => hear_behind(part, feed + 1, t, book, lines, heard),
+        Err(_) => heard,
+        Ok(()) => hear_behind(part, feed + 1, t, book, lines, heard),
     }
 }

@@ -9,11 +9,8 @@ use lib.ListN.{length, take, drop}
 use lib.Seq.{take-append_seam}
 use borrow.Author.Tests.{ltb-true, ltb-false, le-leb, lt-leb}
 use Rattle.words.specs.Words.{Bytes, Row}
-use Rattle.refusals.specs.Verdicts.{place, placed, in_header, too_many_rows, line_too_long}
-use Rattle.refusals.specs.declared.Check.{Check}
-use Rattle.refusals.specs.declared.Check.TheVariants.{Passes, Fails}
-use Rattle.refusals.specs.declared.Verdict.{Verdict}
-use Rattle.refusals.specs.declared.Verdict.TheVariants.{Accepted, Refused}
+use Rattle.refusals.specs.Verdicts.{place, placed, in_header, too_many_rows, line_too_long, Check, Verdict}
+use Rattle.std.specs.Prelude.{Ok, Err}
 use Rattle.refusals.proofs.Placing.{placed_passes}
 use Rattle.lines.specs.Lines.{line_after, most_line, lines as lines_of}
 use Rattle.numbers.specs.Putting.{put}
@@ -63,15 +60,15 @@ module _ (t : Table) (l : Bytes) (b : Book) (i : ℕ) (head : Bytes) (v : Verdic
 pub stopped_came : (t : Table) (v : Verdict) (c : Course) → Stopping v c → (book : List Row) (lines : Bytes) (i head rest : ℕ) → CameTo t c book lines (record { verdict = v; line = i; head = head; rest = rest })
 stopped_came t v c k book lines i head rest = record { is = rw k.refused (sym k.is); holds = λ a. never (sym a ∙ k.refused) }
   where
-    never : {A : Type 0} → Accepted ≡ Refused k.at → A
+    never : {A : Type 0} → ◌≡◌ {A = Verdict} (Ok tt) (Err k.at) → A
     never e = let z : ◌≡◌ {A = ℕ} 0 1 = cc in absurd (omega arith)
 
 -- the header --------------------------------------------------------------------------------------------------------------------------
 
-pub head_short : (ed : Edition) (t : Table) (l : Bytes) → header_check ed t l ≡ Passes → length l ≤ most_line
+pub head_short : (ed : Edition) (t : Table) (l : Bytes) → header_check ed t l ≡ Ok tt → length l ≤ most_line
 head_short ed t l p = go (ltb most_line (length l)) refl
   where
-    never : {A : Type 0} → line_too_long ≡ Passes → A
+    never : {A : Type 0} → line_too_long ≡ Ok tt → A
     never e = let z : ◌≡◌ {A = ℕ} 0 1 = cc in absurd (omega arith)
 
     go : (q : Bool) → ltb most_line (length l) ≡ q → length l ≤ most_line
@@ -81,7 +78,7 @@ head_short ed t l p = go (ltb most_line (length l)) refl
 -- the edition of the book is `ed`, and the next line's number `next`
 module _ (t : Table) (line : Bytes) (from : Heard) (book : List Row) (lines lines' : Bytes) (hold : Holding t from book lines) (ed : Edition) (by : ed ≡ (book_of book).edition)
     (next : ℕ) (after : next ≡ line_after ed from.line line) (v : Verdict) (o : v ≡ in_header (number t) (header_check ed t line))
-    (w : v ≡ Accepted → lines' ≡ put line lines) (one : from.line ≡ 1) where
+    (w : v ≡ Ok tt → lines' ≡ put line lines) (one : from.line ≡ 1) where
   abbrev behind : Heard
   behind = record { verdict = v; line = next; head = length line; rest = 0 }
 
@@ -95,17 +92,17 @@ module _ (t : Table) (line : Bytes) (from : Heard) (book : List Row) (lines line
   unfolding line_heard
   head_is = rw (one, checked, numbered)
 
-  line_kept : v ≡ Accepted → take (length line) lines' ≡ line
+  line_kept : v ≡ Ok tt → take (length line) lines' ≡ line
   line_kept a = ap (take (length line)) (w a) ∙ take-append_seam line (drop (length line) lines)
 
   pub head_came : CameTo t (line_heard t line (book_of book) from.line (take from.head lines)) book lines' behind
   head_came = record { is = go v refl ∙ sym head_is; holds = λ a. holds a (placed_passes (number t) 1 (header_check (book_of book).edition t line) (sym checked ∙ a)) }
     where
       go : (u : Verdict) → v ≡ u → course_held u next (length line) 0 book lines' ≡ onward u (going (book_of book) next line [])
-      go Accepted e = ap (λ (z : Bytes). going (book_of book) next z []) (line_kept e)
-      go (Refused p) e = refl
+      go (Ok _) e = ap (λ (z : Bytes). going (book_of book) next z []) (line_kept e)
+      go (Err p) e = refl
 
-      holds : v ≡ Accepted → header_check (book_of book).edition t line ≡ Passes → Holding t behind book lines'
+      holds : v ≡ Ok tt → header_check (book_of book).edition t line ≡ Ok tt → Holding t behind book lines'
       holds a p =
           let two : 1 < next = rw numbered (line_after_lem (book_of book).edition 1 line) in
           record {
@@ -122,19 +119,19 @@ module _ (t : Table) (line : Bytes) (from : Heard) (book : List Row) (lines line
 -- rows --------------------------------------------------------------------------------------------------------------------------------
 
 held_coursed : (v : Verdict) (xs : List Row) (lines : Bytes) (i head : ℕ) → course_held v i head 0 xs lines ≡ coursed (result_of v xs) i (take head lines)
-held_coursed Accepted xs lines i head = refl
-held_coursed (Refused p) xs lines i head = refl
+held_coursed (Ok _) xs lines i head = refl
+held_coursed (Err p) xs lines i head = refl
 
-named_left : (v : Verdict) (xs : List Row) → NamedIn (result_of v xs) → v ≡ Accepted → points_named (book_of xs) ≡ true
+named_left : (v : Verdict) (xs : List Row) → NamedIn (result_of v xs) → v ≡ Ok tt → points_named (book_of xs) ≡ true
 named_left v xs n a = subst (λ (u : Verdict). NamedIn (result_of u xs)) a n
 
 -- a course that goes on has the edition of the book that is kept
-pub of_held : (ed : Edition) (v : Verdict) (i head rest : ℕ) (xs : List Row) (lines : Bytes) (c : Course) → course_held v i head rest xs lines ≡ c → Of ed c → v ≡ Accepted → (book_of xs).edition ≡ ed
+pub of_held : (ed : Edition) (v : Verdict) (i head rest : ℕ) (xs : List Row) (lines : Bytes) (c : Course) → course_held v i head rest xs lines ≡ c → Of ed c → v ≡ Ok tt → (book_of xs).edition ≡ ed
 of_held ed v i head rest xs lines c is o a = subst (Of ed) (sym (ap (λ (u : Verdict). course_held u i head rest xs lines) (sym a) ∙ is)) o
 
 module _ (t : Table) (from : Heard) (book book' : List Row) (lines : Bytes) (hold : Holding t from book lines) (v : Verdict) (sound : Sound book') (named : NamedIn (result_of v book'))
-    (same : v ≡ Accepted → (book_of book').edition ≡ (book_of book).edition) (next : ℕ) (later : v ≡ Accepted → 2 ≤ next) (row : from.line ≡ 1 → ⊥) where
-  pub rows_hold : v ≡ Accepted → Holding t (record { verdict = v; line = next; head = from.head; rest = 0 }) book' lines
+    (same : v ≡ Ok tt → (book_of book').edition ≡ (book_of book).edition) (next : ℕ) (later : v ≡ Ok tt → 2 ≤ next) (row : from.line ≡ 1 → ⊥) where
+  pub rows_hold : v ≡ Ok tt → Holding t (record { verdict = v; line = next; head = from.head; rest = 0 }) book' lines
   rows_hold a =
       let two : 2 ≤ next = later a in
       record {
@@ -183,7 +180,7 @@ module _ (t : Table) (from : Heard) (book book' : List Row) (lines : Bytes) (hol
           ∙ ap (λ (k : ℕ). onward (fault head) (going (new head) k head [])) after
           ∙ sym (row_heard_lem t line (book_of book) from.line head n)
 
-  pub body_came : (body front : Bytes) → front ≡ head → 2 ≤ from.line → from.rest ≡ 0 → Finished ed [] body → (next : ℕ) → (v ≡ Accepted → next ≡ lines_after ed from.line (lines_of ed body))
+  pub body_came : (body front : Bytes) → front ≡ head → 2 ≤ from.line → from.rest ≡ 0 → Finished ed [] body → (next : ℕ) → (v ≡ Ok tt → next ≡ lines_after ed from.line (lines_of ed body))
       → result_of v book' ≡ rows_read t (header_in ed t front) from.line (lines_of ed body) (book_of book)
       → CameTo t (bytes_heard t body (kept from book lines)) book' lines (record { verdict = v; line = next; head = from.head; rest = 0 })
   body_came body front f two none fed next after e =
@@ -202,7 +199,7 @@ module _ (t : Table) (from : Heard) (book book' : List Row) (lines : Bytes) (hol
 
 -- no bytes
 pub none_came : (t : Table) (from : Heard) (book : List Row) (lines : Bytes) → Holding t from book lines → (body : Bytes) → length body ≡ 0 → from.rest ≡ 0
-    → CameTo t (bytes_heard t body (kept from book lines)) book lines (record { verdict = Accepted; line = from.line; head = from.head; rest = 0 })
+    → CameTo t (bytes_heard t body (kept from book lines)) book lines (record { verdict = Ok tt; line = from.line; head = from.head; rest = 0 })
 unfolding bytes_heard
 none_came t from book lines hold [] e none =
     record {
@@ -217,14 +214,14 @@ heading_check : (ed : Edition) (t : Table) (line : Bytes) → (heading ed t line
 heading_check ed t line = go (header_check ed t line)
   where
     go : (c : Check) → (headed c (header_in ed t line)).check ≡ c
-    go Passes = refl
-    go (Fails n k) = refl
+    go (Ok _) = refl
+    go (Err f) = refl
 
 pub head_verdict : (ed : Edition) (t : Table) (line : Bytes) (h : Heading) (n : ℕ) (v : Verdict) → h ≡ heading ed t line → n ≡ number t → v ≡ placed n 1 h.check → v ≡ in_header (number t) (header_check ed t line)
 head_verdict ed t line h n v e k o = o ∙ ap (λ (m : ℕ). placed m 1 h.check) k ∙ ap (placed (number t) 1) (ap (λ (x : Heading). x.check) e ∙ heading_check ed t line)
 
 -- by the edition `x` that the code found, which is the book's
-module _ (x ed : Edition) (by : x ≡ ed) (t : Table) (line : Bytes) (h : Heading) (e : h ≡ heading x t line) (p : header_check ed t line ≡ Passes) where
+module _ (x ed : Edition) (by : x ≡ ed) (t : Table) (line : Bytes) (h : Heading) (e : h ≡ heading x t line) (p : header_check ed t line ≡ Ok tt) where
   pub head_places : h.at ≡ places (header_in ed t line)
   head_places = ap (λ (g : Heading). g.at) (e ∙ ap (λ (y : Edition). heading y t line) by) ∙ heading_kept ed t line p
 

@@ -8,9 +8,8 @@ use lib.Dec.{ltb}
 use lib.ListN.{length, length-append}
 use borrow.Author.Tests.{ltb-true, ltb-false, ne_eqb}
 use Rattle.words.specs.Words.{Bytes, Row, whether◌then◌else◌}
-use Rattle.refusals.specs.Verdicts.{◌⊳◌, ◌when◌, placed, too_many_rows, line_too_long}
-use Rattle.refusals.specs.declared.Verdict.{Verdict}
-use Rattle.refusals.specs.declared.Verdict.TheVariants.{Accepted, Refused}
+use Rattle.refusals.specs.Verdicts.{◌⊳◌, ◌when◌, placed, too_many_rows, line_too_long, Verdict}
+use Rattle.std.specs.Prelude.{Ok, Err}
 use Rattle.lines.specs.Lines.{line_after, lines, most_line}
 use Rattle.editions.specs.declared.Edition.{Edition}
 use Rattle.tables.specs.Columns.{number}
@@ -33,13 +32,13 @@ coursed (refused p) i head = stopped p
 coursed (leaves b) i head = going b i head []
 
 pub coursed_unless : (v : Verdict) (b : Book) (i : ℕ) (head : Bytes) → coursed (unless v (leaves b)) i head ≡ onward v (going b i head [])
-coursed_unless Accepted b i head = refl
-coursed_unless (Refused p) b i head = refl
+coursed_unless (Ok _) b i head = refl
+coursed_unless (Err p) b i head = refl
 
 -- the line counts only where the rows are accepted
-pub coursed_line : (v : Verdict) (xs : List Row) (i j : ℕ) (head : Bytes) → (v ≡ Accepted → i ≡ j) → coursed (result_of v xs) i head ≡ coursed (result_of v xs) j head
-coursed_line Accepted xs i j head k = ap (λ (n : ℕ). coursed (result_of Accepted xs) n head) (k refl)
-coursed_line (Refused p) xs i j head k = refl
+pub coursed_line : (v : Verdict) (xs : List Row) (i j : ℕ) (head : Bytes) → (v ≡ Ok tt → i ≡ j) → coursed (result_of v xs) i head ≡ coursed (result_of v xs) j head
+coursed_line (Ok _) xs i j head k = ap (λ (n : ℕ). coursed (result_of (Ok tt) xs) n head) (k refl)
+coursed_line (Err p) xs i j head k = refl
 
 pub lines_low : (e : Edition) (i : ℕ) (ls : List Bytes) → i ≤ lines_after e i ls
 unfolding lines_after
@@ -80,8 +79,8 @@ module _ (t : Table) (head : Bytes) where
       row : (line : Bytes) (v : Verdict) → IH → Finished b.edition [] s →
           bytes_heard t s (onward v (going (entered t (row_read b.edition t (header_in b.edition t head) line) b) (line_after b.edition i line) head []))
           ≡ coursed (unless v (rows_read t (header_in b.edition t head) (line_after b.edition i line) (lines_behind b.edition [] s) (entered t (row_read b.edition t (header_in b.edition t head) line) b))) (lines_after b.edition (line_after b.edition i line) (lines_behind b.edition [] s)) head
-      row line Accepted ih f = ih _ (line_after b.edition i line) (omega (arith, line_after_lem b.edition i line)) f
-      row line (Refused p) ih f = over_stopped t s p
+      row line (Ok _) ih f = ih _ (line_after b.edition i line) (omega (arith, line_after_lem b.edition i line)) f
+      row line (Err p) ih f = over_stopped t s p
 
       go : (q : Bool) → ends_line b.edition rest x ≡ q → (u : Bool) → ltb (length rest) kept_line ≡ u → Finished b.edition (whether q then [] else rest ++ (x ∷ [])) s → IH →
           (length (rest ++ (x ∷ [])) ≤ kept_line → Finished b.edition (rest ++ (x ∷ [])) s → bytes_heard t s (going b i head (rest ++ (x ∷ []))) ≡ came (lines_behind b.edition (rest ++ (x ∷ [])) s) i b) →

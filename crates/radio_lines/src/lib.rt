@@ -1,7 +1,7 @@
 // The lines of a table by radio that are whole: the header, a row, rows; and one that is too long already.
 #![tactic(auto)]
 
-ghost use Rattle.std.specs.Prelude.{◌≡◌, [], true, ◌+◌, ◌<◌, ◌≤◌, ◌^◌, length, take};
+ghost use Rattle.std.specs.Prelude.{◌≡◌, [], true, ◌+◌, ◌<◌, ◌≤◌, ◌^◌, length, take, Ok};
 ghost use Rattle.words.specs.Words.{Bytes};
 ghost use Rattle.refusals.specs.Verdicts.{in_header, placed};
 ghost use Rattle.lines.specs.Lines.{most_line};
@@ -21,7 +21,7 @@ ghost use Rattle.radio.specs.Hearing.{bytes_heard};
 ghost use Rattle.radio_lines.specs.Lines.{kept, Holding, CameTo, Stopping, Finished};
 
 use editions::Edition;
-use refusals::{Check, Place, Verdict};
+use refusals::{Check, Fault, Place, Verdict};
 use rows::Row;
 use tables::Table;
 
@@ -40,36 +40,28 @@ pub fn too_long(t: Table, line: u64, book: &[Row]) -> Verdict
     requires { Sound book.now }
     ensures { (l head : Bytes) → most_line < length l → Stopping result (line_heard t l (book_of book.now) line head) }
 {
-    if line == Place::HEADER_LINE {
-        return Check::line_too_long().on(t.number(), line);
+    if line != Place::HEADER_LINE && t.room() <= book::count_rows(book, t) {
+        return Err(Fault::too_many_rows().on(t.number(), line));
     }
-    if t.room() <= book::count_rows(book, t) {
-        return Check::too_many_rows().on(t.number(), line);
-    }
-    Check::line_too_long().on(t.number(), line)
+    Err(Fault::line_too_long().on(t.number(), line))
 }
 
 // The header line; where it passes it is kept at the begin of the lines.
 fn hear_head(edition: Edition, line: &[u8], t: Table, lines: &mut [u8]) -> Verdict
     requires { length lines.old ≡ radio_bytes }
-    ensures { (result ≡ in_header (number t) (header_check edition t line.now)) × (result ≡ Verdict.Accepted → lines.new ≡ put line.now lines.old) }
+    ensures { (result ≡ in_header (number t) (header_check edition t line.now)) × (result ≡ Ok tt → lines.new ≡ put line.now lines.old) }
 {
     let columns = t.column_rules(edition);
     let heading = header::read_header(line, edition, t, &columns);
     let check = heading.check;
-    let verdict = check.on(t.number(), Place::HEADER_LINE);
-    match verdict {
-        Verdict::Accepted => {
-            number_lines::write_bytes(lines, line);
-            Verdict::Accepted
-        }
-        Verdict::Refused(p) => Verdict::Refused(p),
-    }
+    refusals::placed(check, t.number(), Place::HEADER_LINE)?;
+    number_lines::write_bytes(lines, line);
+    Ok(())
 }
 
 // A row, under the header line that is kept.
 fn hear_row(line: &[u8], i: u64, t: Table, head: &[u8], book: &mut [Row]) -> Verdict
-    requires { Sound book.old × (points_named (book_of book.old) ≡ true) × (header_check (book_of book.old).edition t head.now ≡ Check.Passes) }
+    requires { Sound book.old × (points_named (book_of book.old) ≡ true) × (header_check (book_of book.old).edition t head.now ≡ Ok tt) }
     ensures { Sound book.new × NamedIn (result_of result book.new) × (result_of result book.new ≡ unless (placed (number t) i (judged t (header_in (book_of book.old).edition t head.now) line.now (book_of book.old))) (leaves (entered t (row_read (book_of book.old).edition t (header_in (book_of book.old).edition t head.now) line.now) (book_of book.old)))) }
 {
     let edition = book::edition_of(&book[..]);
@@ -113,9 +105,9 @@ pub fn hear_rows(body: &[u8], t: Table, book: &mut [Row], lines: &[u8], from: He
 {
     let line = from.line;
     let head = from.head;
-    if body.len() == 0 {
+    if body.is_empty() {
         return Heard {
-            verdict: Verdict::Accepted,
+            verdict: Ok(()),
             line,
             head,
             rest: 0,

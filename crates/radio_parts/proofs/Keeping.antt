@@ -6,8 +6,8 @@ use native.Mathlib.Omega.{arith}
 use lib.ListN.{length, take, drop}
 use Rattle.words.specs.Words.{Bytes, Row}
 use Rattle.refusals.specs.declared.Place.{Place}
-use Rattle.refusals.specs.declared.Verdict.{Verdict}
-use Rattle.refusals.specs.declared.Verdict.TheVariants.{Accepted, Refused}
+use Rattle.std.specs.Prelude.{Ok, Err}
+use Rattle.refusals.specs.Verdicts.{Verdict}
 use Rattle.lines.specs.Lines.{most_line}
 use Rattle.tables.specs.Parts.{part_of}
 use Rattle.tables.specs.declared.Table.{Table}
@@ -41,7 +41,7 @@ module _ (heard : Heard) (b : List Row) (k : List ℕ) (l : Bytes) (s : Keeping 
   abbrev came : Verdict → Course
   came v = course_held v heard.line heard.head heard.rest b l
 
-  pub kept_fault : (p : Place) → heard.verdict ≡ Refused p → (u : Slices) → u ≡ stopped_slices (turn_of k) (announced_of k) n p
+  pub kept_fault : (p : Place) → heard.verdict ≡ Err p → (u : Slices) → u ≡ stopped_slices (turn_of k) (announced_of k) n p
       → u ≡ laid_out (hears (table_of k) (announced_of k) n (came heard.verdict))
   kept_fault p e u f =
       f
@@ -52,7 +52,7 @@ module _ (heard : Heard) (b : List Row) (k : List ℕ) (l : Bytes) (s : Keeping 
   abbrev numbers_going : ℕ → ℕ → ℕ → List ℕ
   numbers_going turn head rest = turn ∷ announced_of k ∷ n ∷ heard.line ∷ head ∷ rest ∷ 0 ∷ 0 ∷ 0 ∷ 0 ∷ 0 ∷ []
 
-  pub kept_going : heard.verdict ≡ Accepted → (m : List ℕ) (x : Bytes) → m ≡ numbers_going (turn_of k) heard.head heard.rest
+  pub kept_going : heard.verdict ≡ Ok tt → (m : List ℕ) (x : Bytes) → m ≡ numbers_going (turn_of k) heard.head heard.rest
       → x ≡ two_lines (take heard.head l) (take heard.rest (drop most_line l))
       → slices b m x ≡ laid_out (hears (table_of k) (announced_of k) n (came heard.verdict))
   kept_going e m x f g =

@@ -1,8 +1,7 @@
 -- What the code of a part keeps behind it.
 -- Inner: no promise and no contract of a public function speaks of it.
-use Rattle.std.specs.Prelude.{◌≡◌, List, ℕ, ◌≤◌, length}
+use Rattle.std.specs.Prelude.{◌≡◌, List, ℕ, ◌≤◌, length, Ok}
 use Rattle.words.specs.Words.{Bytes, Row}
-use Rattle.refusals.specs.declared.Verdict.TheVariants.{Accepted}
 use Rattle.tables.specs.Parts.{book_rows}
 use Rattle.radio.specs.Room.{radio_numbers, radio_bytes, first_heard, last_heard, turn_of}
 use Rattle.radio_lines.specs.declared.Heard.{Heard}
@@ -16,4 +15,4 @@ pub record Keeping (heard : Heard) (book : List Row) (kept : List ℕ) (lines : 
   pub bytes : length lines ≡ radio_bytes
   pub least : first_heard ≤ turn_of kept
   pub last : turn_of kept ≤ last_heard
-  pub holds : heard.verdict ≡ Accepted → Holding (table_of kept) heard book lines
+  pub holds : heard.verdict ≡ Ok tt → Holding (table_of kept) heard book lines

@@ -14,21 +14,15 @@ ghost use Rattle.radio_parts.specs.Keeping.{Keeping};
 
 use radio_lines::Heard;
 use radio_rule::{ANNOUNCED, COME, FAULT, HEAD, LINES, TURN};
-use refusals::Verdict;
 use rows::Row;
 
 // Of the bytes that come those that were announced: a surplus is counted and not read.
 fn to_be_read(announced: u64, come: u64, bytes: &[u8]) -> &[u8]
     ensures { result.now ≡ take (announced - come) bytes.now }
 {
-    if announced <= come {
-        return &bytes[0..0];
-    }
-    let left = announced - come;
-    if (bytes.len() as u64) < left {
-        return bytes;
-    }
-    &bytes[0..left as usize]
+    let left = announced.saturating_sub(come);
+    let n = left.min(bytes.len() as u64) as usize;
+    &bytes[..n]
 }
 
 // Zeros behind both lines.
@@ -49,8 +43,8 @@ fn keep(heard: Heard, come: u64, book: &mut [Row], kept: &mut [u64], lines: &mut
     let announced = kept[ANNOUNCED];
     let verdict = heard.verdict;
     match verdict {
-        Verdict::Refused(p) => radio_slices::stop(turn, announced, come, p, book, kept, lines),
-        Verdict::Accepted => {
+        Err(p) => radio_slices::stop(turn, announced, come, p, book, kept, lines),
+        Ok(()) => {
             let head = heard.head;
             let rest = heard.rest;
             let numbers = [

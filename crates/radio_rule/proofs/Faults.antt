@@ -1,52 +1,46 @@
 -- The tests of the fault that is kept. Assumes nothing.
 use mathlib.Core.Path.{◌≡◌, refl, sym, ap, ◌∙◌}
-use mathlib.Core.List.{List, map}
+use mathlib.Core.List.{List, [], ◌∷◌, map}
 use mathlib.Core.Bool.{Bool, true, false, ◌&&◌, ◌||◌}
 use Prim.Native.Nat.{ℕ, ◌+◌, ◌<◌, ◌≤◌}
 use native.Mathlib.Omega.{arith}
 use lib.Dec.{eqb}
 use lib.ListN.{length, get_or, drop, drop_of_length-le}
-use borrow.Author.Tests.{eq-eqb, ne_eqb, eqb-true}
+use borrow.Author.Tests.{eq-eqb, ne_eqb, eqb-true, eqb-false}
+use Rattle.std.specs.List.{list_any}
 use Rattle.words.specs.Words.{whether◌then◌else◌}
 use Rattle.words.proofs.Lists.{drop_step, and_left}
 use Rattle.tables.specs.Columns.{number, numbered}
 use Rattle.tables.specs.Parts.{tables}
-use Rattle.tables.specs.declared.Named.{Named}
-use Rattle.tables.specs.declared.Named.TheVariants.{Known, Unknown}
+use Rattle.std.specs.Prelude.{Some, None}
+use Rattle.std.specs.Option.{is_some}
 use Rattle.tables.specs.declared.Table.TheVariants.{VehicleType, Depot, Stop, StopPoint, Block, Calendar}
 use Rattle.header.specs.Header.{member}
 use Rattle.radio.specs.Rule.{reading_numbers, lawful_fault}
 use Rattle.radio_rule.specs.Testing.{stretch, zeros, fault, fault_place, fault_keeps}
 
--- a number in a list, place by place ----------------------------------------------------------------------------------------------
+-- a number in a list -----------------------------------------------------------------------------------------------------------
 
-module _ (n : ℕ) (xs : List ℕ) (i : ℕ) where
-  member_step : i < length xs → member n (drop i xs) ≡ (eqb n (get_or xs i 0) || member n (drop (i + 1) xs))
-  unfolding member
-  member_step h = rw (drop_step 0 xs i h)
+either_way : (x n : ℕ) → eqb x n ≡ eqb n x
+either_way x n = go (eqb n x) refl
+  where
+    go : (b : Bool) → eqb n x ≡ b → eqb x n ≡ b
+    go true e = eq-eqb x n (sym (eqb-true n x e))
+    go false e = ne_eqb x n (λ z. eqb-false n x e (sym z))
 
-  pub member_here : i < length xs → get_or xs i 0 ≡ n → member n (drop i xs) ≡ true
-  member_here h e = member_step h ∙ rw (eq-eqb n (get_or xs i 0) (sym e))
-
-  pub member_next : i < length xs → (get_or xs i 0 ≡ n → ⊥) → member n (drop i xs) ≡ member n (drop (i + 1) xs)
-  member_next h e = member_step h ∙ rw (ne_eqb n (get_or xs i 0) (λ z. e (sym z)))
-
-  pub member_end : length xs ≤ i → member n (drop i xs) ≡ false
-  unfolding member
-  member_end h = rw (drop_of_length-le xs h)
+pub any_member : (n : ℕ) (xs : List ℕ) → list_any (λ x. eqb x n) xs ≡ member n xs
+unfolding member
+any_member n [] = refl
+any_member n (x ∷ xs) = ap (λ (b : Bool). b || list_any (λ x. eqb x n) xs) (either_way x n) ∙ ap (λ (b : Bool). eqb n x || b) (any_member n xs)
 
 -- a table's number ----------------------------------------------------------------------------------------------------------------
 
-abbrev known : Named → Bool
-known (Known t) = true
-known Unknown = false
-
-known_number : (n : ℕ) → known (numbered n) ≡ member n (map number tables)
+pub known_number : (n : ℕ) → is_some (numbered n) ≡ member n (map number tables)
 unfolding member
 known_number n = go (eqb n 1) (eqb n 2) (eqb n 3) (eqb n 4) (eqb n 6) (eqb n 7)
   where
     go : (a b c d e f : Bool) →
-        known (whether a then Known VehicleType else whether b then Known Depot else whether c then Known Stop else whether d then Known Block else whether e then Known StopPoint else whether f then Known Calendar else Unknown)
+        is_some (whether a then Some VehicleType else whether b then Some Depot else whether c then Some Stop else whether d then Some Block else whether e then Some StopPoint else whether f then Some Calendar else None)
         ≡ (a || (b || (c || (e || (d || (f || false))))))
     go true b c d e f = refl
     go false true c d e f = refl
@@ -57,13 +51,6 @@ known_number n = go (eqb n 1) (eqb n 2) (eqb n 3) (eqb n 4) (eqb n 6) (eqb n 7)
     go false false false false false true = refl
     go false false false false false false = refl
 
-module _ (n : ℕ) (r : Named) (e : r ≡ numbered n) where
-  pub names_some : {t : _} → r ≡ Known t → member n (map number tables) ≡ true
-  names_some f = sym (known_number n) ∙ ap known (sym e ∙ f)
-
-  pub names_none : r ≡ Unknown → member n (map number tables) ≡ false
-  names_none f = sym (known_number n) ∙ ap known (sym e ∙ f)
-
 -- the tests in the order of the code ----------------------------------------------------------------------------------------------
 
 module _ (ns : List ℕ) where
@@ -72,15 +59,6 @@ module _ (ns : List ℕ) where
 
   pub some_number : member (get_or ns 7 0) reading_numbers ≡ true → lawful_fault (fault_place ns) ≡ member (get_or ns 8 0) (map number tables)
   some_number e = rw e
-
-  pub fault_none : fault ns ≡ 0 → fault_keeps ns ≡ zeros (stretch 7 11 ns)
-  fault_none e = rw (eq-eqb (fault ns) 0 e)
-
-  pub fault_other : (fault ns ≡ 0 → ⊥) → (fault ns ≡ 1 → ⊥) → fault_keeps ns ≡ false
-  fault_other n m = rw (ne_eqb (fault ns) 0 n, ne_eqb (fault ns) 1 m)
-
-  pub fault_some : (fault ns ≡ 0 → ⊥) → fault ns ≡ 1 → fault_keeps ns ≡ lawful_fault (fault_place ns)
-  fault_some n e = rw (ne_eqb (fault ns) 0 n, eq-eqb (fault ns) 1 e)
 
   -- whether there is a fault is 0 or 1
   pub flag_small : fault_keeps ns ≡ true → fault ns ≤ 1

@@ -9,7 +9,7 @@ use lib.ListN.{length, get_or, take, drop, replicate}
 use borrow.Author.Tests.{lt-ltb, le-ltb, le-leb, eq-eqb, ne_eqb, ltb-true, ltb-false, eqb-true, eqb-false, leb-true}
 use Rattle.words.specs.Words.{Bytes, Row, whether◌then◌else◌, same}
 use Rattle.words.proofs.Lists.{and_left, and_right, same_refl, same_true}
-use Rattle.refusals.specs.Verdicts.{passes, place}
+use Rattle.refusals.specs.Verdicts.{passes, place, Check}
 use Rattle.rows.specs.Room.{same_rows}
 use Rattle.editions.specs.declared.Edition.{Edition}
 use Rattle.tables.specs.declared.Table.{Table}
@@ -24,8 +24,7 @@ use Rattle.cells.specs.Cells.{cut, cells_of}
 use Rattle.header.specs.Header.{Header, header, header_check}
 use Rattle.header.specs.Heading.{headed, heading}
 use Rattle.header.specs.declared.Heading.{Heading}
-use Rattle.refusals.specs.declared.Check.{Check}
-use Rattle.refusals.specs.declared.Check.TheVariants.{Passes, Fails}
+use Rattle.std.specs.Prelude.{Ok, Err}
 use Rattle.radio.specs.Radio.{Course, stopped, going, Radio, awaits, hears, over, none, standing, came_to}
 use Rattle.radio.specs.Rule.{lawful_fault, lawful_result, lawful_head, lawful_course, lawful_radio}
 use Rattle.radio.specs.Room.{Slices, all_closed, first_heard, last_heard, laid_book, laid_fault, course_lines, laid_numbers, course_bytes, laid_lines, laid_out, table_at, fault_in, result_in, course_in, radio_in, fits, same_slices, keeps_radio}
@@ -454,21 +453,8 @@ module _ (ed : Edition) (k : List ℕ) (l : Bytes) where
       rw (lt-ltb 1 (line k) h) (ap (λ (u : Table). passes (header_check ed u (take (head_length k) l))) (sym e) ∙ ap passes (sym c))
     where
       told : (x : Check) (y : Header) → (headed x y).check ≡ x
-      told Passes y = refl
-      told (Fails m j) y = refl
-
-  pub lines_head : zeros (stretch (head_length k) 2048 l) ≡ false → lines_keep ed k l ≡ false
-  unfolding lines_keep
-  lines_head e = rw e
-
-  module _ (e : zeros (stretch (head_length k) 2048 l) ≡ true) where
-    pub lines_rest : zeros (stretch (2048 + rest_length k) 4097 l) ≡ false → lines_keep ed k l ≡ false
-    unfolding lines_keep
-    lines_rest f = rw (e, f)
-
-    pub lines_header : zeros (stretch (2048 + rest_length k) 4097 l) ≡ true → lines_keep ed k l ≡ header_keeps ed k l
-    unfolding lines_keep
-    lines_header f = rw (e, f)
+      told (Ok _) y = refl
+      told (Err f) y = refl
 
 module _ (k : List ℕ) (b : List Row) where
   pub book_lawful : fault k ≡ 0 → book_keeps k b ≡ keeps_rule b
@@ -480,15 +466,6 @@ module _ (k : List ℕ) (b : List Row) where
   book_empty n = rw (ne_eqb (fault k) 0 n)
 
 module _ (b : List Row) (k : List ℕ) (l : Bytes) where
-  pub other_book : (length b ≡ book_rows → ⊥) → fits (slices b k l) ≡ false
-  other_book n = rw (ne_eqb (length b) book_rows n)
-
-  pub other_numbers : length b ≡ book_rows → (length k ≡ 11 → ⊥) → fits (slices b k l) ≡ false
-  other_numbers e n = rw (eq-eqb (length b) book_rows e, ne_eqb (length k) 11 n)
-
-  pub other_lines : length b ≡ book_rows → length k ≡ 11 → fits (slices b k l) ≡ eqb (length l) 4097
-  other_lines e f = rw (eq-eqb (length b) book_rows e, eq-eqb (length k) 11 f)
-
   pub unfit : fits (slices b k l) ≡ false → keeps_radio (slices b k l) ≡ false
   unfolding keeps_radio
   unfit e = rw e

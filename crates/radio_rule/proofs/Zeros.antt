@@ -8,12 +8,13 @@ use lib.Dec.{eqb}
 use lib.ListN.{length, get_or, take, drop, replicate, length-append, length-drop, length-replicate, take-append-drop, drop_of_length-le}
 use lib.Seq.{length-take-le, take-append_seam, take_all, take-length, drop-append_seam, drop_at, drop-drop}
 use borrow.Author.Tests.{eq-eqb, ne_eqb}
+use Rattle.std.specs.List.{list_all}
 use Rattle.words.specs.Words.{Bytes, Row, same}
 use Rattle.words.proofs.Lists.{drop_step, same_refl, same_true, part_length}
 use Rattle.rows.specs.Rows.{rising, column}
 use Rattle.rows.specs.Room.{same_rows, used, filled}
 use Rattle.rows.specs.Spots.{holds}
-use Rattle.rows.proofs.Room.{same_rows_true}
+use Rattle.rows.proofs.Room.{same_rows_true, all_zero}
 use Rattle.tables.specs.Parts.{book_rows}
 use Rattle.book.specs.Book.{empty}
 use Rattle.book.specs.Room.{laid}
@@ -21,36 +22,10 @@ use Rattle.book.proofs.Laying.{laid_empty}
 use Rattle.radio.specs.Room.{padded}
 use Rattle.radio_rule.specs.Testing.{stretch, zeros}
 
--- place by place ----------------------------------------------------------------------------------------------------------------
-
-module _ (xs : List ℕ) (i : ℕ) where
-  zeros_step : i < length xs → zeros (drop i xs) ≡ (eqb (get_or xs i 0) 0 && zeros (drop (i + 1) xs))
-  unfolding zeros same
-  zeros_step h = rw (drop_step 0 xs i h)
-
-  zeros_next : i < length xs → get_or xs i 0 ≡ 0 → zeros (drop i xs) ≡ zeros (drop (i + 1) xs)
-  zeros_next h e = zeros_step h ∙ rw (eq-eqb (get_or xs i 0) 0 e)
-
-  zeros_not : i < length xs → (get_or xs i 0 ≡ 0 → ⊥) → zeros (drop i xs) ≡ false
-  zeros_not h n = zeros_step h ∙ rw (ne_eqb (get_or xs i 0) 0 n)
-
-  zeros_end : length xs ≤ i → zeros (drop i xs) ≡ true
-  unfolding zeros same
-  zeros_end h = rw (drop_of_length-le xs h)
-
--- in a loop that ends at the first other: all before a place are zeros, as the flag says
-abbrev pub ZerosBefore : List ℕ → Bool → ℕ → Type 0
-ZerosBefore xs zero i = (i ≤ length xs) × (zero ≡ true) × (zeros xs ≡ zeros (drop i xs))
-
-module _ (xs : List ℕ) (zero : Bool) (i : ℕ) (before : ZerosBefore xs zero i) where
-  pub one_more : i < length xs → get_or xs i 0 ≡ 0 → ZerosBefore xs zero (i + 1)
-  one_more h e = (omega arith, before.1, before.2 ∙ zeros_next xs i h e)
-
-  pub all_zeros : length xs ≤ i → zero ≡ zeros xs
-  all_zeros h = before.1 ∙ sym (before.2 ∙ zeros_end xs i h)
-
-  pub another : i < length xs → (get_or xs i 0 ≡ 0 → ⊥) → false ≡ zeros xs
-  another h n = sym (before.2 ∙ zeros_not xs i h n)
+-- number by number, as the code tests them
+pub all_zeros : (xs : List ℕ) → list_all (λ x. eqb x 0) xs ≡ zeros xs
+unfolding zeros
+all_zeros xs = all_zero xs (length xs) refl
 
 pub zeros_true : (xs : List ℕ) (n : ℕ) → length xs ≡ n → zeros xs ≡ true → xs ≡ replicate n 0
 unfolding zeros

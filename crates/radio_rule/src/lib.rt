@@ -15,9 +15,9 @@ ghost use Rattle.radio_rule.specs.Lent.{slices};
 ghost use Rattle.radio_rule.specs.Testing.{zeros, fault_place, fault_keeps, come, course_keeps, heard_keeps, numbers_keep, header_keeps, lines_keep, book_keeps};
 
 use editions::Edition;
-use refusals::{Check, Place};
+use refusals::Place;
 use rows::Row;
-use tables::{BOOK_ROWS, Named, Table};
+use tables::{BOOK_ROWS, Table};
 
 // Room for the header line, and for the unfinished line, which may have one byte more: a carriage return that its line feed drops.
 pub const HEAD: usize = lines::MOST_LINE;
@@ -85,31 +85,13 @@ const READING_NUMBERS: [u64; 16] = [
 fn zero_numbers(list: &[u64]) -> bool
     ensures { result ≡ zeros list.now }
 {
-    let mut zero = true;
-    let mut i = 0;
-    'numbers: while i < list.len() {
-        if list[i] != 0 {
-            zero = false;
-            break 'numbers;
-        }
-        i += 1;
-    }
-    zero
+    list.iter().all(|number| *number == 0)
 }
 
 fn zero_bytes(list: &[u8]) -> bool
     ensures { result ≡ zeros list.now }
 {
-    let mut zero = true;
-    let mut i = 0;
-    'bytes: while i < list.len() {
-        if list[i] != 0 {
-            zero = false;
-            break 'bytes;
-        }
-        i += 1;
-    }
-    zero
+    list.iter().all(|byte| *byte == 0)
 }
 
 // Whether the book is the empty one: a slice that holds a table, the first row of which is unused, has zeros alone.
@@ -117,35 +99,13 @@ fn no_rows(book: &[Row]) -> bool
     requires { length book.now ≡ book_rows }
     ensures { result ≡ same_rows book.now (laid empty) }
 {
-    if book[0][0] != 0 {
-        return false;
-    }
-    rows::holding(book, 1)
-}
-
-fn among(number: u64, list: &[u64]) -> bool
-    ensures { result ≡ member number list.now }
-{
-    let mut found = false;
-    let mut i = 0;
-    'numbers: while i < list.len() {
-        if list[i] == number {
-            found = true;
-            break 'numbers;
-        }
-        i += 1;
-    }
-    found
+    book[0][0] == 0 && rows::holding(book, 1)
 }
 
 fn names_table(number: u64) -> bool
     ensures { result ≡ member number (map columns.number tables) }
 {
-    let named = Table::numbered(number);
-    match named {
-        Named::Known(_) => true,
-        Named::Unknown => false,
-    }
+    Table::numbered(number).is_some()
 }
 
 // Whether the fault is one of a table that is read: a call's own 15, 16, 22 and 23 are none.
@@ -153,10 +113,7 @@ fn lawful_fault(kept: &[u64]) -> bool
     requires { length kept.now ≡ radio_numbers }
     ensures { result ≡ lawful_fault (fault_place kept.now) }
 {
-    if !among(kept[FAULT_NUMBER], &READING_NUMBERS) {
-        return false;
-    }
-    names_table(kept[FAULT_TABLE])
+    READING_NUMBERS.contains(&kept[FAULT_NUMBER]) && names_table(kept[FAULT_TABLE])
 }
 
 fn fault_keeps(kept: &[u64]) -> bool
@@ -164,12 +121,10 @@ fn fault_keeps(kept: &[u64]) -> bool
     ensures { result ≡ fault_keeps kept.now }
 {
     if kept[FAULT] == 0 {
-        return zero_numbers(&kept[FAULT_NUMBER..KEPT]);
+        zero_numbers(&kept[FAULT_NUMBER..KEPT])
+    } else {
+        kept[FAULT] == 1 && lawful_fault(kept)
     }
-    if kept[FAULT] != 1 {
-        return false;
-    }
-    lawful_fault(kept)
 }
 
 // Of a table that is heard, without a fault.
@@ -181,23 +136,13 @@ fn course_keeps(kept: &[u64]) -> bool
     let head = kept[HEAD_LENGTH];
     let rest = kept[REST_LENGTH];
     let most = kept[COME] + 1;
-    if line < 1 {
-        return false;
-    }
-    if (REST as u64) < rest {
-        return false;
-    }
     // No more lines, and bytes behind them, than bytes came. (The line's number alone first: it may be any.)
-    if most < line {
-        return false;
-    }
-    if most < line + rest {
-        return false;
-    }
-    if (HEAD as u64) < head {
-        return false;
-    }
-    if line == 1 { head == 0 } else { true }
+    1 <= line
+        && rest <= REST as u64
+        && line <= most
+        && line + rest <= most
+        && head <= HEAD as u64
+        && (line != 1 || head == 0)
 }
 
 // Of a table that is heard.
@@ -205,32 +150,29 @@ fn heard_keeps(kept: &[u64]) -> bool
     requires { length kept.now ≡ radio_numbers }
     ensures { result ≡ heard_keeps kept.now }
 {
-    if MOST_COUNTED < kept[ANNOUNCED] {
-        return false;
-    }
-    if MOST_COUNTED < kept[COME] {
+    if MOST_COUNTED < kept[ANNOUNCED] || MOST_COUNTED < kept[COME] {
         return false;
     }
     if kept[FAULT] == 0 {
-        return course_keeps(kept);
+        course_keeps(kept)
+    } else {
+        zero_numbers(&kept[LINE..FAULT])
     }
-    zero_numbers(&kept[LINE..FAULT])
 }
 
+#[tactic(auto, unfolding(crate::specs::Testing::numbers_keep))]
 fn numbers_keep(kept: &[u64]) -> bool
     requires { length kept.now ≡ radio_numbers }
     ensures { result ≡ numbers_keep kept.now }
 {
-    if LAST_TURN < kept[TURN] {
-        return false;
-    }
-    if !fault_keeps(kept) {
+    if LAST_TURN < kept[TURN] || !fault_keeps(kept) {
         return false;
     }
     if kept[TURN] < HEARD {
-        return zero_numbers(&kept[ANNOUNCED..FAULT]);
+        zero_numbers(&kept[ANNOUNCED..FAULT])
+    } else {
+        heard_keeps(kept)
     }
-    heard_keeps(kept)
 }
 
 // The header line, where there is one: it has passed its checks.
@@ -245,28 +187,19 @@ fn header_keeps(edition: Edition, kept: &[u64], lines: &[u8]) -> bool
     let columns = t.column_rules(edition);
     let heading = header::read_header(&lines[0..kept[HEAD_LENGTH] as usize], edition, t, &columns);
     let check = heading.check;
-    match check {
-        Check::Passes => true,
-        Check::Fails {
-            number: _,
-            column: _,
-        } => false,
-    }
+    check.is_ok()
 }
 
+#[tactic(auto, unfolding(crate::specs::Testing::lines_keep))]
 fn lines_keep(edition: Edition, kept: &[u64], lines: &[u8]) -> bool
     requires { (length kept.now ≡ radio_numbers) × (length lines.now ≡ radio_bytes) × (numbers_keep kept.now ≡ true) }
     ensures { result ≡ lines_keep edition kept.now lines.now }
 {
     let head = kept[HEAD_LENGTH] as usize;
     let rest = kept[REST_LENGTH] as usize;
-    if !zero_bytes(&lines[head..HEAD]) {
-        return false;
-    }
-    if !zero_bytes(&lines[HEAD + rest..LINES]) {
-        return false;
-    }
-    header_keeps(edition, kept, lines)
+    zero_bytes(&lines[head..HEAD])
+        && zero_bytes(&lines[HEAD + rest..LINES])
+        && header_keeps(edition, kept, lines)
 }
 
 fn book_keeps(kept: &[u64], book: &[Row]) -> bool
@@ -274,37 +207,25 @@ fn book_keeps(kept: &[u64], book: &[Row]) -> bool
     ensures { result ≡ book_keeps kept.now book.now }
 {
     if kept[FAULT] == 0 {
-        return keeping::keeps_rule(book);
+        keeping::keeps_rule(book)
+    } else {
+        no_rows(book)
     }
-    no_rows(book)
 }
 
 // Whether what is lent has the lengths that it must have.
 pub fn fit(book: &[Row], kept: &[u64], lines: &[u8]) -> bool
     ensures { result ≡ fits (slices book.now kept.now lines.now) }
 {
-    if book.len() != BOOK_ROWS {
-        return false;
-    }
-    if kept.len() != KEPT {
-        return false;
-    }
-    lines.len() == LINES
+    book.len() == BOOK_ROWS && kept.len() == KEPT && lines.len() == LINES
 }
 
 // 16: the test of the rule of what is kept between parts, for any slices.
 pub fn keeps_radio(book: &[Row], kept: &[u64], lines: &[u8]) -> bool
     ensures { result ≡ keeps_radio (slices book.now kept.now lines.now) }
 {
-    if !fit(book, kept, lines) {
-        return false;
-    }
-    if !numbers_keep(kept) {
-        return false;
-    }
-    let edition = book::edition_of(book);
-    if !lines_keep(edition, kept, lines) {
-        return false;
-    }
-    book_keeps(kept, book)
+    fit(book, kept, lines)
+        && numbers_keep(kept)
+        && lines_keep(book::edition_of(book), kept, lines)
+        && book_keeps(kept, book)
 }

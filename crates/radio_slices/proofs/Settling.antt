@@ -5,8 +5,8 @@ use Prim.Native.Nat.{ℕ, zero, suc, ◌-◌, ◌<◌, ◌≤◌}
 use native.Mathlib.Omega.{arith}
 use Rattle.words.specs.Words.{Bytes, Row}
 use Rattle.refusals.specs.declared.Place.{Place}
-use Rattle.refusals.specs.declared.Verdict.{Verdict}
-use Rattle.refusals.specs.declared.Verdict.TheVariants.{Accepted, Refused}
+use Rattle.std.specs.Prelude.{Ok, Err}
+use Rattle.refusals.specs.Verdicts.{Verdict}
 use Rattle.book.specs.Room.{laid, book_of}
 use Rattle.book.specs.Holding.{result_of}
 use Rattle.book.specs.Result.{Result, refused, leaves}
@@ -38,12 +38,12 @@ module _ (turn : ℕ) (heard : first_heard ≤ turn) (last : turn ≤ last_heard
       let e : turn - all_closed ≡ suc (turn - first_heard) = omega arith in
       ap (λ (n : ℕ). slices (laid_book r) (settled_numbers n r) (two_lines [] [])) e ∙ settled (turn - first_heard) (omega arith) r
 
-  pub settled_fault : (v : Verdict) (book : List Row) (p : Place) → v ≡ Refused p → (s : Slices) → s ≡ stopped_slices (turn - all_closed) 0 0 p
+  pub settled_fault : (v : Verdict) (book : List Row) (p : Place) → v ≡ Err p → (s : Slices) → s ≡ stopped_slices (turn - all_closed) 0 0 p
       → s ≡ laid_out (next (table_at (turn - first_heard)) (result_of v book))
   settled_fault v book p e s f = f ∙ settled_turn (refused p) ∙ ap (λ (w : Verdict). laid_out (next (table_at (turn - first_heard)) (result_of w book))) (sym e)
 
 module _ (v : Verdict) (b : List Row) (k : List ℕ) (l : Bytes) (s : Settling v b k l) where
-  pub settled_book : v ≡ Accepted → (m : List ℕ) (n : Bytes) → m ≡ settled_numbers (turn_of k - all_closed) (leaves (book_of b)) → n ≡ two_lines [] []
+  pub settled_book : v ≡ Ok tt → (m : List ℕ) (n : Bytes) → m ≡ settled_numbers (turn_of k - all_closed) (leaves (book_of b)) → n ≡ two_lines [] []
       → slices b m n ≡ laid_out (next (table_of k) (result_of v b))
   settled_book e m n p q =
       slices_are b (laid (book_of b)) m (settled_numbers (turn_of k - all_closed) (leaves (book_of b))) n (two_lines [] []) (sym (laid_book_lem b (s.sound e))) p q

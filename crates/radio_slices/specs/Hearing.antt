@@ -1,8 +1,7 @@
 -- What the code takes up of a table that is heard.
 -- Inner: no promise and no contract of a public function speaks of it.
-use Rattle.std.specs.Prelude.{◌≡◌, List, true, ℕ, ◌-◌, ◌≤◌, length}
+use Rattle.std.specs.Prelude.{◌≡◌, List, true, ℕ, ◌-◌, ◌≤◌, length, Ok}
 use Rattle.words.specs.Words.{Bytes, Row}
-use Rattle.refusals.specs.declared.Verdict.TheVariants.{Accepted}
 use Rattle.tables.specs.Parts.{book_rows}
 use Rattle.tables.specs.declared.Table.{Table}
 use Rattle.radio.specs.Radio.{most_counted}
@@ -16,7 +15,7 @@ table_of kept = table_at (turn_of kept - first_heard)
 
 -- the unfinished line, and how much of the two lines is kept
 abbrev pub taken : List ℕ → Heard
-taken kept = record { verdict = Accepted; line = line_of kept; head = head_of kept; rest = rest_of kept }
+taken kept = record { verdict = Ok tt; line = line_of kept; head = head_of kept; rest = rest_of kept }
 
 -- the slices keep the rule, and a table is heard
 pub record Hears (book : List Row) (kept : List ℕ) (lines : Bytes) : Type 0 where

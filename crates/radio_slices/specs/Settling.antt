@@ -1,9 +1,8 @@
 -- What is asked of the slices when the turn goes on.
 -- Inner: no promise and no contract of a public function speaks of it.
-use Rattle.std.specs.Prelude.{◌≡◌, List, ℕ, ◌≤◌, length}
+use Rattle.std.specs.Prelude.{◌≡◌, List, ℕ, ◌≤◌, length, Ok}
 use Rattle.words.specs.Words.{Bytes, Row}
-use Rattle.refusals.specs.declared.Verdict.{Verdict}
-use Rattle.refusals.specs.declared.Verdict.TheVariants.{Accepted}
+use Rattle.refusals.specs.Verdicts.{Verdict}
 use Rattle.tables.specs.Parts.{book_rows}
 use Rattle.book.specs.Holding.{Sound}
 use Rattle.radio.specs.Room.{radio_numbers, radio_bytes, first_heard, last_heard, turn_of}
@@ -15,4 +14,4 @@ pub record Settling (v : Verdict) (book : List Row) (kept : List ℕ) (lines : B
   pub bytes : length lines ≡ radio_bytes
   pub heard : first_heard ≤ turn_of kept
   pub last : turn_of kept ≤ last_heard
-  pub sound : v ≡ Accepted → Sound book
+  pub sound : v ≡ Ok tt → Sound book

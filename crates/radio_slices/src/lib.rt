@@ -28,21 +28,13 @@ pub fn copy_numbers(from: &[u64], to: &mut [u64])
     requires { length from.now ≡ length to.old }
     ensures { to.new ≡ from.now }
 {
-    let mut i = 0;
-    'numbers: while i < from.len() {
-        to[i] = from[i];
-        i += 1;
-    }
+    to.copy_from_slice(from);
 }
 
 pub fn clear_bytes(list: &mut [u8])
     ensures { list.new ≡ replicate (length list.old) 0 }
 {
-    let mut i = 0;
-    'bytes: while i < list.len() {
-        list[i] = 0;
-        i += 1;
-    }
+    list.fill(0);
 }
 
 // A count and so much more: it stops at 65,537, however much comes.
@@ -119,7 +111,7 @@ pub fn take_up(kept: &[u64]) -> Heard
     ensures { result ≡ taken kept.now }
 {
     Heard {
-        verdict: Verdict::Accepted,
+        verdict: Ok(()),
         line: kept[LINE],
         head: kept[HEAD_LENGTH] as usize,
         rest: kept[REST_LENGTH] as usize,
@@ -154,8 +146,8 @@ pub fn settle(verdict: Verdict, book: &mut [Row], kept: &mut [u64], lines: &mut 
 {
     let turn = kept[TURN] - OVER;
     match verdict {
-        Verdict::Refused(p) => stop(turn, 0, 0, p, book, kept, lines),
-        Verdict::Accepted => {
+        Err(p) => stop(turn, 0, 0, p, book, kept, lines),
+        Ok(()) => {
             let numbers = [turn, 0, 0, 0, 0, 0, 0, 0, 0, 0, 0];
             copy_numbers(&numbers, kept);
             clear_bytes(lines);

@@ -10,14 +10,5 @@ use tables::Rules;
 pub fn takes(rules: Rules, n: u64) -> bool
     ensures { result ≡ in_range rules n }
 {
-    if n < rules.low {
-        return false;
-    }
-    if rules.high < n {
-        return false;
-    }
-    if !rules.date {
-        return true;
-    }
-    dates::is_date(n)
+    rules.low <= n && n <= rules.high && (!rules.date || dates::is_date(n))
 }

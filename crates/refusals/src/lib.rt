@@ -1,8 +1,8 @@
 // What is answered: a verdict with its place, and what a cell holds.
 #![tactic(auto)]
 
-ghost use Rattle.std.specs.Prelude.{◌≡◌};
-ghost use Rattle.refusals.specs.Verdicts.{place, placed, ◌⊳◌, text_too_long, column_missing, column_twice, too_many_cells, too_many_rows, quote_fault, cell_count, key_stands, no_row, ends_early, unknown_line, no_block, output_short, not_there, bad_loan, line_too_long, length_differs, unknown_edition, no_date};
+ghost use Rattle.std.specs.Prelude.{◌≡◌, Err};
+ghost use Rattle.refusals.specs.Verdicts.{fault, place, placed, text_too_long, column_missing, column_twice, too_many_cells, too_many_rows, quote_fault, cell_count, key_stands, no_row, ends_early, unknown_line, no_block, output_short, not_there, bad_loan, line_too_long, length_differs, unknown_edition, no_date};
 
 // Where something is refused: the number of refusal, the table, the line, and the column or the cell, each 0 where it is not named.
 #[derive(Clone, Copy)]
@@ -13,18 +13,18 @@ pub struct Place {
     pub column: u64,
 }
 
+// What a check of a line finds wrong, before table and line are known: the number of refusal, and the column or the cell.
 #[derive(Clone, Copy)]
-pub enum Verdict {
-    Accepted,
-    Refused(Place),
+pub struct Fault {
+    pub number: u64,
+    pub column: u64,
 }
 
-// What a check of a line finds, before table and line are known.
-#[derive(Clone, Copy)]
-pub enum Check {
-    Passes,
-    Fails { number: u64, column: u64 },
-}
+// A check of a line passes or finds a fault.
+pub type Check = Result<(), Fault>;
+
+// What is read, asked or written is accepted, or refused at a place.
+pub type Verdict = Result<(), Place>;
 
 // The answer to a question for a cell: a number, a stretch of the text, or nothing. The access equipment of a vehicle type is a number that names
 // its edition, since a 2 there means a lift or ramp by 2.1 and a ramp by 2.3, where the number is a set of flags.
@@ -118,148 +118,138 @@ impl Place {
     }
 }
 
-impl Check {
-    // What is wrong with a cell has one of four numbers, and always the cell's column.
-    pub fn fails(number: u64, column: u64) -> Check
-        ensures { result ≡ Check.Fails number column }
+impl Fault {
+    pub fn new(number: u64, column: u64) -> Fault
+        ensures { result ≡ fault number column }
     {
-        Check::Fails { number, column }
+        Fault { number, column }
     }
 
-    pub fn text_too_long() -> Check
-        ensures { result ≡ text_too_long }
+    pub fn text_too_long() -> Fault
+        ensures { Err result ≡ text_too_long }
     {
-        Check::fails(Place::TEXT_TOO_LONG, 0)
+        Fault::new(Place::TEXT_TOO_LONG, 0)
     }
 
-    pub fn column_missing(column: u64) -> Check
-        ensures { result ≡ column_missing column }
+    pub fn column_missing(column: u64) -> Fault
+        ensures { Err result ≡ column_missing column }
     {
-        Check::fails(Place::COLUMN_MISSING, column)
+        Fault::new(Place::COLUMN_MISSING, column)
     }
 
-    pub fn column_twice(column: u64) -> Check
-        ensures { result ≡ column_twice column }
+    pub fn column_twice(column: u64) -> Fault
+        ensures { Err result ≡ column_twice column }
     {
-        Check::fails(Place::COLUMN_TWICE, column)
+        Fault::new(Place::COLUMN_TWICE, column)
     }
 
-    pub fn too_many_cells() -> Check
-        ensures { result ≡ too_many_cells }
+    pub fn too_many_cells() -> Fault
+        ensures { Err result ≡ too_many_cells }
     {
-        Check::fails(Place::TOO_MANY_CELLS, 0)
+        Fault::new(Place::TOO_MANY_CELLS, 0)
     }
 
-    pub fn too_many_rows() -> Check
-        ensures { result ≡ too_many_rows }
+    pub fn too_many_rows() -> Fault
+        ensures { Err result ≡ too_many_rows }
     {
-        Check::fails(Place::TOO_MANY_ROWS, 0)
+        Fault::new(Place::TOO_MANY_ROWS, 0)
     }
 
-    pub fn quote_fault(cell: u64) -> Check
-        ensures { result ≡ quote_fault cell }
+    pub fn quote_fault(cell: u64) -> Fault
+        ensures { Err result ≡ quote_fault cell }
     {
-        Check::fails(Place::QUOTE_FAULT, cell)
+        Fault::new(Place::QUOTE_FAULT, cell)
     }
 
-    pub fn cell_count() -> Check
-        ensures { result ≡ cell_count }
+    pub fn cell_count() -> Fault
+        ensures { Err result ≡ cell_count }
     {
-        Check::fails(Place::CELL_COUNT, 0)
+        Fault::new(Place::CELL_COUNT, 0)
     }
 
-    pub fn key_stands() -> Check
-        ensures { result ≡ key_stands }
+    pub fn key_stands() -> Fault
+        ensures { Err result ≡ key_stands }
     {
-        Check::fails(Place::KEY_STANDS, 0)
+        Fault::new(Place::KEY_STANDS, 0)
     }
 
-    pub fn no_row(column: u64) -> Check
-        ensures { result ≡ no_row column }
+    pub fn no_row(column: u64) -> Fault
+        ensures { Err result ≡ no_row column }
     {
-        Check::fails(Place::NO_ROW, column)
+        Fault::new(Place::NO_ROW, column)
     }
 
-    pub fn ends_early() -> Check
-        ensures { result ≡ ends_early }
+    pub fn ends_early() -> Fault
+        ensures { Err result ≡ ends_early }
     {
-        Check::fails(Place::ENDS_EARLY, 11)
+        Fault::new(Place::ENDS_EARLY, 11)
     }
 
-    pub fn unknown_line() -> Check
-        ensures { result ≡ unknown_line }
+    pub fn unknown_line() -> Fault
+        ensures { Err result ≡ unknown_line }
     {
-        Check::fails(Place::UNKNOWN_LINE, 0)
+        Fault::new(Place::UNKNOWN_LINE, 0)
     }
 
-    pub fn no_block() -> Check
-        ensures { result ≡ no_block }
+    pub fn no_block() -> Fault
+        ensures { Err result ≡ no_block }
     {
-        Check::fails(Place::NO_BLOCK, 0)
+        Fault::new(Place::NO_BLOCK, 0)
     }
 
-    pub fn output_short() -> Check
-        ensures { result ≡ output_short }
+    pub fn output_short() -> Fault
+        ensures { Err result ≡ output_short }
     {
-        Check::fails(Place::OUTPUT_SHORT, 0)
+        Fault::new(Place::OUTPUT_SHORT, 0)
     }
 
-    pub fn not_there() -> Check
-        ensures { result ≡ not_there }
+    pub fn not_there() -> Fault
+        ensures { Err result ≡ not_there }
     {
-        Check::fails(Place::NOT_THERE, 0)
+        Fault::new(Place::NOT_THERE, 0)
     }
 
-    pub fn bad_loan() -> Check
-        ensures { result ≡ bad_loan }
+    pub fn bad_loan() -> Fault
+        ensures { Err result ≡ bad_loan }
     {
-        Check::fails(Place::BAD_LOAN, 0)
+        Fault::new(Place::BAD_LOAN, 0)
     }
 
-    pub fn line_too_long() -> Check
-        ensures { result ≡ line_too_long }
+    pub fn line_too_long() -> Fault
+        ensures { Err result ≡ line_too_long }
     {
-        Check::fails(Place::LINE_TOO_LONG, 0)
+        Fault::new(Place::LINE_TOO_LONG, 0)
     }
 
-    pub fn length_differs() -> Check
-        ensures { result ≡ length_differs }
+    pub fn length_differs() -> Fault
+        ensures { Err result ≡ length_differs }
     {
-        Check::fails(Place::LENGTH_DIFFERS, 0)
+        Fault::new(Place::LENGTH_DIFFERS, 0)
     }
 
-    pub fn unknown_edition() -> Check
-        ensures { result ≡ unknown_edition }
+    pub fn unknown_edition() -> Fault
+        ensures { Err result ≡ unknown_edition }
     {
-        Check::fails(Place::UNKNOWN_EDITION, 0)
+        Fault::new(Place::UNKNOWN_EDITION, 0)
     }
 
-    pub fn no_date() -> Check
-        ensures { result ≡ no_date }
+    pub fn no_date() -> Fault
+        ensures { Err result ≡ no_date }
     {
-        Check::fails(Place::NO_DATE, 0)
+        Fault::new(Place::NO_DATE, 0)
     }
 
-    // The verdict of a check that was made on this line of this table.
-    pub fn on(self, table: u64, line: u64) -> Verdict
-        ensures { result ≡ placed table line self }
+    // Its place, on this line of this table.
+    pub fn on(self, table: u64, line: u64) -> Place
+        ensures { Err result ≡ placed table line (Err self) }
     {
-        match self {
-            Check::Passes => Verdict::Accepted,
-            Check::Fails { number, column } => {
-                let place = Place::new(number, table, line, column);
-                Verdict::Refused(place)
-            }
-        }
+        Place::new(self.number, table, line, self.column)
     }
+}
 
-    // This check, or the next one where this one passes.
-    pub fn or_else(self, next: Check) -> Check
-        ensures { result ≡ self ⊳ next }
-    {
-        match self {
-            Check::Passes => next,
-            Check::Fails { number, column } => Check::Fails { number, column },
-        }
-    }
+// The verdict of a check that was made on this line of this table.
+pub fn placed(check: Check, table: u64, line: u64) -> Verdict
+    ensures { result ≡ placed table line check }
+{
+    check.map_err(|fault| fault.on(table, line))
 }

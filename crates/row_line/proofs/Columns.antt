@@ -10,9 +10,8 @@ use borrow.Author.Tests.{ne_eqb, eqb-false, eq-eqb}
 use Rattle.words.specs.Words.{whether◌then◌else◌, Bytes}
 use Rattle.words.proofs.Lists.{drop_step}
 use Rattle.refusals.proofs.Chaining.{both}
-use Rattle.refusals.specs.Verdicts.{◌⊳◌, cell_count}
-use Rattle.refusals.specs.declared.Check.{Check}
-use Rattle.refusals.specs.declared.Check.TheVariants.{Passes, Fails}
+use Rattle.refusals.specs.Verdicts.{◌⊳◌, cell_count, Check, fault}
+use Rattle.std.specs.Prelude.{Ok, Err}
 use Rattle.cells.specs.Numbered.{cell_numbered, MarksOf}
 use Rattle.cells.specs.Cells.{content, cut, cells_of}
 use Rattle.editions.specs.declared.Edition.{Edition}
@@ -97,18 +96,18 @@ module _ (xs : List Column) (ss : List Bytes) (k : ℕ) (lx : k < length xs) (ls
       let s : k + 1 + 1 ≡ suc (k + 1) = omega arith in
       rw (drop_step no_column xs k lx, drop_step [] ss k ls, s)
 
-  pub bad_next : cell_check (k + 1) (get_or xs k no_column).rules (get_or ss k []) ≡ Passes → bad_cell (k + 1) (drop k xs) (drop k ss) ≡ bad_cell (k + 1 + 1) (drop (k + 1) xs) (drop (k + 1) ss)
+  pub bad_next : cell_check (k + 1) (get_or xs k no_column).rules (get_or ss k []) ≡ Ok tt → bad_cell (k + 1) (drop k xs) (drop k ss) ≡ bad_cell (k + 1 + 1) (drop (k + 1) xs) (drop (k + 1) ss)
   bad_next e = bad_step ∙ rw e
 
-  pub bad_here : (n c : ℕ) → cell_check (k + 1) (get_or xs k no_column).rules (get_or ss k []) ≡ Fails n c → bad_cell (k + 1) (drop k xs) (drop k ss) ≡ Fails n c
+  pub bad_here : (n c : ℕ) → cell_check (k + 1) (get_or xs k no_column).rules (get_or ss k []) ≡ Err (fault n c) → bad_cell (k + 1) (drop k xs) (drop k ss) ≡ Err (fault n c)
   bad_here n c e = bad_step ∙ rw e
 
-pub bad_end : (xs : List Column) (ss : List Bytes) (k : ℕ) → length xs ≤ k → bad_cell (k + 1) (drop k xs) ss ≡ Passes
+pub bad_end : (xs : List Column) (ss : List Bytes) (k : ℕ) → length xs ≤ k → bad_cell (k + 1) (drop k xs) ss ≡ Ok tt
 unfolding bad_cell
 bad_end xs ss k l = rw (drop_of_length-le xs l)
 
 -- where no column has a fault, the content of each keeps to its rules
-pub all_kept : (j : ℕ) (xs : List Column) (ss : List Bytes) → bad_cell j xs ss ≡ Passes → (k : ℕ) → k < length xs → k < length ss → breaks (get_or xs k no_column).rules (get_or ss k []) ≡ false
+pub all_kept : (j : ℕ) (xs : List Column) (ss : List Bytes) → bad_cell j xs ss ≡ Ok tt → (k : ℕ) → k < length xs → k < length ss → breaks (get_or xs k no_column).rules (get_or ss k []) ≡ false
 unfolding bad_cell
 all_kept j [] ss e k lx ls = absurd (omega arith)
 all_kept j (x ∷ xs) [] e k lx ls = absurd (omega arith)
@@ -120,19 +119,19 @@ all_kept j (x ∷ xs) (s ∷ ss) e (suc k) lx ls =
 
 -- 17, 6 and 7 of a row under a header of so many cells
 module _ (ed : Edition) (line : Bytes) (count : ℕ) (bounds : List ℕ) (r : CutLine) (e : LineCut ed line bounds r) where
-  pub cut_refused : (n k : ℕ) → r.check ≡ Fails n k → CutOf ed line count bounds (Fails n k)
+  pub cut_refused : (n k : ℕ) → r.check ≡ Err (fault n k) → CutOf ed line count bounds (Err (fault n k))
   cut_refused n k g =
-      let p : line_check ed line ≡ Fails n k = sym e.is ∙ g in
+      let p : line_check ed line ≡ Err (fault n k) = sym e.is ∙ g in
       record {
         is = λ h q. rw p;
         marks = λ q. let z : ◌≡◌ {A = ℕ} 0 1 = cc in absurd (omega arith);
       }
 
-  module _ (g : r.check ≡ Passes) where
+  module _ (g : r.check ≡ Ok tt) where
     counted : length (cells_of (cut ed line)) ≡ r.cells
     counted = e.counted g
 
-    clean : line_check ed line ≡ Passes
+    clean : line_check ed line ≡ Ok tt
     clean = sym e.is ∙ g
 
     pub cut_count : (r.cells ≡ count → ⊥) → (c : Check) → c ≡ cell_count → CutOf ed line count bounds c
@@ -142,7 +141,7 @@ module _ (ed : Edition) (line : Bytes) (count : ℕ) (bounds : List ℕ) (r : Cu
           marks = λ q. let z : ◌≡◌ {A = ℕ} 0 1 = cc in absurd (omega arith);
         }
 
-    pub cut_cells : r.cells ≡ count → count < length bounds → CutOf ed line count bounds Passes
+    pub cut_cells : r.cells ≡ count → count < length bounds → CutOf ed line count bounds (Ok tt)
     cut_cells d l =
         record {
           is = λ h k. sym (rw (clean, eq-eqb (length (cells_of (cut ed line))) (length h) (counted ∙ d ∙ k)));

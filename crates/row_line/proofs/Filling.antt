@@ -9,14 +9,12 @@ use lib.ListN.{length, set, replicate, length-append, get_or, take, length-map, 
 use lib.Seq.{set_at, take-suc, take_all, take-append-le, length-take-le, take-nil, get_or-take}
 use Rattle.words.specs.Words.{Bytes, Row}
 use Rattle.refusals.proofs.Chaining.{both}
-use Rattle.refusals.specs.declared.Check.{Check}
-use Rattle.refusals.specs.declared.Check.TheVariants.{Passes, Fails}
-use Rattle.refusals.specs.Verdicts.{◌⊳◌}
+use Rattle.std.specs.Prelude.{Ok, Err}
+use Rattle.refusals.specs.Verdicts.{◌⊳◌, Check, fault}
 use Rattle.cells.specs.Cells.{cut, cells_of, content}
 use Rattle.cells.specs.Numbered.{cell_numbered}
 use Rattle.numbers.specs.Numbers.{value}
 use Rattle.rows.specs.Rows.{wide, column}
-use Rattle.rows.specs.Room.{zeros}
 use Rattle.editions.specs.declared.Edition.{Edition}
 use Rattle.tables.specs.declared.Table.{Table}
 use Rattle.tables.specs.Columns.{kept_width, columns_of, column_at}
@@ -24,7 +22,7 @@ use Rattle.tables.proofs.Figures.{kept_few, kept_columns, keys_some, keys_kept, 
 use Rattle.values.specs.Values.{bad_cell, cell_check}
 use Rattle.values.specs.declared.Value.{Value}
 use Rattle.values.specs.declared.Value.TheVariants.{Number}
-use Rattle.values.specs.Judged.{breaks, value_of, check_of, rowed}
+use Rattle.values.specs.Judged.{breaks, value_of, check_of, rowed, unkept}
 use Rattle.values.specs.declared.Judged.{Judged}
 use Rattle.values.proofs.Values.{check_kept, check_of_value, kept_value, number_from}
 use Rattle.header.specs.Header.{Header, contents, cut_check}
@@ -86,30 +84,30 @@ module _ (ed : Edition) (t : Table) (h : Header) (line : Bytes) (row at : List �
   check_here : cell_check (k + 1) (column_at ed t k).rules (get_or (contents ed t h (cells_of (cut ed line))) k []) ≡ check
   check_here = sym (d ∙ rw (q, check_of_value (k + 1) (column_at ed t k).rules (content cell), ours))
 
-  pub columned_fault : (n c : ℕ) → check ≡ Fails n c → cells_check ed t h line ≡ Fails n c
+  pub columned_fault : (n c : ℕ) → check ≡ Err (fault n c) → cells_check ed t h line ≡ Err (fault n c)
   columned_fault n c p = w.ahead ∙ bad_here (columns_of ed t) (contents ed t h (cells_of (cut ed line))) k l enough n c (check_here ∙ p)
 
-  next_ahead : check ≡ Passes → cells_check ed t h line ≡ bad_cell (k + 1 + 1) (drop (k + 1) (columns_of ed t)) (drop (k + 1) (contents ed t h (cells_of (cut ed line))))
+  next_ahead : check ≡ Ok tt → cells_check ed t h line ≡ bad_cell (k + 1 + 1) (drop (k + 1) (columns_of ed t)) (drop (k + 1) (contents ed t h (cells_of (cut ed line))))
   next_ahead p = w.ahead ∙ bad_next (columns_of ed t) (contents ed t h (cells_of (cut ed line))) k l enough (check_here ∙ p)
 
   -- a column that the book keeps
-  pub columned_kept : check ≡ Passes → k < kept_width t → (x : ℕ) → ((n : ℕ) → v ≡ Number n → x ≡ n) → Columned ed t h line (set row k x) (k + 1)
+  pub columned_kept : check ≡ Ok tt → k < kept_width t → (x : ℕ) → ((n : ℕ) → v ≡ Number n → x ≡ n) → Columned ed t h line (set row k x) (k + 1)
   columned_kept p m x some =
       let b : breaks (column_at ed t k).rules (content cell) ≡ false = rw ours (check_kept (k + 1) (column_at ed t k).rules (get_or (contents ed t h (cells_of (cut ed line))) k []) (check_here ∙ p)) in
       let n : x ≡ value (get_or (contents ed t h (cells_of (cut ed line))) k []) = some (value (content cell)) (q ∙ kept_value ed t k m (content cell) b) ∙ ap value ours in
       record { filled = row_more t (contents ed t h (cells_of (cut ed line))) k row w.filled enough x m n; ahead = next_ahead p }
 
   -- and one behind those
-  pub columned_past : check ≡ Passes → kept_width t ≤ k → Columned ed t h line row (k + 1)
+  pub columned_past : check ≡ Ok tt → kept_width t ≤ k → Columned ed t h line row (k + 1)
   columned_past p m = record { filled = row_stays t (contents ed t h (cells_of (cut ed line))) k row w.filled enough m; ahead = next_ahead p }
 
 -- a column that has a fault: nothing is kept of the line
-pub columned_bad : (ed : Edition) (t : Table) (h : Header) (line : Bytes) (n k : ℕ) → cells_check ed t h line ≡ Fails n k → ◌≡◌ {A = Judged} (record { check = Fails n k; row = zeros }) (rowed (cells_check ed t h line) (row_read ed t h line))
-columned_bad ed t h line n k e = rw e
+pub columned_bad : (ed : Edition) (t : Table) (h : Header) (line : Bytes) (n k : ℕ) (check : Check) → check ≡ Err (fault n k) → cells_check ed t h line ≡ Err (fault n k) → unkept check ≡ rowed (cells_check ed t h line) (row_read ed t h line)
+columned_bad ed t h line n k check c e = rw (c, e)
 
-pub columned_all : (ed : Edition) (t : Table) (h : Header) (line : Bytes) (row : Row) (k : ℕ) → Columned ed t h line row k → length (columns_of ed t) ≤ k → ◌≡◌ {A = Judged} (record { check = Passes; row = row }) (rowed (cells_check ed t h line) (row_read ed t h line))
+pub columned_all : (ed : Edition) (t : Table) (h : Header) (line : Bytes) (row : Row) (k : ℕ) → Columned ed t h line row k → length (columns_of ed t) ≤ k → ◌≡◌ {A = Judged} (record { check = Ok tt; row = row }) (rowed (cells_check ed t h line) (row_read ed t h line))
 columned_all ed t h line row k w l =
-    let p : cells_check ed t h line ≡ Passes = w.ahead ∙ bad_end (columns_of ed t) (drop k (contents ed t h (cells_of (cut ed line)))) k l in
+    let p : cells_check ed t h line ≡ (Ok tt) = w.ahead ∙ bad_end (columns_of ed t) (drop k (contents ed t h (cells_of (cut ed line)))) k l in
     let a : take k (contents ed t h (cells_of (cut ed line))) ≡ contents ed t h (cells_of (cut ed line)) = take_all k (contents ed t h (cells_of (cut ed line))) (rw contents_length l) in
     rw (p, w.filled, a)
 
@@ -126,7 +124,7 @@ row_number t ss i h l =
     values_at (x ∷ xs) zero g = refl
     values_at (x ∷ xs) (suc j) g = values_at xs j (omega arith)
 
-module _ (ed : Edition) (t : Table) (h : Header) (line : Bytes) (e : cells_check ed t h line ≡ Passes) where
+module _ (ed : Edition) (t : Table) (h : Header) (line : Bytes) (e : cells_check ed t h line ≡ Ok tt) where
   module _ (i : ℕ) (l : i < kept_width t) where
     abbrev there : Bytes
     there = get_or (contents ed t h (cells_of (cut ed line))) i []
@@ -145,15 +143,15 @@ module _ (ed : Edition) (t : Table) (h : Header) (line : Bytes) (e : cells_check
   row_version = rw (version_low ed t) at (row_low 0 (omega (arith, keys_some t, keys_kept t)))
 
 -- what is read of a line that passes
-rowed_passes : (c : Check) (row : Row) → (rowed c row).check ≡ Passes → c ≡ Passes
-rowed_passes Passes row e = refl
-rowed_passes (Fails n k) row e = e
+rowed_passes : (c : Check) (row : Row) → (rowed c row).check ≡ Ok tt → c ≡ Ok tt
+rowed_passes (Ok _) row e = refl
+rowed_passes (Err f) row e = e
 
-module _ (ed : Edition) (t : Table) (h : Header) (line : Bytes) (p : (read ed t h line).check ≡ Passes) where
-  pub line_passes : (cut_check ed h line ⊳ cells_check ed t h line) ≡ Passes
+module _ (ed : Edition) (t : Table) (h : Header) (line : Bytes) (p : (read ed t h line).check ≡ Ok tt) where
+  pub line_passes : (cut_check ed h line ⊳ cells_check ed t h line) ≡ Ok tt
   line_passes = rowed_passes (cut_check ed h line ⊳ cells_check ed t h line) (row_read ed t h line) p
 
-  pub read_passes : cells_check ed t h line ≡ Passes
+  pub read_passes : cells_check ed t h line ≡ Ok tt
   read_passes = (both (cut_check ed h line) (cells_check ed t h line) line_passes).1
 
   pub read_row : (read ed t h line).row ≡ row_read ed t h line

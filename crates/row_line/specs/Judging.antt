@@ -1,10 +1,8 @@
 -- What the code reads a line by, and what it finds there.
 -- Inner: no promise and no contract of a public function speaks of it.
-use Rattle.std.specs.Prelude.{List, ◌≡◌, ℕ, ◌≤◌, length}
+use Rattle.std.specs.Prelude.{List, ◌≡◌, ℕ, ◌≤◌, length, Ok}
 use Rattle.words.specs.Words.{Bytes}
-use Rattle.refusals.specs.declared.Check.{Check}
-use Rattle.refusals.specs.declared.Check.TheVariants.{Passes}
-use Rattle.refusals.specs.Verdicts.{◌⊳◌}
+use Rattle.refusals.specs.Verdicts.{◌⊳◌, Check}
 use Rattle.cells.specs.Cells.{cut, cells_of}
 use Rattle.cells.specs.Numbered.{MarksOf}
 use Rattle.editions.specs.declared.Edition.{Edition}
@@ -21,7 +19,7 @@ use Rattle.row_line.specs.RowLine.{row_read}
 -- 17, 6 and 7 of a row under a header of so many cells; where it passes, the bounds of its cells are kept
 pub record CutOf (e : Edition) (line : Bytes) (count : ℕ) (bounds : List ℕ) (c : Check) : Type 0 where
   pub is : (h : Header) → count ≡ length h → c ≡ cut_check e h line
-  pub marks : c ≡ Passes → MarksOf e line bounds count
+  pub marks : c ≡ Ok tt → MarksOf e line bounds count
 
 -- what is wrong with a line's cells
 abbrev pub cells_check : Edition → Table → Header → Bytes → Check

@@ -11,7 +11,7 @@ ghost use Rattle.row_line.specs.Judging.{cells_check, CutOf, read};
 
 use editions::Edition;
 use header::Places;
-use refusals::Check;
+use refusals::{Check, Fault};
 use rows::NO_ROW;
 use tables::{Columns, Table};
 use values::{Judged, Value};
@@ -29,21 +29,20 @@ fn read_columns(
     ensures { (h : List ℕ) → at.now ≡ places h → result ≡ rowed (cells_check edition t h line.now) (row_read edition t h line.now) }
 {
     let cells = at[0];
-    let count = t.columns(edition);
     let kept = t.kept();
-    let mut check = Check::Passes;
+    let mut check = Ok(());
     let mut row = NO_ROW;
-    let mut k = 0;
-    'columns: while k < count {
+    'columns: for k in 0..t.columns(edition) {
         let rules = tables::rules_at(columns, k);
         let value = Value::of_cell(
             rules,
             cells::cell_of(edition, line, bounds, cells, at[k + 1]),
         );
-        match value.check(header::wide(k + 1)) {
-            Check::Passes => {}
-            Check::Fails { number, column } => {
-                check = Check::Fails { number, column };
+        let here = value.check((k + 1) as u64);
+        match here {
+            Ok(()) => {}
+            Err(fault) => {
+                check = Err(fault);
                 row = NO_ROW;
                 break 'columns;
             }
@@ -51,7 +50,6 @@ fn read_columns(
         if k < kept {
             row[k] = values::kept_number(value);
         }
-        k += 1;
     }
     Judged { check, row }
 }
@@ -62,17 +60,11 @@ pub fn cut_row(edition: Edition, line: &[u8], cells: usize, bounds: &mut [usize]
     ensures { CutOf edition line.now cells bounds.new result }
 {
     let cut = header::cut_line(edition, line, bounds);
-    let check = cut.check;
-    let count = cut.cells;
-    match check {
-        Check::Fails { number, column } => Check::Fails { number, column },
-        Check::Passes => {
-            if count != cells {
-                return Check::cell_count();
-            }
-            Check::Passes
-        }
+    cut.check?;
+    if cut.cells != cells {
+        return Err(Fault::cell_count());
     }
+    Ok(())
 }
 
 // 17, 6, 7, what is wrong with a cell, and the row of a line, without looking at a book.
@@ -89,10 +81,7 @@ pub fn read_row(
 {
     let check = cut_row(edition, line, at[0], bounds);
     match check {
-        Check::Passes => read_columns(line, &bounds[..], edition, t, columns, at),
-        Check::Fails {
-            number: _,
-            column: _,
-        } => values::no_row(check),
+        Ok(()) => read_columns(line, &bounds[..], edition, t, columns, at),
+        Err(fault) => values::no_row(fault),
     }
 }

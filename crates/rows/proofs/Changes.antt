@@ -8,10 +8,10 @@ use lib.ListN.{get_or, length}
 use Rattle.words.specs.Words.{Row, whether◌then◌else◌}
 use Rattle.rows.specs.Rows.{same_key, stands, found, removed, column, rising, by_order, key_order, inserted, replaced}
 use Rattle.rows.specs.Spots.{row_of, spot}
-use Rattle.rows.specs.declared.Spot.TheVariants.{At, Gap}
+use Rattle.std.specs.Prelude.{Ok, Err}
 use Rattle.rows.specs.Room.{used, zeros}
-use Rattle.rows.specs.declared.Order.{Order}
-use Rattle.rows.specs.declared.Order.TheVariants.{Less, Same, More}
+use Rattle.std.specs.declared.cmp.Ordering.{Ordering}
+use Rattle.std.specs.declared.cmp.Ordering.TheVariants.{Less, Equal, Greater}
 use Rattle.rows.proofs.Keys.{same_key_left, order_refl, same_key_right, same_number, same_key_order}
 use Rattle.rows.proofs.Room.{Versioned, row_of_row, used_versioned, used_row}
 use Rattle.rows.proofs.Places.{at_within, at_stands, at_found, gap_missing}
@@ -58,12 +58,12 @@ pub row_of_found : (k : ℕ) (row : Row) (xs : List Row) → Versioned xs → st
 row_of_found k row xs v e = row_of_row (found k row xs) (found_versioned k row xs v e)
 
 -- the row of a key, by its place
-pub row_of_at : (k : ℕ) (row : Row) (xs : List Row) (i : ℕ) → spot k row (used xs) ≡ At i → row_of (found k row (used xs)) ≡ get_or xs i []
+pub row_of_at : (k : ℕ) (row : Row) (xs : List Row) (i : ℕ) → spot k row (used xs) ≡ Ok i → row_of (found k row (used xs)) ≡ get_or xs i []
 row_of_at k row xs i e =
     let f : found k row (used xs) ≡ get_or xs i [] = at_found k row (used xs) i e ∙ used_row xs i (at_within k row (used xs) i e) in
     row_of_found k row (used xs) (used_versioned xs) (at_stands k row (used xs) i e) ∙ f
 
-pub row_of_gap : (k : ℕ) (row : Row) (xs : List Row) → rising k (used xs) ≡ true → (i : ℕ) → spot k row (used xs) ≡ Gap i → row_of (found k row (used xs)) ≡ zeros
+pub row_of_gap : (k : ℕ) (row : Row) (xs : List Row) → rising k (used xs) ≡ true → (i : ℕ) → spot k row (used xs) ≡ Err i → row_of (found k row (used xs)) ≡ zeros
 row_of_gap k row xs r i e = rw (found_missing k row (used xs) (gap_missing k row (used xs) i e r))
 
 -- the key itself, afterwards
@@ -73,21 +73,21 @@ module _ (k : ℕ) (row : Row) where
   stands_inserted [] = rw (order_refl k 0 row)
   stands_inserted (x ∷ xs) = go (key_order k row x) refl (stands_inserted xs)
     where
-      go : (o : Order) → key_order k row x ≡ o → stands k row (inserted k row xs) ≡ true → stands k row (inserted k row (x ∷ xs)) ≡ true
+      go : (o : Ordering) → key_order k row x ≡ o → stands k row (inserted k row xs) ≡ true → stands k row (inserted k row (x ∷ xs)) ≡ true
       go Less f ih = rw (f, order_refl k 0 row)
-      go Same f ih = rw (f, f)
-      go More f ih = rw (f, f) ih
+      go Equal f ih = rw (f, f)
+      go Greater f ih = rw (f, f) ih
 
   pub found_inserted : (xs : List Row) → stands k row xs ≡ false → found k row (inserted k row xs) ≡ row
   unfolding stands found inserted
   found_inserted [] e = rw (order_refl k 0 row)
   found_inserted (x ∷ xs) e = go (key_order k row x) refl e (found_inserted xs)
     where
-      go : (o : Order) → key_order k row x ≡ o → (by_order o false true false || stands k row xs) ≡ false
+      go : (o : Ordering) → key_order k row x ≡ o → (by_order o false true false || stands k row xs) ≡ false
           → (stands k row xs ≡ false → found k row (inserted k row xs) ≡ row) → found k row (inserted k row (x ∷ xs)) ≡ row
       go Less f g ih = rw (f, order_refl k 0 row)
-      go Same f g ih = cc
-      go More f g ih = rw (f, f) (ih g)
+      go Equal f g ih = cc
+      go Greater f g ih = rw (f, f) (ih g)
 
   pub found_replaced : (xs : List Row) → stands k row xs ≡ true → found k row (replaced k row xs) ≡ row
   unfolding stands found replaced
@@ -137,10 +137,10 @@ module _ (k : ℕ) (key row : Row) (apart : same_key k key row ≡ false) where
   other_stands_inserted [] = rw apart
   other_stands_inserted (x ∷ xs) = go (key_order k row x) refl (other_stands_inserted xs)
     where
-      go : (o : Order) → key_order k row x ≡ o → stands k key (inserted k row xs) ≡ stands k key xs → stands k key (inserted k row (x ∷ xs)) ≡ stands k key (x ∷ xs)
+      go : (o : Ordering) → key_order k row x ≡ o → stands k key (inserted k row xs) ≡ stands k key xs → stands k key (inserted k row (x ∷ xs)) ≡ stands k key (x ∷ xs)
       go Less e ih = rw (e, apart)
-      go Same e ih = rw e
-      go More e ih = rw (e, ih)
+      go Equal e ih = rw e
+      go Greater e ih = rw (e, ih)
 
   pub other_stands_removed : (xs : List Row) → stands k key (removed k row xs) ≡ stands k key xs
   unfolding stands removed
@@ -156,10 +156,10 @@ module _ (k : ℕ) (key row : Row) (apart : same_key k key row ≡ false) where
   other_found_inserted [] = rw apart
   other_found_inserted (x ∷ xs) = go (key_order k row x) refl (other_found_inserted xs)
     where
-      go : (o : Order) → key_order k row x ≡ o → found k key (inserted k row xs) ≡ found k key xs → found k key (inserted k row (x ∷ xs)) ≡ found k key (x ∷ xs)
+      go : (o : Ordering) → key_order k row x ≡ o → found k key (inserted k row xs) ≡ found k key xs → found k key (inserted k row (x ∷ xs)) ≡ found k key (x ∷ xs)
       go Less e ih = rw (e, apart)
-      go Same e ih = rw e
-      go More e ih = rw (e, ih)
+      go Equal e ih = rw e
+      go Greater e ih = rw (e, ih)
 
   pub other_found_replaced : (xs : List Row) → found k key (replaced k row xs) ≡ found k key xs
   unfolding found replaced
@@ -186,21 +186,21 @@ module _ (k : ℕ) (row : Row) where
   length_inserted [] e = refl
   length_inserted (x ∷ xs) e = go (key_order k row x) refl e (length_inserted xs)
     where
-      go : (o : Order) → key_order k row x ≡ o → (by_order o false true false || stands k row xs) ≡ false
+      go : (o : Ordering) → key_order k row x ≡ o → (by_order o false true false || stands k row xs) ≡ false
           → (stands k row xs ≡ false → length (inserted k row xs) ≡ suc (length xs)) → length (inserted k row (x ∷ xs)) ≡ suc (length (x ∷ xs))
       go Less f g ih = rw f
-      go Same f g ih = let z : ◌≡◌ {A = ℕ} 0 1 = cc in absurd (omega arith)
-      go More f g ih = rw f (ap suc (ih g))
+      go Equal f g ih = let z : ◌≡◌ {A = ℕ} 0 1 = cc in absurd (omega arith)
+      go Greater f g ih = rw f (ap suc (ih g))
 
   pub length_inserted_most : (xs : List Row) → length (inserted k row xs) ≤ suc (length xs)
   unfolding inserted
   length_inserted_most [] = omega arith
   length_inserted_most (x ∷ xs) = go (key_order k row x) refl (length_inserted_most xs)
     where
-      go : (o : Order) → key_order k row x ≡ o → length (inserted k row xs) ≤ suc (length xs) → length (inserted k row (x ∷ xs)) ≤ suc (length (x ∷ xs))
+      go : (o : Ordering) → key_order k row x ≡ o → length (inserted k row xs) ≤ suc (length xs) → length (inserted k row (x ∷ xs)) ≤ suc (length (x ∷ xs))
       go Less f ih = rw f (omega arith)
-      go Same f ih = rw f (omega arith)
-      go More f ih = rw f (omega arith)
+      go Equal f ih = rw f (omega arith)
+      go Greater f ih = rw f (omega arith)
 
   pub length_replaced : (xs : List Row) → length (replaced k row xs) ≡ length xs
   unfolding replaced
@@ -237,10 +237,10 @@ module _ (k : ℕ) (row : Row) where
   versioned_inserted [] h v = (h, tt)
   versioned_inserted (x ∷ xs) h v = go (key_order k row x) refl (versioned_inserted xs h v.1)
     where
-      go : (o : Order) → key_order k row x ≡ o → Versioned (inserted k row xs) → Versioned (inserted k row (x ∷ xs))
+      go : (o : Ordering) → key_order k row x ≡ o → Versioned (inserted k row xs) → Versioned (inserted k row (x ∷ xs))
       go Less f ih = rw f (h, v)
-      go Same f ih = rw f v
-      go More f ih = rw f (v.0, ih)
+      go Equal f ih = rw f v
+      go Greater f ih = rw f (v.0, ih)
 
   -- where the VERSION is part of the key, the row that is replaced vouches for it
   pub versioned_replaced : (xs : List Row) → 1 ≤ k → Versioned xs → Versioned (replaced k row xs)

@@ -8,10 +8,12 @@ use native.Mathlib.Nat.{not-suc-le-zero}
 use lib.Dec.{ltb}
 use lib.ListN.{get_or, length, get_or-eq_default}
 use borrow.Author.Tests.{ltb-true, ltb-false, lt-ltb, le-ltb}
+use Rattle.std.specs.Ordering.{nat_cmp, is_ne, MatchOrdering}
+use Rattle.std.proofs.lemmas.Cmp.{ranked}
 use Rattle.words.specs.Words.{Row}
-use Rattle.rows.specs.declared.Order.TheVariants.{Less, More, Same}
+use Rattle.std.specs.declared.cmp.Ordering.TheVariants.{Less, Greater, Equal}
 use Rattle.rows.specs.Rows.{order_from, key_order, same_key, by_order}
-use Rattle.rows.specs.declared.Order.{Order}
+use Rattle.std.specs.declared.cmp.Ordering.{Ordering}
 
 pub data Tri (x y : ℕ) : Type 0 where
   lt : x < y → Tri x y
@@ -32,7 +34,7 @@ module _ (n i : ℕ) (x y : Row) where
   unfolding order_from
   step_lt h = simp (lt-ltb _ _ h)
 
-  pub step_gt : get_or y i 0 < get_or x i 0 → order_from (suc n) i x y ≡ More
+  pub step_gt : get_or y i 0 < get_or x i 0 → order_from (suc n) i x y ≡ Greater
   unfolding order_from
   step_gt h = let g : get_or y i 0 ≤ get_or x i 0 = omega arith in simp (le-ltb _ _ g, lt-ltb _ _ h)
 
@@ -51,27 +53,46 @@ module _ (k i : ℕ) (x y : Row) (more : i < k) where
   pub next_lt : get_or x i 0 < get_or y i 0 → order_from (k - i) i x y ≡ Less
   next_lt h = rw left_suc (step_lt _ i x y h)
 
-  pub next_gt : get_or y i 0 < get_or x i 0 → order_from (k - i) i x y ≡ More
+  pub next_gt : get_or y i 0 < get_or x i 0 → order_from (k - i) i x y ≡ Greater
   next_gt h = rw left_suc (step_gt _ i x y h)
 
   pub next_eq : get_or x i 0 ≡ get_or y i 0 → order_from (k - i) i x y ≡ order_from (k - (i + 1)) (i + 1) x y
   next_eq h = rw left_suc (rw (add-one i) (step_eq _ i x y h))
 
+-- what comparing two numbers tells
+module _ (k i : ℕ) (x y : Row) (more : i < k) (o : Ordering) (told : o ≡ nat_cmp (get_or x i 0) (get_or y i 0)) where
+  pub next_other : is_ne o ≡ true → order_from (k - i) i x y ≡ o
+  next_other = go o (ranked _ _ o told)
+    where
+      go : (o : Ordering) → MatchOrdering o (get_or x i 0 < get_or y i 0) (get_or x i 0 ≡ get_or y i 0) (get_or y i 0 < get_or x i 0) → is_ne o ≡ true → order_from (k - i) i x y ≡ o
+      go Less r n = next_lt k i x y more r
+      go Equal r n = cc
+      go Greater r n = next_gt k i x y more r
+
+  pub next_equal : is_ne o ≡ false → order_from (k - i) i x y ≡ order_from (k - (i + 1)) (i + 1) x y
+  next_equal = go o (ranked _ _ o told)
+    where
+      go : (o : Ordering) → MatchOrdering o (get_or x i 0 < get_or y i 0) (get_or x i 0 ≡ get_or y i 0) (get_or y i 0 < get_or x i 0) → is_ne o ≡ false
+          → order_from (k - i) i x y ≡ order_from (k - (i + 1)) (i + 1) x y
+      go Less r n = cc
+      go Equal r n = next_eq k i x y more r
+      go Greater r n = cc
+
 -- no number is left, or both rows are at their end
-pub order_none : (k i : ℕ) (x y : Row) → k ≤ i → order_from (k - i) i x y ≡ Same
+pub order_none : (k i : ℕ) (x y : Row) → k ≤ i → order_from (k - i) i x y ≡ Equal
 unfolding order_from
 order_none k i x y h = let e : k - i ≡ 0 = omega arith in rw e
 
-pub order_end : (n i : ℕ) (x y : Row) → length x ≤ i → length y ≤ i → order_from n i x y ≡ Same
+pub order_end : (n i : ℕ) (x y : Row) → length x ≤ i → length y ≤ i → order_from n i x y ≡ Equal
 unfolding order_from
 order_end zero i x y h g = refl
 order_end (suc n) i x y h g =
     step_eq n i x y (get_or-eq_default x 0 h ∙ sym (get_or-eq_default y 0 g)) ∙ order_end n (suc i) x y (omega arith) (omega arith)
 
-flip : Order → Order
-flip Less = More
-flip Same = Same
-flip More = Less
+flip : Ordering → Ordering
+flip Less = Greater
+flip Equal = Equal
+flip Greater = Less
 
 order_flip : (n i : ℕ) (x y : Row) → order_from n i y x ≡ flip (order_from n i x y)
 unfolding flip order_from
@@ -99,13 +120,13 @@ order_trans (suc n) i x y z p q = go (tri (get_or x i 0) (get_or y i 0)) (tri (g
     go (eq a) (gt b) ih = cc (step_gt n i y z b)
     go (gt a) u ih = cc (step_gt n i x y a)
 
-pub order_right : (n i : ℕ) (x y z : Row) → order_from n i y z ≡ Same → order_from n i x y ≡ order_from n i x z
+pub order_right : (n i : ℕ) (x y z : Row) → order_from n i y z ≡ Equal → order_from n i x y ≡ order_from n i x z
 unfolding order_from
 order_right zero i x y z q = refl
 order_right (suc n) i x y z q = go (tri (get_or y i 0) (get_or z i 0)) (tri (get_or x i 0) (get_or y i 0)) (order_right n (suc i) x y z)
   where
     go : Tri (get_or y i 0) (get_or z i 0) → Tri (get_or x i 0) (get_or y i 0)
-        → (order_from n (suc i) y z ≡ Same → order_from n (suc i) x y ≡ order_from n (suc i) x z)
+        → (order_from n (suc i) y z ≡ Equal → order_from n (suc i) x y ≡ order_from n (suc i) x z)
         → order_from (suc n) i x y ≡ order_from (suc n) i x z
     go (lt a) u ih = cc (step_lt n i y z a)
     go (gt a) u ih = cc (step_gt n i y z a)
@@ -113,19 +134,19 @@ order_right (suc n) i x y z q = go (tri (get_or y i 0) (get_or z i 0)) (tri (get
     go (eq a) (gt b) ih = step_gt n i x y b ∙ sym (step_gt n i x z (omega arith))
     go (eq a) (eq b) ih = step_eq n i x y b ∙ ih (sym (step_eq n i y z a) ∙ q) ∙ sym (step_eq n i x z (b ∙ a))
 
-pub order_refl : (n i : ℕ) (x : Row) → order_from n i x x ≡ Same
+pub order_refl : (n i : ℕ) (x : Row) → order_from n i x x ≡ Equal
 unfolding order_from
 order_refl zero i x = refl
 order_refl (suc n) i x = step_eq n i x x refl ∙ order_refl n (suc i) x
 
 -- a key that is the same has the same numbers
-order_numbers : (n i : ℕ) (x y : Row) → order_from n i x y ≡ Same → (j : ℕ) → j < n → get_or x (i + j) 0 ≡ get_or y (i + j) 0
+order_numbers : (n i : ℕ) (x y : Row) → order_from n i x y ≡ Equal → (j : ℕ) → j < n → get_or x (i + j) 0 ≡ get_or y (i + j) 0
 unfolding order_from
 order_numbers zero i x y e j h = absurd (not-suc-le-zero h)
 order_numbers (suc n) i x y e j h = go (tri (get_or x i 0) (get_or y i 0)) j h (order_numbers n (suc i) x y)
   where
     go : Tri (get_or x i 0) (get_or y i 0) → (j : ℕ) → j < suc n
-        → (order_from n (suc i) x y ≡ Same → (j : ℕ) → j < n → get_or x (suc i + j) 0 ≡ get_or y (suc i + j) 0)
+        → (order_from n (suc i) x y ≡ Equal → (j : ℕ) → j < n → get_or x (suc i + j) 0 ≡ get_or y (suc i + j) 0)
         → get_or x (i + j) 0 ≡ get_or y (i + j) 0
     go (lt a) j h ih = cc (step_lt n i x y a)
     go (gt a) j h ih = cc (step_gt n i x y a)
@@ -135,29 +156,29 @@ order_numbers (suc n) i x y e j h = go (tri (get_or x i 0) (get_or y i 0)) j h (
         rw f (ih (sym (step_eq n i x y a) ∙ e) j (omega arith))
 
 module _ (k : ℕ) (x y : Row) where
-  pub less_more : key_order k x y ≡ Less → key_order k y x ≡ More
+  pub less_more : key_order k x y ≡ Less → key_order k y x ≡ Greater
   unfolding flip
   less_more e = order_flip k 0 x y ∙ ap flip e
 
-  pub more_less : key_order k x y ≡ More → key_order k y x ≡ Less
+  pub more_less : key_order k x y ≡ Greater → key_order k y x ≡ Less
   unfolding flip
   more_less e = order_flip k 0 x y ∙ ap flip e
 
-  pub same_same : key_order k x y ≡ Same → key_order k y x ≡ Same
+  pub same_same : key_order k x y ≡ Equal → key_order k y x ≡ Equal
   unfolding flip
   same_same e = order_flip k 0 x y ∙ ap flip e
 
-  pub same_number : key_order k x y ≡ Same → (i : ℕ) → i < k → get_or x i 0 ≡ get_or y i 0
+  pub same_number : key_order k x y ≡ Equal → (i : ℕ) → i < k → get_or x i 0 ≡ get_or y i 0
   same_number e i h = let f : 0 + i ≡ i = omega arith in rw f at (order_numbers k 0 x y e i h)
 
 pub less_trans : (k : ℕ) (x y z : Row) → key_order k x y ≡ Less → key_order k y z ≡ Less → key_order k x z ≡ Less
 less_trans k x y z = order_trans k 0 x y z
 
 -- rows of the same key stand in the same order to every row
-pub same_right : (k : ℕ) (x y z : Row) → key_order k y z ≡ Same → key_order k x y ≡ key_order k x z
+pub same_right : (k : ℕ) (x y z : Row) → key_order k y z ≡ Equal → key_order k x y ≡ key_order k x z
 same_right k x y z = order_right k 0 x y z
 
-pub same_left : (k : ℕ) (x y z : Row) → key_order k x y ≡ Same → key_order k x z ≡ key_order k y z
+pub same_left : (k : ℕ) (x y z : Row) → key_order k x y ≡ Equal → key_order k x z ≡ key_order k y z
 unfolding flip
 same_left k x y z e = order_flip k 0 z x ∙ ap flip (same_right k z x y e) ∙ sym (order_flip k 0 z y)
 
@@ -165,13 +186,13 @@ same_left k x y z e = order_flip k 0 z x ∙ ap flip (same_right k z x y e) ∙ 
 pub same_key_refl : (k : ℕ) (x : Row) → same_key k x x ≡ true
 same_key_refl k x = rw (order_refl k 0 x)
 
-pub same_key_order : (k : ℕ) (x y : Row) → same_key k x y ≡ true → key_order k x y ≡ Same
+pub same_key_order : (k : ℕ) (x y : Row) → same_key k x y ≡ true → key_order k x y ≡ Equal
 same_key_order k x y e = go (key_order k x y) refl e
   where
-    go : (o : Order) → key_order k x y ≡ o → by_order o false true false ≡ true → key_order k x y ≡ Same
+    go : (o : Ordering) → key_order k x y ≡ o → by_order o false true false ≡ true → key_order k x y ≡ Equal
     go Less f g = cc
-    go Same f g = f
-    go More f g = cc
+    go Equal f g = f
+    go Greater f g = cc
 
 pub same_key_left : (k : ℕ) (x y z : Row) → same_key k x y ≡ true → same_key k x z ≡ same_key k y z
 same_key_left k x y z e = rw (same_left k x y z (same_key_order k x y e))

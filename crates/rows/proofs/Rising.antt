@@ -8,9 +8,9 @@ use native.Mathlib.Nat.{not-suc-le-zero}
 use lib.ListN.{length, get_or, drop, take}
 use lib.Seq.{drop-cons, get_or-take, length-take-le}
 use Rattle.words.specs.Words.{Row}
-use Rattle.rows.specs.declared.Order.TheVariants.{Less, Same, More}
+use Rattle.std.specs.declared.cmp.Ordering.TheVariants.{Less, Equal, Greater}
 use Rattle.rows.specs.Rows.{key_order, by_order, rising, inserted, replaced, same_key, removed}
-use Rattle.rows.specs.declared.Order.{Order}
+use Rattle.std.specs.declared.cmp.Ordering.{Ordering}
 use Rattle.rows.proofs.Keys.{less_trans, more_less, same_left, same_right}
 
 -- each of rows has a larger key than x
@@ -35,11 +35,11 @@ rising_true k [] e = tt
 rising_true k (x ∷ []) e = (tt, tt)
 rising_true k (x ∷ (y ∷ ys)) e = go (key_order k x y) refl e (rising_true k (y ∷ ys))
   where
-    go : (o : Order) → key_order k x y ≡ o → (by_order o true false false && rising k (y ∷ ys)) ≡ true
+    go : (o : Ordering) → key_order k x y ≡ o → (by_order o true false false && rising k (y ∷ ys)) ≡ true
         → (rising k (y ∷ ys) ≡ true → Rising k (y ∷ ys)) → Rising k (x ∷ (y ∷ ys))
     go Less f g ih = let r = ih g in ((f, above_less k x y ys f r.0), r)
-    go Same f g ih = let z : ◌≡◌ {A = ℕ} 0 1 = cc in absurd (omega arith)
-    go More f g ih = let z : ◌≡◌ {A = ℕ} 0 1 = cc in absurd (omega arith)
+    go Equal f g ih = let z : ◌≡◌ {A = ℕ} 0 1 = cc in absurd (omega arith)
+    go Greater f g ih = let z : ◌≡◌ {A = ℕ} 0 1 = cc in absurd (omega arith)
 
 pub true_rising : (k : ℕ) (xs : List Row) → Rising k xs → rising k xs ≡ true
 unfolding rising Above Rising
@@ -114,23 +114,23 @@ unfolding Above inserted
 above_inserted k x row [] e a = (e, tt)
 above_inserted k x row (y ∷ ys) e a = go (key_order k row y) refl (above_inserted k x row ys e a.1)
   where
-    go : (o : Order) → key_order k row y ≡ o → Above k x (inserted k row ys) → Above k x (inserted k row (y ∷ ys))
+    go : (o : Ordering) → key_order k row y ≡ o → Above k x (inserted k row ys) → Above k x (inserted k row (y ∷ ys))
     go Less f ih = rw f (e, a)
-    go Same f ih = rw f a
-    go More f ih = rw f (a.0, ih)
+    go Equal f ih = rw f a
+    go Greater f ih = rw f (a.0, ih)
 
 inserted_rising : (k : ℕ) (row : Row) (xs : List Row) → Rising k xs → Rising k (inserted k row xs)
 unfolding Above Rising inserted
 inserted_rising k row [] r = (tt, tt)
 inserted_rising k row (x ∷ xs) r = go (key_order k row x) refl (inserted_rising k row xs r.1)
   where
-    go : (o : Order) → key_order k row x ≡ o → Rising k (inserted k row xs) → Rising k (inserted k row (x ∷ xs))
+    go : (o : Ordering) → key_order k row x ≡ o → Rising k (inserted k row xs) → Rising k (inserted k row (x ∷ xs))
     go Less f ih = rw f ((f, above_less k row x xs f r.0), r)
-    go Same f ih = rw f r
-    go More f ih = rw f (above_inserted k x row xs (more_less k row x f) r.0, ih)
+    go Equal f ih = rw f r
+    go Greater f ih = rw f (above_inserted k x row xs (more_less k row x f) r.0, ih)
 
 -- one row replaced
-above_same : (k : ℕ) (x y : Row) (zs : List Row) → key_order k x y ≡ Same → Above k y zs → Above k x zs
+above_same : (k : ℕ) (x y : Row) (zs : List Row) → key_order k x y ≡ Equal → Above k y zs → Above k x zs
 unfolding Above
 above_same k x y [] e a = tt
 above_same k x y (z ∷ zs) e a = (same_left k x y z e ∙ a.0, above_same k x y zs e a.1)
@@ -140,20 +140,20 @@ unfolding Above replaced
 above_replaced k x row [] a = tt
 above_replaced k x row (y ∷ ys) a = go (key_order k row y) refl (above_replaced k x row ys a.1)
   where
-    go : (o : Order) → key_order k row y ≡ o → Above k x (replaced k row ys) → Above k x (replaced k row (y ∷ ys))
+    go : (o : Ordering) → key_order k row y ≡ o → Above k x (replaced k row ys) → Above k x (replaced k row (y ∷ ys))
     go Less f ih = rw f (a.0, ih)
-    go Same f ih = rw f (same_right k x row y f ∙ a.0, a.1)
-    go More f ih = rw f (a.0, ih)
+    go Equal f ih = rw f (same_right k x row y f ∙ a.0, a.1)
+    go Greater f ih = rw f (a.0, ih)
 
 replaced_rising : (k : ℕ) (row : Row) (xs : List Row) → Rising k xs → Rising k (replaced k row xs)
 unfolding Above Rising replaced
 replaced_rising k row [] r = tt
 replaced_rising k row (x ∷ xs) r = go (key_order k row x) refl (replaced_rising k row xs r.1)
   where
-    go : (o : Order) → key_order k row x ≡ o → Rising k (replaced k row xs) → Rising k (replaced k row (x ∷ xs))
+    go : (o : Ordering) → key_order k row x ≡ o → Rising k (replaced k row xs) → Rising k (replaced k row (x ∷ xs))
     go Less f ih = rw f (above_replaced k x row xs r.0, ih)
-    go Same f ih = rw f (above_same k row x xs f r.0, r.1)
-    go More f ih = rw f (above_replaced k x row xs r.0, ih)
+    go Equal f ih = rw f (above_same k row x xs f r.0, r.1)
+    go Greater f ih = rw f (above_replaced k x row xs r.0, ih)
 
 -- one row gone
 above_removed : (k : ℕ) (x row : Row) (ys : List Row) → Above k x ys → Above k x (removed k row ys)

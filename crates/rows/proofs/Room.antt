@@ -5,10 +5,13 @@ use mathlib.Core.Bool.{Bool, true, false, ◌&&◌}
 use Prim.Native.Nat.{◌≤◌, ℕ, zero, suc, ◌<◌, ◌+◌, ◌-◌}
 use native.Mathlib.Omega.{arith}
 use native.Mathlib.Nat.{not-suc-le-zero}
-use lib.Dec.{eqb}
+use lib.Dec.{eqb, ltb}
 use lib.ListN.{length, drop, length-append, take, get_or, drop_of_length-le, replicate, length-replicate, get_or-replicate}
 use lib.Seq.{get_or-append-add, drop-drop, drop_at, ext_get_or}
-use borrow.Author.Tests.{eqb-false, ne_eqb, eq-eqb}
+use borrow.Author.Tests.{eqb-false, ne_eqb, eq-eqb, ltb-false}
+use Rattle.std.specs.List.{list_all, position_or_len, position}
+use Rattle.std.specs.Prelude.{Option}
+use Rattle.std.specs.Option.{unwrap_or}
 use Rattle.words.specs.Words.{Row, same}
 use Rattle.words.proofs.Lists.{drop_step, same_refl, same_true}
 use Rattle.rows.specs.Rows.{column, rising}
@@ -63,20 +66,6 @@ used_row (x ∷ xs) i h = go (eqb (column 1 x) 0) refl i h (used_row xs)
     go true e i h ih = let h' : i < 0 = rw e at h in absurd (not-suc-le-zero h')
     go false e zero h ih = rw e
     go false e (suc i) h ih = rw e (ih i (let h' : suc i < suc (length (used xs)) = rw e at h in omega arith))
-
--- row by row, as a count from the first row goes
-pub used_more : (xs : List Row) (i : ℕ) → i < length xs → (get_or (get_or xs i []) 0 0 ≡ 0 → ⊥)
-    → length (used (drop i xs)) ≡ suc (length (used (drop (i + 1) xs)))
-unfolding used
-used_more xs i h n = rw (drop_step [] xs i h) (rw (ne_eqb _ _ n))
-
-pub used_stop : (xs : List Row) (i : ℕ) → i < length xs → get_or (get_or xs i []) 0 0 ≡ 0 → length (used (drop i xs)) ≡ 0
-unfolding used
-used_stop xs i h e = rw (drop_step [] xs i h) (rw (eq-eqb _ _ e))
-
-pub used_end : (xs : List Row) (i : ℕ) → length xs ≤ i → length (used (drop i xs)) ≡ 0
-unfolding used
-used_end xs i h = rw drop_of_length-le
 
 -- rows whose VERSION is at least 1
 versioned_at : (xs : List Row) → Versioned xs → (i : ℕ) → i < length xs → 1 ≤ get_or (get_or xs i []) 0 0
@@ -205,34 +194,38 @@ holds_on k n xs e r = holds_parts k n xs e ∙ rw r
 pub holds_not : (k n : ℕ) (xs : List Row) → n ≡ length (used xs) → rising k (take n xs) ≡ false → holds k xs ≡ false
 holds_not k n xs e r = holds_parts k n xs e ∙ rw r
 
-blank_step : (xs : List Row) (i : ℕ) → i < length xs → blank_from i xs ≡ (same (get_or xs i []) zeros && blank_from (i + 1) xs)
+-- whether the numbers of a row are zeros, and the rows of a list, one by one
+pub all_zero : (row : Row) (n : ℕ) → length row ≡ n → list_all (λ x. eqb x 0) row ≡ same row (replicate n 0)
+unfolding same
+all_zero [] zero l = refl
+all_zero [] (suc n) l = absurd (omega arith)
+all_zero (x ∷ row) zero l = absurd (omega arith)
+all_zero (x ∷ row) (suc n) l = ap (λ (b : Bool). eqb x 0 && b) (all_zero row n (omega arith))
+
+pub all_blank : (xs : List Row) (m : ℕ) → length xs ≡ m → list_all (λ row. same row zeros) xs ≡ same_rows xs (replicate m zeros)
 unfolding same_rows
-blank_step xs i h =
-    let e : length xs - i ≡ suc (length xs - (i + 1)) = omega arith in
-    rw (drop_step [] xs i h, e)
+all_blank [] zero l = refl
+all_blank [] (suc m) l = absurd (omega arith)
+all_blank (x ∷ xs) zero l = absurd (omega arith)
+all_blank (x ∷ xs) (suc m) l = ap (λ (b : Bool). same x zeros && b) (all_blank xs m (omega arith))
 
-pub blank_on : (xs : List Row) (i : ℕ) → i < length xs → same (get_or xs i []) zeros ≡ true → blank_from i xs ≡ blank_from (i + 1) xs
-blank_on xs i h e = blank_step xs i h ∙ rw e
-
-pub blank_not : (xs : List Row) (i : ℕ) → i < length xs → same (get_or xs i []) zeros ≡ false → blank_from i xs ≡ false
-blank_not xs i h e = blank_step xs i h ∙ rw e
-
-pub blank_end : (xs : List Row) (i : ℕ) → length xs ≤ i → blank_from i xs ≡ true
-unfolding same_rows
-blank_end xs i h = let e : length xs - i ≡ 0 = omega arith in rw (drop_of_length-le xs h, e)
-
--- a row of zeros
-pub same_zeros : (row : Row) → length row ≡ 11 → ((j : ℕ) → j < 11 → get_or row j 0 ≡ 0) → same row zeros ≡ true
-same_zeros row l z =
-    let e : row ≡ zeros = ext_get_or 0 row zeros l (λ j h. let h' : j < 11 = omega arith in z j h' ∙ sym (get_or-replicate 11 j 0 0 h')) in
-    rw e (same_refl zeros)
-
-pub other_zeros : (row : Row) (j : ℕ) → j < 11 → (get_or row j 0 ≡ 0 → ⊥) → same row zeros ≡ false
-other_zeros row j h n = go (same row zeros) refl
+-- the place of the first row that is not used
+pub first_unused : (xs : List Row) → position_or_len (λ row. eqb (column 1 row) 0) xs ≡ length (used xs)
+unfolding used
+first_unused [] = refl
+first_unused (x ∷ xs) = go (eqb (column 1 x) 0) refl (first_unused xs)
   where
-    go : (b : Bool) → same row zeros ≡ b → b ≡ false
-    go true e = absurd (n (ap (λ (l : Row). get_or l j 0) (same_true row zeros e) ∙ get_or-replicate 11 j 0 0 h))
-    go false e = refl
+    go : (b : Bool) → eqb (column 1 x) 0 ≡ b → position_or_len (λ row. eqb (column 1 row) 0) xs ≡ length (used xs)
+        → position_or_len (λ row. eqb (column 1 row) 0) (x ∷ xs) ≡ length (used (x ∷ xs))
+    go true e ih = rw e
+    go false e ih = rw e (omega arith)
+
+pub first_place : (xs : List Row) (r : Option ℕ) → r ≡ position (λ row. eqb (column 1 row) 0) xs → unwrap_or r (length xs) ≡ length (used xs)
+first_place xs r e = go (ltb (position_or_len (λ row. eqb (column 1 row) 0) xs) (length xs)) refl
+  where
+    go : (b : Bool) → ltb (position_or_len (λ row. eqb (column 1 row) 0) xs) (length xs) ≡ b → unwrap_or r (length xs) ≡ length (used xs)
+    go true f = rw (e, f) (first_unused xs)
+    go false f = rw (e, f) (omega (arith, first_unused xs, used_within xs, ltb-false _ _ f))
 
 -- a row that is none of zeros is its own
 pub row_of_row : (row : Row) → 1 ≤ column 1 row → row_of row ≡ row

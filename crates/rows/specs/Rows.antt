@@ -1,8 +1,8 @@
 -- Rows, and the order of their keys. A row's key is its first k numbers.
 use Rattle.std.specs.Prelude.{List, ◌++◌, [], ◌∷◌, Bool, true, false, ◌||◌, ◌&&◌, ℕ, ◌-◌, zero, suc, length, replicate, get_or, ltb}
 use Rattle.words.specs.Words.{Row, whether◌then◌else◌}
-use Rattle.rows.specs.declared.Order.{Order}
-use Rattle.rows.specs.declared.Order.TheVariants.{Less, Same, More}
+use Rattle.std.specs.declared.cmp.Ordering.{Ordering}
+use Rattle.std.specs.declared.cmp.Ordering.TheVariants.{Less, Equal, Greater}
 
 -- "the 11 numbers of each block": as many has every row of the book
 abbrev pub row_numbers : ℕ
@@ -16,20 +16,20 @@ wide ns = ns ++ replicate (row_numbers - length ns) 0
 abbrev pub column : ℕ → Row → ℕ
 column k row = get_or row (k - 1) 0
 
-abbrev pub by_order {ℓ} : {A : Type ℓ} → Order → A → A → A → A
+abbrev pub by_order {ℓ} : {A : Type ℓ} → Ordering → A → A → A → A
 by_order Less a b c = a
-by_order Same a b c = b
-by_order More a b c = c
+by_order Equal a b c = b
+by_order Greater a b c = c
 
 -- "by rising key (number by number)": the order of n numbers from place i on
-unfoldable pub order_from : ℕ → ℕ → Row → Row → Order
-order_from zero i x y = Same
+unfoldable pub order_from : ℕ → ℕ → Row → Row → Ordering
+order_from zero i x y = Equal
 order_from (suc n) i x y =
     whether ltb (get_or x i 0) (get_or y i 0) then Less
-    else whether ltb (get_or y i 0) (get_or x i 0) then More
+    else whether ltb (get_or y i 0) (get_or x i 0) then Greater
     else order_from n (suc i) x y
 
-abbrev pub key_order : ℕ → Row → Row → Order
+abbrev pub key_order : ℕ → Row → Row → Ordering
 key_order k x y = order_from k 0 x y
 
 abbrev pub same_key : ℕ → Row → Row → Bool

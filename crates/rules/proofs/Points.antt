@@ -8,10 +8,10 @@ use lib.Dec.{lit≤, lit<}
 use Rattle.words.specs.Words.{Row, all}
 use Rattle.words.proofs.Lists.{and_left, and_right}
 use Rattle.refusals.specs.Verdicts.{passes}
-use Rattle.refusals.specs.declared.Check.TheVariants.{Passes}
+use Rattle.std.specs.Prelude.{Ok}
 use Rattle.rows.specs.Rows.{same_key, stands, column, key_order, inserted}
-use Rattle.rows.specs.declared.Order.{Order}
-use Rattle.rows.specs.declared.Order.TheVariants.{Less, Same, More}
+use Rattle.std.specs.declared.cmp.Ordering.{Ordering}
+use Rattle.std.specs.declared.cmp.Ordering.TheVariants.{Less, Equal, Greater}
 use Rattle.rows.proofs.Keys.{same_number, same_key_order}
 use Rattle.rows.proofs.Changes.{stands_key, stands_inserted, other_stands_inserted}
 use Rattle.editions.specs.declared.Edition.{Edition}
@@ -71,9 +71,6 @@ pub begun_named : (d : Edition) (b : Book) → b ≡ empty_by d → points_named
 unfolding all
 begun_named d b e = rw e
 
-pub empty_named : (b : Book) → b ≡ empty → points_named b ≡ true
-empty_named b e = begun_named Dino21 b e
-
 -- a table that is no block's needs nothing
 pub referable : (t : Table) (b : Book) → points_named b ≡ true → Referable t b
 referable VehicleType b e = tt
@@ -95,10 +92,10 @@ unfolding all inserted
 all_inserted f k row h [] e = rw h
 all_inserted f k row h (x ∷ xs) e = go (key_order k row x) refl (all_inserted f k row h xs (and_right (f x) (all f xs) e))
   where
-    go : (o : Order) → key_order k row x ≡ o → all f (inserted k row xs) ≡ true → all f (inserted k row (x ∷ xs)) ≡ true
+    go : (o : Ordering) → key_order k row x ≡ o → all f (inserted k row xs) ≡ true → all f (inserted k row (x ∷ xs)) ≡ true
     go Less q ih = rw (q, h) e
-    go Same q ih = rw q e
-    go More q ih = rw (q, and_left (f x) (all f xs) e) ih
+    go Equal q ih = rw q e
+    go Greater q ih = rw (q, and_left (f x) (all f xs) e) ih
 
 stands_still : (k : ℕ) (key row : Row) (xs : List Row) → stands k key xs ≡ true → stands k key (inserted k row xs) ≡ true
 stands_still k key row xs e = go (same_key k key row) refl
@@ -111,7 +108,7 @@ point_named : (x : Row) (b : Book) → finds (ref 2 Stop) x b ≡ true → passe
 unfolding unknown_of
 point_named x b e = rw e
 
-pub entered_named : (t : Table) (row : Row) (b : Book) → unknown t row b ≡ Passes → points_named b ≡ true → points_named (entered t row b) ≡ true
+pub entered_named : (t : Table) (row : Row) (b : Book) → unknown t row b ≡ Ok tt → points_named b ≡ true → points_named (entered t row b) ≡ true
 unfolding unknown_of
 entered_named VehicleType row b u e = e
 entered_named Depot row b u e = e

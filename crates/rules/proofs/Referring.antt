@@ -9,9 +9,8 @@ use lib.Dec.{lit≤, ltb}
 use borrow.Author.Tests.{ltb-true}
 use Rattle.words.specs.Words.{Row}
 use Rattle.words.proofs.Lists.{get_d_padded, drop_step, every, and_left, and_right}
-use Rattle.refusals.specs.Verdicts.{no_row, passes, key_stands, ends_early}
-use Rattle.refusals.specs.declared.Check.{Check}
-use Rattle.refusals.specs.declared.Check.TheVariants.{Passes, Fails}
+use Rattle.refusals.specs.Verdicts.{no_row, passes, key_stands, ends_early, Check}
+use Rattle.std.specs.Prelude.{Ok, Err}
 use Rattle.rows.specs.Rows.{wide, order_from, same_key, stands, found, column}
 use Rattle.tables.specs.Columns.{references, ref, key_width}
 use Rattle.tables.specs.declared.Table.{Table}
@@ -45,30 +44,6 @@ module _ (k : ℕ) (xs : List ℕ) where
 abbrev pub reference_of : Table → ℕ → Reference
 reference_of t i = get_or (references t) i (ref 0 VehicleType)
 
-pub referring : (t : Table) (i : ℕ) → i < length (references t) → (2 ≤ (reference_of t i).column) × ((reference_of t i).column ≤ 11)
-referring VehicleType i h = absurd (omega arith)
-referring Depot i h = absurd (omega arith)
-referring Stop i h = absurd (omega arith)
-referring StopPoint zero h = (lit≤ tt, lit≤ tt)
-referring StopPoint (suc i) h = absurd (omega arith)
-referring Block zero h = (lit≤ tt, lit≤ tt)
-referring Block (suc zero) h = (lit≤ tt, lit≤ tt)
-referring Block (suc (suc zero)) h = (lit≤ tt, lit≤ tt)
-referring Block (suc (suc (suc zero))) h = (lit≤ tt, lit≤ tt)
-referring Block (suc (suc (suc (suc zero)))) h = (lit≤ tt, lit≤ tt)
-referring Block (suc (suc (suc (suc (suc zero))))) h = (lit≤ tt, lit≤ tt)
-referring Block (suc (suc (suc (suc (suc (suc i)))))) h = absurd (omega arith)
-referring Calendar i h = absurd (omega arith)
-
--- only the key of a stop point has three numbers
-pub named_pair : (t : Table) (k : ℕ) (row : Row) → (t ≡ StopPoint → ⊥) → named t k row ≡ column 1 row ∷ column k row ∷ []
-named_pair VehicleType k row n = refl
-named_pair Depot k row n = refl
-named_pair Stop k row n = refl
-named_pair StopPoint k row n = absurd (n refl)
-named_pair Block k row n = refl
-named_pair Calendar k row n = refl
-
 -- the references one by one
 module _ (t : Table) (row : Row) (b : Book) (i : ℕ) where
   abbrev pub there : Bool
@@ -85,14 +60,14 @@ module _ (t : Table) (row : Row) (b : Book) (i : ℕ) where
   unfolding unknown_of
   unknown_here h e = rw (drop_step (ref 0 VehicleType) (references t) i h, e)
 
-  pub unknown_end : length (references t) ≤ i → unknown_from ≡ Passes
+  pub unknown_end : length (references t) ≤ i → unknown_from ≡ Ok tt
   unfolding unknown_of
   unknown_end h = rw (drop_of_length-le (references t) {i = i} h)
 
 -- a check that passes has no fault
-pub passed : (c : Check) → passes c ≡ true → c ≡ Passes
-passed Passes h = refl
-passed (Fails n k) h = let z : ◌≡◌ {A = ℕ} 0 1 = cc in absurd (omega arith)
+pub passed : (c : Check) → passes c ≡ true → c ≡ Ok tt
+passed (Ok _) h = refl
+passed (Err f) h = let z : ◌≡◌ {A = ℕ} 0 1 = cc in absurd (omega arith)
 
 -- one reference that finds no row is enough for a fault
 pub one_missing : (row : Row) (b : Book) (xs : List Reference) (i : ℕ) → i < length xs → finds (get_or xs i (ref 0 VehicleType)) row b ≡ false → passes (unknown_of xs row b) ≡ false

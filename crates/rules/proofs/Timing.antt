@@ -12,39 +12,12 @@ use Rattle.tables.specs.declared.Table.{Table}
 use Rattle.tables.specs.declared.Table.TheVariants.{VehicleType, Depot, Stop, StopPoint, Block, Calendar}
 use Rattle.rules.specs.Rules.{day, within_day, ends_lower, overnight, time_fault, seconds}
 
--- only a block has times
-pub no_times : (t : Table) (row : Row) → (t ≡ Block → ⊥) → false ≡ time_fault t row
-no_times VehicleType row n = refl
-no_times Depot row n = refl
-no_times Stop row n = refl
-no_times StopPoint row n = refl
-no_times Block row n = absurd (n refl)
-no_times Calendar row n = refl
-
 module _ (row : Row) where
   abbrev begins : ℕ
   begins = get_or row 7 0
 
   abbrev ends : ℕ
   ends = get_or row 10 0
-
-  pub begins_later : day ≤ begins → within_day row ≡ false
-  begins_later h = rw (le-ltb begins day h)
-
-  pub begins_within : begins < day → within_day row ≡ ltb ends day
-  begins_within h = rw (lt-ltb begins day h)
-
-  pub not_overnight : within_day row ≡ false → overnight row ≡ false
-  not_overnight e = rw e
-
-  pub overnight_lower : within_day row ≡ true → overnight row ≡ ends_lower row
-  overnight_lower e = rw e
-
-  pub timely : begins ≤ ends → time_fault Block row ≡ false
-  timely h = rw (le-ltb ends begins h)
-
-  pub early_later : ends < begins → time_fault Block row ≡ not (within_day row)
-  early_later h = rw (lt-ltb ends begins h)
 
   -- seconds ----------------------------------------------------------------------------------------------------------------------------
 

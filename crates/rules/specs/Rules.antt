@@ -1,9 +1,7 @@
 -- The rules that a row meets in its book.
-use Rattle.std.specs.Prelude.{Bool, ◌&&◌, false, not, [], ◌∷◌, List, ℕ, ◌-◌, ◌+◌, ltb}
+use Rattle.std.specs.Prelude.{Bool, ◌&&◌, false, not, [], ◌∷◌, List, ℕ, ◌-◌, ◌+◌, ltb, Ok}
 use Rattle.words.specs.Words.{Row, whether◌then◌else◌}
-use Rattle.refusals.specs.Verdicts.{◌⊳◌, ◌when◌, no_row, key_stands, ends_early}
-use Rattle.refusals.specs.declared.Check.{Check}
-use Rattle.refusals.specs.declared.Check.TheVariants.{Passes}
+use Rattle.refusals.specs.Verdicts.{◌⊳◌, ◌when◌, no_row, key_stands, ends_early, Check}
 use Rattle.rows.specs.Rows.{column}
 use Rattle.tables.specs.declared.Table.{Table}
 use Rattle.tables.specs.declared.Table.TheVariants.{VehicleType, Depot, Stop, StopPoint, Block, Calendar}
@@ -51,7 +49,7 @@ finds x row b = knows x.to (named x.to x.column row) b
 
 -- 10: "reference finds no row", at the first such column
 unfoldable pub unknown_of : List Reference → Row → Book → Check
-unknown_of [] row b = Passes
+unknown_of [] row b = Ok tt
 unknown_of (x ∷ xs) row b =
     no_row x.column when not (finds x row b)
     ⊳ unknown_of xs row b

@@ -10,7 +10,7 @@ ghost use Rattle.book.specs.Holding.{Sound};
 ghost use Rattle.rules.specs.Rules.{within_day, overnight, time_fault, named, finds, unknown};
 ghost use Rattle.rules.specs.Points.{points_named, Referable};
 
-use refusals::Check;
+use refusals::{Check, Fault};
 use rows::Row;
 use tables::Table;
 
@@ -21,40 +21,28 @@ pub const DAY: u64 = 86400;
 fn within_day(row: Row) -> bool
     ensures { result ≡ within_day row }
 {
-    if row[7] >= DAY {
-        return false;
-    }
-    row[10] < DAY
+    row[7] < DAY && row[10] < DAY
 }
 
 // Whether a block runs into the next day.
 pub fn overnight(row: Row) -> bool
     ensures { result ≡ overnight row }
 {
-    if !within_day(row) {
-        return false;
-    }
-    row[10] < row[7]
+    within_day(row) && row[10] < row[7]
 }
 
 // 11 of a block.
 fn ends_early(row: Row) -> bool
     ensures { result ≡ time_fault Table.Block row }
 {
-    if row[10] >= row[7] {
-        return false;
-    }
-    !within_day(row)
+    row[10] < row[7] && !within_day(row)
 }
 
 // 11. Only a block has times.
 pub fn time_fault(t: Table, row: Row) -> bool
     ensures { result ≡ time_fault t row }
 {
-    match t {
-        Table::Block => ends_early(row),
-        _ => false,
-    }
+    t == Table::Block && ends_early(row)
 }
 
 // The key that a column names in a table: of a stop point its stop's number stands one column before.
@@ -86,8 +74,11 @@ fn finds(book: &[Row], t: Table, i: usize, row: Row) -> bool
     ensures { result ≡ finds (get_or (references t) i (ref 0 Table.VehicleType)) row (book_of book.now) }
 {
     let reference = t.reference(i);
-    let to = reference.to;
-    book::knowing(book, to, named(to, reference.column, row))
+    book::knowing(
+        book,
+        reference.to,
+        named(reference.to, reference.column, row),
+    )
 }
 
 // Whether a block's references all find their rows. Those to its stops, at places 2 and 4, need no search: each stands before one to a point
@@ -96,16 +87,10 @@ fn block_finds(book: &[Row], row: Row) -> bool
     requires { Sound book.now × (points_named (book_of book.now) ≡ true) }
     ensures { result ≡ passes (unknown Table.Block row (book_of book.now)) }
 {
-    if !finds(book, Table::Block, 0, row) {
-        return false;
-    }
-    if !finds(book, Table::Block, 1, row) {
-        return false;
-    }
-    if !finds(book, Table::Block, 3, row) {
-        return false;
-    }
-    finds(book, Table::Block, 5, row)
+    finds(book, Table::Block, 0, row)
+        && finds(book, Table::Block, 1, row)
+        && finds(book, Table::Block, 3, row)
+        && finds(book, Table::Block, 5, row)
 }
 
 // 10: the first reference that finds no row, one by one.
@@ -113,16 +98,12 @@ fn first_unknown(book: &[Row], t: Table, row: Row) -> Check
     requires { Sound book.now }
     ensures { result ≡ unknown t row (book_of book.now) }
 {
-    let n = t.references();
-    let mut check = Check::Passes;
-    let mut i = 0;
-    'references: while i < n {
+    let mut check = Ok(());
+    'references: for i in 0..t.references() {
         if !finds(book, t, i, row) {
-            let column = t.reference(i).column;
-            check = Check::no_row(column as u64);
+            check = Err(Fault::no_row(t.reference(i).column as u64));
             break 'references;
         }
-        i += 1;
     }
     check
 }
@@ -132,13 +113,8 @@ pub fn unknown_reference(book: &[Row], t: Table, row: Row) -> Check
     requires { Sound book.now × Referable t (book_of book.now) }
     ensures { result ≡ unknown t row (book_of book.now) }
 {
-    match t {
-        Table::Block => {
-            if block_finds(book, row) {
-                return Check::Passes;
-            }
-            first_unknown(book, t, row)
-        }
-        _ => first_unknown(book, t, row),
+    if t == Table::Block && block_finds(book, row) {
+        return Ok(());
     }
+    first_unknown(book, t, row)
 }

@@ -2,8 +2,8 @@
 // applied; or the first fault.
 #![tactic(auto)]
 
-use editions::Edition;
-use refusals::{Check, Place, Verdict};
+use phrases::Refusal;
+use refusals::{Fault, Place};
 use rows::{NO_ROW, ROWS, Row};
 use std::io;
 use tables::{BOOK_ROWS, Table};
@@ -11,37 +11,12 @@ use tables::{BOOK_ROWS, Table};
 // The arguments behind an edition: the first day and the last.
 const DAYS_ASKED: usize = 2;
 
-fn say(rt: &impl Print, bytes: &[u8]) -> io::Result<()> {
-    rt.write_all(bytes)
-}
-
-fn tell(rt: &impl Eprint, words: &str) -> io::Result<()> {
-    rt.eprint(words)
-}
-
-fn number(rt: &impl Print, n: u64) -> io::Result<()> {
-    say(rt, b"\t")?;
-    rt.print(n)
-}
-
-// `X` with number, table, line, column.
-fn refuse(rt: &impl Print, p: Place) -> io::Result<()> {
-    say(rt, b"X")?;
-    number(rt, p.number)?;
-    number(rt, p.table)?;
-    number(rt, p.line)?;
-    number(rt, p.column)?;
-    say(rt, b"\n")
-}
-
 // What is wrong with an end of the span, in words.
 fn tell_day(rt: &impl Eprint, day: u64, which: &str) -> io::Result<()> {
-    if !dates::is_date(day) {
-        tell(rt, "season: ")?;
-        tell(rt, which)?;
-        tell(rt, " is no date, YYYYMMDD, of the years 1600 to 9999\n")?;
+    if dates::is_date(day) {
+        return Ok(());
     }
-    Ok(())
+    eprintln!(rt; "season: {which} is no date, YYYYMMDD, of the years 1600 to 9999")
 }
 
 // One line a type by rising key: version, number, seconds in the span. (An accepted delivery and slip leave a book that keeps the book rule; it is
@@ -50,55 +25,36 @@ fn tell_types(rt: &impl Print, book: &[Row], first: u64, last: u64) -> io::Resul
     if !keeping::keeps_rule(book) {
         return Ok(());
     }
-    let n = book::count_rows(book, Table::VehicleType);
-    let mut i = 0;
-    'types: while i < n {
-        let row = book::row_at(book, Table::VehicleType, i);
-        say(rt, b"T")?;
-        number(rt, row[0])?;
-        number(rt, row[1])?;
-        number(rt, seasons::season_of(book, row[0], row[1], first, last))?;
-        say(rt, b"\n")?;
-        i += 1;
+    for row in book::rows_of(book, Table::VehicleType) {
+        let [version, number, ..] = *row;
+        let seconds = seasons::season_of(book, version, number, first, last);
+        println!(rt; "T\t{version}\t{number}\t{seconds}")?;
     }
     Ok(())
 }
 
 // 23, or the types.
 fn season(rt: &(impl Print + Eprint), book: &[Row], first: u64, last: u64) -> io::Result<()> {
-    if !dates::is_date(first) || !dates::is_date(last) {
-        tell_day(rt, first, "FIRST")?;
-        tell_day(rt, last, "LAST")?;
-        let verdict = Check::no_date().on(Place::NO_TABLE, Place::NO_LINE);
-        return match verdict {
-            Verdict::Accepted => Ok(()),
-            Verdict::Refused(p) => refuse(rt, p),
-        };
+    if dates::is_date(first) && dates::is_date(last) {
+        return tell_types(rt, book, first, last);
     }
-    tell_types(rt, book, first, last)
-}
-
-fn tell_edition(rt: &impl Eprint, edition: u64) -> io::Result<()> {
-    match edition {
-        Edition::BY_21 => Ok(()),
-        Edition::BY_23 => Ok(()),
-        _ => tell(rt, "season: this edition is not known: 2.1 or 2.3\n"),
-    }
+    tell_day(rt, first, "FIRST")?;
+    tell_day(rt, last, "LAST")?;
+    rt.println(Refusal(Fault::no_date().on(Place::NO_TABLE, Place::NO_LINE)))
 }
 
 fn main(rt: HostRuntime) -> io::Result<()> {
     let edition = options::edition_before(&rt, DAYS_ASKED);
-    tell_edition(&rt, edition)?;
+    phrases::tell_no_edition(&rt, "season", edition)?;
     let mut book = [NO_ROW; BOOK_ROWS];
     let mut work = [NO_ROW; ROWS];
-    let verdict = folder::day(&rt, edition, &mut book, &mut work);
-    match verdict {
-        Verdict::Accepted => season(
+    match folder::day(&rt, edition, &mut book, &mut work) {
+        Ok(()) => season(
             &rt,
             &book,
             options::day_asked(&rt, 2),
             options::day_asked(&rt, 1),
         ),
-        Verdict::Refused(p) => refuse(&rt, p),
+        Err(p) => rt.println(Refusal(p)),
     }
 }

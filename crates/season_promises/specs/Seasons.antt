@@ -1,9 +1,8 @@
 -- What request 7/13, counting by calendar, asks, as statements over the definitions. Each is a type; whoever has an element of it has a proof.
-use Rattle.std.specs.Prelude.{◌≡◌, List, [], ◌∷◌, true, false, ◌&&◌, not, ℕ, suc, ◌+◌, ◌≤◌, ◌<◌, length}
+use Rattle.std.specs.Prelude.{◌≡◌, List, [], ◌∷◌, true, false, ◌&&◌, not, ℕ, suc, ◌+◌, ◌≤◌, ◌<◌, length, Some}
 use Rattle.words.specs.Words.{Bytes, Row}
 use Rattle.refusals.specs.Verdicts.{◌when◌, ◌before◌, nowhere, not_there, no_date}
 use Rattle.editions.specs.Editions.{choice}
-use Rattle.editions.specs.declared.Choice.TheVariants.{Chosen}
 use Rattle.editions.specs.declared.Edition.{Edition}
 use Rattle.dates.specs.Calendar.{is_date}
 use Rattle.rows.specs.Rows.{stands}
@@ -38,7 +37,7 @@ SeasonsAnswered = (e : Edition) (d : Delivery) (b : Book) (version type first la
 -- as behind a reading afresh of the delivery with its block rows as the accepted slips leave them
 abbrev pub SeasonsAfresh : Type 0
 SeasonsAfresh = (n : ℕ) (e : Edition) (d : Delivery) (b : Book) (ss : List Bytes) (book work : List Row) (version type first last : ℕ) →
-    choice n ≡ Chosen e → reading e d ≡ leaves b → length book ≡ book_rows → length work ≡ work_rows →
+    choice n ≡ Some e → reading e d ≡ leaves b → length book ≡ book_rows → length work ≡ work_rows →
     season_call (slips_called ss (read_call n d book).book work) version type first last
     ≡ season_call (read_call n (with_blocks (written (run ss b)) d) book).book version type first last
 

@@ -4,9 +4,8 @@ use mathlib.Core.List.{List, [], ◌∷◌}
 use mathlib.Core.Bool.{true, false, ◌&&◌}
 use Prim.Native.Nat.{ℕ}
 use Rattle.words.specs.Words.{Row}
-use Rattle.refusals.specs.Verdicts.{nowhere, bad_loan, not_there, no_date}
-use Rattle.refusals.specs.declared.Verdict.{Verdict}
-use Rattle.refusals.specs.declared.Verdict.TheVariants.{Accepted, Refused}
+use Rattle.refusals.specs.Verdicts.{nowhere, bad_loan, not_there, no_date, Verdict}
+use Rattle.std.specs.Prelude.{Ok, Err}
 use Rattle.dates.specs.Calendar.{is_date}
 use Rattle.rows.specs.Rows.{wide}
 use Rattle.tables.specs.declared.Table.TheVariants.{VehicleType}
@@ -19,8 +18,8 @@ use Rattle.seasons.specs.Calls.{season_answered, season_call}
 use Rattle.seasons.specs.declared.SeasonAnswer.{SeasonAnswer}
 
 pub season_refused : (v : Verdict) → ◌≡◌ {A = SeasonAnswer} (record { verdict = v; seconds = 0 }) (season_answered v 0)
-season_refused Accepted = refl
-season_refused (Refused p) = refl
+season_refused (Ok _) = refl
+season_refused (Err p) = refl
 
 module _ (xs : List Row) (version type first last : ℕ) where
   abbrev type_key : Row
@@ -38,5 +37,5 @@ module _ (xs : List Row) (version type first last : ℕ) where
       season_dateless d = rw (e, sym (stands_wide 2 type_key (book_of xs).types) ∙ f, d)
 
       pub season_there : (is_date first && is_date last) ≡ true
-          → season_answered Accepted (season first last version type (book_of xs).blocks (book_of xs).days) ≡ season_call xs version type first last
+          → season_answered (Ok tt) (season first last version type (book_of xs).blocks (book_of xs).days) ≡ season_call xs version type first last
       season_there d = rw (e, sym (stands_wide 2 type_key (book_of xs).types) ∙ f, d)

@@ -107,11 +107,12 @@ module _ (first last version : ℕ) (shares days : List Row) where
   sofar_none = record { bound = omega arith; whole = omega arith }
 
   module _ (i sum : ℕ) (sofar : Sofar first last version shares days i sum) where
-    pub sofar_next : i < length days → (day : Row) → day ≡ get_or days i [] → ((kind : ℕ) → held kind shares ≤ 512 * 999999)
-        → (d : ℕ) → d ≡ on_day first last version shares day → Sofar first last version shares days (i + 1) (sum + d)
+    pub sofar_next : i < length days → ((kind : ℕ) → held kind shares ≤ 512 * 999999)
+        → (d : ℕ) → d ≡ on_day first last version shares (get_or days i []) → Sofar first last version shares days (i + 1) (sum + d)
     unfolding on_days
-    sofar_next h day e most d g =
-        let step : on_days first last version shares (drop i days) ≡ d + on_days first last version shares (drop (i + 1) days) = rw (drop_step [] days i h, g, e) in
+    sofar_next h most d g =
+        let day : Row = get_or days i [] in
+        let step : on_days first last version shares (drop i days) ≡ d + on_days first last version shares (drop (i + 1) days) = rw (drop_step [] days i h, g) in
         let l : d ≤ 512 * 999999 = rw g (few (in_span first last version day) (held (column 3 day) shares) (most (column 3 day))) in
         let p : 512 * 999999 * (i + 1) ≡ 512 * 999999 * i + 512 * 999999 = rw (add-one i) (mul-suc (512 * 999999) i) in
         record { bound = omega (arith, sofar.bound); whole = omega (arith, sofar.whole) }

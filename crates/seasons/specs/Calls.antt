@@ -1,9 +1,7 @@
 -- What the question for a season answers. Nothing that is lent to it changes.
-use Rattle.std.specs.Prelude.{◌≡◌, List, [], ◌∷◌, ◌&&◌, not, ℕ}
+use Rattle.std.specs.Prelude.{◌≡◌, List, [], ◌∷◌, ◌&&◌, not, ℕ, Ok, Err}
 use Rattle.words.specs.Words.{Row}
-use Rattle.refusals.specs.Verdicts.{◌when◌, ◌before◌, nowhere, no_date}
-use Rattle.refusals.specs.declared.Verdict.{Verdict}
-use Rattle.refusals.specs.declared.Verdict.TheVariants.{Accepted, Refused}
+use Rattle.refusals.specs.Verdicts.{◌when◌, ◌before◌, nowhere, no_date, Verdict}
 use Rattle.dates.specs.Calendar.{is_date}
 use Rattle.tables.specs.declared.Table.TheVariants.{VehicleType}
 use Rattle.book.specs.Book.{knows}
@@ -14,8 +12,8 @@ use Rattle.seasons.specs.declared.SeasonAnswer.{SeasonAnswer}
 
 -- "every refusal zeros for numbers"
 abbrev pub season_answered : Verdict → ℕ → SeasonAnswer
-season_answered Accepted seconds = record { verdict = Accepted; seconds = seconds }
-season_answered (Refused p) seconds = record { verdict = Refused p; seconds = 0 }
+season_answered (Ok _) seconds = record { verdict = Ok tt; seconds = seconds }
+season_answered (Err p) seconds = record { verdict = Err p; seconds = 0 }
 
 -- "Ask with a first and a last day, both included, and get per vehicle type the sum"; "a span end that is no such date is 23, after 16 and 15"
 abbrev pub season_call : List Row → ℕ → ℕ → ℕ → ℕ → SeasonAnswer

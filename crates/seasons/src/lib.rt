@@ -1,7 +1,7 @@
 // What a type's blocks run in a season: from a first day to a last one, by the calendar.
 #![tactic(auto)]
 
-ghost use Rattle.std.specs.Prelude.{◌≡◌, true, ◌&&◌, ℕ, ◌*◌, ◌≤◌, ◌<◌, length};
+ghost use Rattle.std.specs.Prelude.{Err, ◌≡◌, true, ◌&&◌, ℕ, ◌*◌, ◌≤◌, ◌<◌, length};
 ghost use Rattle.refusals.specs.Verdicts.{nowhere};
 ghost use Rattle.dates.specs.Calendar.{is_date};
 ghost use Rattle.book.specs.Room.{book_of};
@@ -12,7 +12,7 @@ ghost use Rattle.seasons.specs.Calls.{season_answered, SeasonPermits};
 ghost use Rattle.seasons.specs.Summing.{on_day, on_days};
 
 use day_tally::{SHARES, Share};
-use refusals::{Check, Place, Verdict};
+use refusals::{Fault, Place, Verdict};
 use rows::Row;
 use tables::Table;
 
@@ -28,10 +28,11 @@ fn on_day(tally: &[Share], at: usize, day: Row, version: u64, first: u64, last: 
     requires { Rises tally.now at × (at < length tally.now) }
     ensures { result ≡ on_day first last version (shares tally.now at) day }
 {
-    if !day_tally::in_span(day, version, first, last) {
-        return 0;
+    if day_tally::in_span(day, version, first, last) {
+        day_tally::seconds_on(tally, at, day[2])
+    } else {
+        0
     }
-    day_tally::seconds_on(tally, at, day[2])
 }
 
 // What a tally's blocks run on all days of the calendar. 512 blocks of less than 1,000,000 seconds on 800 days stay below 2 to the 39th.
@@ -39,13 +40,10 @@ fn days_summed(book: &[Row], tally: &[Share], at: usize, version: u64, first: u6
     requires { (keeps_rule book.now ≡ true) × Rises tally.now at × (at < length tally.now) × ((kind : ℕ) → held kind (shares tally.now at) ≤ 512 * 999999) }
     ensures { result ≡ on_days first last version (shares tally.now at) (book_of book.now).days }
 {
-    let n = book::count_rows(book, Table::Calendar);
+    let days = book::rows_of(book, Table::Calendar);
     let mut sum: u64 = 0;
-    let mut i = 0;
-    'days: while i < n {
-        let day = book::row_at(book, Table::Calendar, i);
-        sum += on_day(tally, at, day, version, first, last);
-        i += 1;
+    for day in days {
+        sum += on_day(tally, at, *day, version, first, last);
     }
     sum
 }
@@ -65,19 +63,15 @@ pub fn season_of(book: &[Row], version: u64, number: u64, first: u64, last: u64)
 fn are_dates(first: u64, last: u64) -> bool
     ensures { result ≡ (is_date first && is_date last) }
 {
-    if !dates::is_date(first) {
-        return false;
-    }
-    dates::is_date(last)
+    dates::is_date(first) && dates::is_date(last)
 }
 
 // A refusal with zero for its number.
-fn no_season(check: Check) -> SeasonAnswer
-    ensures { result ≡ season_answered (nowhere check) 0 }
+fn no_season(fault: Fault) -> SeasonAnswer
+    ensures { result ≡ season_answered (nowhere (Err fault)) 0 }
 {
-    let verdict = check.on(Place::NO_TABLE, Place::NO_LINE);
     SeasonAnswer {
-        verdict,
+        verdict: Err(fault.on(Place::NO_TABLE, Place::NO_LINE)),
         seconds: 0,
     }
 }
@@ -87,17 +81,17 @@ pub fn season_answer(book: &[Row], version: u64, number: u64, first: u64, last: 
     ensures { SeasonPermits book.now version number first last result }
 {
     if !keeping::keeps_rule(book) {
-        return no_season(Check::bad_loan());
+        return no_season(Fault::bad_loan());
     }
     if !book::knowing(book, Table::VehicleType, book::key(version, number)) {
-        return no_season(Check::not_there());
+        return no_season(Fault::not_there());
     }
     if !are_dates(first, last) {
-        return no_season(Check::no_date());
+        return no_season(Fault::no_date());
     }
     let seconds = season_of(book, version, number, first, last);
     SeasonAnswer {
-        verdict: Verdict::Accepted,
+        verdict: Ok(()),
         seconds,
     }
 }

@@ -1,7 +1,7 @@
 // The day sheet, written.
 #![tactic(auto)]
 
-ghost use Rattle.std.specs.Prelude.{◌≡◌, [], ◌∷◌, ◌++◌, map, true, ℕ, ◌+◌, ◌≤◌, ◌<◌, ◌*◌, length, get_or};
+ghost use Rattle.std.specs.Prelude.{◌≡◌, [], ◌∷◌, ◌++◌, map, true, ℕ, ◌+◌, ◌≤◌, ◌<◌, ◌*◌, length};
 ghost use Rattle.words.specs.Words.{bytes};
 ghost use Rattle.numbers.specs.Putting.{put};
 ghost use Rattle.rows.specs.Room.{most_rows};
@@ -12,7 +12,7 @@ ghost use Rattle.writer.specs.Calls.{outcome, wrote};
 ghost use Rattle.sheet.specs.Sheet.{sheet_line, type_line, sheet_text, refusal_text};
 ghost use Rattle.sheet.specs.Calls.{short_for, SheetPermits};
 
-use refusals::{Check, Place, Verdict};
+use refusals::{Fault, Place, Verdict};
 use rows::Row;
 use tables::Table;
 use writer::Written;
@@ -43,12 +43,11 @@ fn write_line(out: &mut [u8], letter: u8, numbers: &[u64]) -> usize
     2 + number_lines::write_numbers(&mut out[2..], numbers, TAB)
 }
 
-// What the line of the type at place i says: version, number, seconds, count.
-fn type_numbers(book: &[Row], i: usize) -> [u64; 4]
-    requires { (keeps_rule book.now ≡ true) × (i < length (book_of book.now).types) }
-    ensures { type_line (book_of book.now).blocks (get_or (book_of book.now).types i []) ≡ sheet_line (bytes "T") result }
+// What the line of a type says: version, number, seconds, count.
+fn type_numbers(book: &[Row], row: Row) -> [u64; 4]
+    requires { keeps_rule book.now ≡ true }
+    ensures { type_line (book_of book.now).blocks row ≡ sheet_line (bytes "T") result }
 {
-    let row = book::row_at(book, Table::VehicleType, i);
     let version = row[0];
     let number = row[1];
     let sums = questions::blocks_summed(book, version, number);
@@ -56,30 +55,26 @@ fn type_numbers(book: &[Row], i: usize) -> [u64; 4]
 }
 
 // How long the lines of all types are; and the lines, each at the place the last one ended.
-fn types_length(book: &[Row], n: usize) -> usize
-    requires { (keeps_rule book.now ≡ true) × (n ≡ length (book_of book.now).types) }
+fn types_length(book: &[Row], types: &[Row]) -> usize
+    requires { (keeps_rule book.now ≡ true) × (types.now ≡ (book_of book.now).types) }
     ensures { (result ≡ length (lines_written (map (type_line (book_of book.now).blocks) (book_of book.now).types))) × (result ≤ most_rows * 86) }
 {
     let mut size = 0;
-    let mut i = 0;
-    'types: while i < n {
-        let numbers = type_numbers(book, i);
+    for row in types {
+        let numbers = type_numbers(book, *row);
         size += line_length(&numbers);
-        i += 1;
     }
     size
 }
 
-fn write_types(out: &mut [u8], book: &[Row], n: usize) -> usize
-    requires { (keeps_rule book.now ≡ true) × (n ≡ length (book_of book.now).types) × (length (lines_written (map (type_line (book_of book.now).blocks) (book_of book.now).types)) ≤ length out.old) }
+fn write_types(out: &mut [u8], book: &[Row], types: &[Row]) -> usize
+    requires { (keeps_rule book.now ≡ true) × (types.now ≡ (book_of book.now).types) × (length (lines_written (map (type_line (book_of book.now).blocks) (book_of book.now).types)) ≤ length out.old) }
     ensures { (result ≡ length (lines_written (map (type_line (book_of book.now).blocks) (book_of book.now).types))) × (out.new ≡ put (lines_written (map (type_line (book_of book.now).blocks) (book_of book.now).types)) out.old) }
 {
     let mut at = 0;
-    let mut written = 0;
-    'types: while written < n {
-        let numbers = type_numbers(book, written);
+    for row in types {
+        let numbers = type_numbers(book, *row);
         at += write_line(&mut out[at..], TYPE, &numbers);
-        written += 1;
     }
     at
 }
@@ -89,17 +84,17 @@ fn write_sheet(book: &[Row], out: &mut [u8]) -> Written
     requires { keeps_rule book.now ≡ true }
     ensures { outcome result.verdict result.size out.new ≡ wrote (short_for (sheet_text (book_of book.now)) out.old) (sheet_text (book_of book.now)) out.old }
 {
-    let types = book::count_rows(book, Table::VehicleType);
-    let blocks = book::count_rows(book, Table::Block);
-    let sums = [types as u64, blocks as u64];
+    let types = book::rows_of(book, Table::VehicleType);
+    let blocks = book::rows_of(book, Table::Block);
+    let sums = [types.len() as u64, blocks.len() as u64];
     let size = types_length(book, types) + line_length(&sums);
     if out.len() < size {
-        return writer::unwritten(Check::output_short());
+        return writer::unwritten(Fault::output_short());
     }
     let at = write_types(out, book, types);
     write_line(&mut out[at..], SUMS, &sums);
     Written {
-        verdict: Verdict::Accepted,
+        verdict: Ok(()),
         size,
     }
 }
@@ -111,11 +106,11 @@ fn write_refusal(place: Place, out: &mut [u8]) -> Written
     let numbers = [place.number, place.table, place.line, place.column];
     let size = line_length(&numbers);
     if out.len() < size {
-        return writer::unwritten(Check::output_short());
+        return writer::unwritten(Fault::output_short());
     }
     write_line(out, REFUSAL, &numbers);
     Written {
-        verdict: Verdict::Accepted,
+        verdict: Ok(()),
         size,
     }
 }
@@ -125,12 +120,12 @@ pub fn day_sheet(verdict: Verdict, book: &[Row], out: &mut [u8]) -> Written
     ensures { SheetPermits verdict book.now out.old (outcome result.verdict result.size out.new) }
 {
     match verdict {
-        Verdict::Accepted => {
+        Ok(()) => {
             if !keeping::keeps_rule(book) {
-                return writer::unwritten(Check::bad_loan());
+                return writer::unwritten(Fault::bad_loan());
             }
             write_sheet(book, out)
         }
-        Verdict::Refused(place) => write_refusal(place, out),
+        Err(place) => write_refusal(place, out),
     }
 }

@@ -8,7 +8,7 @@ use native.Mathlib.Nat.{not-suc-le-zero, add-zero}
 use lib.ListN.{length, get_or, take, drop, length-map, set, length-append, take-append-drop, length-take, length-drop, length-set}
 use lib.Seq.{drop-drop, get_or-drop, length-take-le, get_or-take, get_or-set_other, get_or-set_same, take_at, set_at, split_at, take-add, drop_at}
 use Rattle.words.specs.Words.{Row}
-use Rattle.rows.specs.declared.Spot.TheVariants.{At, Gap}
+use Rattle.std.specs.Prelude.{Ok, Err}
 use Rattle.rows.specs.Rows.{inserted, replaced, removed}
 use Rattle.rows.specs.Spots.{spot}
 use Rattle.rows.proofs.Places.{at_replaced, at_removed, gap_inserted}
@@ -252,7 +252,7 @@ module _ (slots : List Row) (order : List ℕ) (n : ℕ) (shelf : Shelf slots or
         ∙ set_both slots front free middle rest at n (length_order_front h) both row apart_put free_within
         ∙ rw (put_before, take_at, drop_at)
 
-    pub put_inserted : (k : ℕ) → spot k row (shelved slots order n) ≡ Gap at → shelved slots' order' (suc n) ≡ inserted k row (shelved slots order n)
+    pub put_inserted : (k : ℕ) → spot k row (shelved slots order n) ≡ Err at → shelved slots' order' (suc n) ≡ inserted k row (shelved slots order n)
     put_inserted k e = put_shelved ∙ sym (gap_inserted k row (shelved slots order n) at e)
 
   -- an order whose slot at a place is used
@@ -314,7 +314,7 @@ module _ (slots : List Row) (order : List ℕ) (n : ℕ) (shelf : Shelf slots or
         ∙ set_both slots front (slot h) (later h) (unused h) at (n - 1) (first h) (without h) row (apart_now h) (slot_in h)
         ∙ sym (ap (λ (r : List Row). set r at row) (rows_now h slots) ∙ set_at (rows_at slots front) _ _ row at (length_now h))
 
-    pub set_replaced : (k : ℕ) → spot k row (shelved slots order n) ≡ At at → shelved slots' order n ≡ replaced k row (shelved slots order n)
+    pub set_replaced : (k : ℕ) → spot k row (shelved slots order n) ≡ Ok at → shelved slots' order n ≡ replaced k row (shelved slots order n)
     set_replaced k e = set_shelved ∙ sym (at_replaced k row (shelved slots order n) at e)
 
   module _ (h : at < n) (order' : List ℕ) (o : order' ≡ taken_out n at (get_or order at 0) order) where
@@ -339,5 +339,5 @@ module _ (slots : List Row) (order : List ℕ) (n : ℕ) (shelf : Shelf slots or
     free_shelved =
         rw (o, free_first, free_later) (without_it slots front (slot h) (later h) (unused h) at (n - 1) (first h) (without h))
 
-    pub free_removed : (k : ℕ) → spot k row (shelved slots order n) ≡ At at → shelved slots order' (n - 1) ≡ removed k row (shelved slots order n)
+    pub free_removed : (k : ℕ) → spot k row (shelved slots order n) ≡ Ok at → shelved slots order' (n - 1) ≡ removed k row (shelved slots order n)
     free_removed k e = free_shelved ∙ sym (at_removed k row (shelved slots order n) at e)

@@ -7,47 +7,52 @@ ghost use Rattle.rows.specs.Spots.{spot};
 ghost use Rattle.rows.specs.Room.{filled, used};
 ghost use Rattle.shelf.specs.Shelf.{up_from, shelved, Shelf};
 
-use rows::{Order, Row, Spot};
+use rows::Row;
+use std::cmp::Ordering;
 
 // The order of a shelf on which nothing has moved: no more slots than two bytes tell apart.
 pub fn number_slots(order: &mut [u16])
     requires { length order.old ≤ 2 ^ 16 }
     ensures { order.new ≡ up_from 0 (length order.old) }
 {
-    let mut i = 0;
-    'slots: while i < order.len() {
-        order[i] = i as u16;
-        i += 1;
+    for (i, slot) in order.iter_mut().enumerate() {
+        *slot = i as u16;
     }
 }
 
-// Where a key stands on a shelf, or would stand. (By halving; rows mostly come by rising or falling key, so the last and the first one are looked at
+// Where a key stands on a shelf (`Ok`), or would stand (`Err`). (By halving; rows mostly come by rising or falling key, so the last and the first one are looked at
 // before.)
-pub fn seek_slot(slots: &[Row], order: &[u16], n: usize, k: usize, row: &Row) -> Spot
+pub fn seek_slot(
+    slots: &[Row],
+    order: &[u16],
+    n: usize,
+    k: usize,
+    row: &Row,
+) -> Result<usize, usize>
     requires { Shelf slots.now order.now n × (rising k (shelved slots.now order.now n) ≡ true) }
     ensures { result ≡ spot k row.now (shelved slots.now order.now n) }
 {
     let mut low = 0;
     let mut high = n;
-    let mut probe = if 0 < n { n - 1 } else { 0 };
+    let mut probe = n.saturating_sub(1);
     let mut ends = true;
     'slots: while low < high {
-        let slot = order[probe] as usize;
+        let slot = usize::from(order[probe]);
         match rows::compare(row, &slots[slot], k) {
-            Order::Less => {
+            Ordering::Less => {
                 high = probe;
             }
-            Order::Same => {
-                return Spot::At(probe);
+            Ordering::Equal => {
+                return Ok(probe);
             }
-            Order::More => {
+            Ordering::Greater => {
                 low = probe + 1;
             }
         }
         probe = if ends { low } else { low + ((high - low) >> 1) };
         ends = false;
     }
-    Spot::Gap(low)
+    Err(low)
 }
 
 // A row into the first free slot, which comes to place `at` of the order: the later ones move one further.
@@ -56,14 +61,8 @@ pub fn put_slot(slots: &mut [Row], order: &mut [u16], n: usize, at: usize, row: 
     ensures { (slots.new ≡ set slots.old (get_or order.old n 0) row) × (order.new ≡ take at order.old ++ (get_or order.old n 0 ∷ (take (n - at) (drop at order.old) ++ drop (suc n) order.old))) }
 {
     let slot = order[n];
-    slots[slot as usize] = row;
-    let mut i = n;
-    'slots: while at < i {
-        let before = order[i - 1];
-        order[i] = before;
-        i -= 1;
-    }
-    order[at] = slot;
+    slots[usize::from(slot)] = row;
+    order[at..n + 1].rotate_right(1);
 }
 
 // Another row into the slot at a place of the order.
@@ -71,7 +70,7 @@ pub fn set_slot(slots: &mut [Row], order: &[u16], n: usize, at: usize, row: Row)
     requires { Shelf slots.old order.now n × (at < n) }
     ensures { slots.new ≡ set slots.old (get_or order.now at 0) row }
 {
-    let slot = order[at] as usize;
+    let slot = usize::from(order[at]);
     slots[slot] = row;
 }
 
@@ -80,14 +79,7 @@ pub fn free_slot(order: &mut [u16], n: usize, at: usize)
     requires { (at < n) × (n ≤ length order.old) }
     ensures { order.new ≡ take at order.old ++ (take (n - suc at) (drop (suc at) order.old) ++ (get_or order.old at 0 ∷ drop n order.old)) }
 {
-    let slot = order[at];
-    let mut i = at + 1;
-    'slots: while i < n {
-        let next = order[i];
-        order[i - 1] = next;
-        i += 1;
-    }
-    order[n - 1] = slot;
+    order[at..n].rotate_left(1);
 }
 
 // The rows of a shelf by rising key into a list of its size, and zeros behind them. Behind the rows that the list had they stand already.
@@ -96,12 +88,10 @@ pub fn lay_out(slots: &[Row], order: &[u16], n: usize, list: &mut [Row])
     ensures { list.new ≡ filled (length list.old) (shelved slots.now order.now n) }
 {
     let before = rows::count(&list[..]);
-    let mut i = 0;
-    'slots: while i < n {
-        let slot = order[i] as usize;
+    for i in 0..n {
+        let slot = usize::from(order[i]);
         let next = slots[slot];
         list[i] = next;
-        i += 1;
     }
     if n < before {
         rows::clear(&mut list[n..before]);

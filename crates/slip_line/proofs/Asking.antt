@@ -8,9 +8,9 @@ use lib.Dec.{eqb, lit≤}
 use lib.ListN.{length, get_or}
 use borrow.Author.Tests.{eqb-true, ne_eqb}
 use Rattle.words.specs.Words.{Bytes, same, bytes, whether◌then◌else◌, Row}
-use Rattle.refusals.specs.Verdicts.{◌⊳◌}
-use Rattle.refusals.specs.declared.Check.{Check}
-use Rattle.refusals.specs.declared.Check.TheVariants.{Passes, Fails}
+use Rattle.words.proofs.Lists.{same_length}
+use Rattle.refusals.specs.Verdicts.{◌⊳◌, Check}
+use Rattle.std.specs.Prelude.{Ok, Err}
 use Rattle.cells.proofs.Marking.{Stands}
 use Rattle.numbers.specs.Numbers.{value}
 use Rattle.fields.specs.Fields.{fields}
@@ -27,7 +27,7 @@ use Rattle.slip_line.specs.Marks.{FieldsOf, fields_read}
 
 -- kinds -------------------------------------------------------------------------------------------------------------------------
 
-pub one_byte : (f : Bytes) (b : ℕ) → length f ≡ 1 → eqb (get_or f 0 0) b ≡ same f (b ∷ [])
+one_byte : (f : Bytes) (b : ℕ) → length f ≡ 1 → eqb (get_or f 0 0) b ≡ same f (b ∷ [])
 unfolding same
 one_byte [] b e = absurd (omega arith)
 one_byte (x ∷ []) b e = go (eqb x b)
@@ -38,21 +38,26 @@ one_byte (x ∷ []) b e = go (eqb x b)
 one_byte (x ∷ (y ∷ ys)) b e = absurd (omega arith)
 
 module _ (f : Bytes) where
-  pub letter_add : same f (65 ∷ []) ≡ true → Add ≡ letter f
+  pub letter_other : (length f ≡ 1 → ⊥) → Unknown ≡ letter f
   unfolding bytes
-  letter_add e = rw e
+  letter_other n = rw (same_length f (65 ∷ []) n, same_length f (82 ∷ []) n, same_length f (68 ∷ []) n)
 
-  pub letter_replace : same f (65 ∷ []) ≡ false → same f (82 ∷ []) ≡ true → Replace ≡ letter f
-  unfolding bytes
-  letter_replace a e = rw (a, e)
+  module _ (n : length f ≡ 1) where
+    pub letter_add : get_or f 0 0 ≡ 65 → Add ≡ letter f
+    unfolding bytes
+    letter_add e = rw (← one_byte f 65 n, e)
 
-  pub letter_delete : same f (65 ∷ []) ≡ false → same f (82 ∷ []) ≡ false → same f (68 ∷ []) ≡ true → Delete ≡ letter f
-  unfolding bytes
-  letter_delete a r e = rw (a, r, e)
+    pub letter_replace : get_or f 0 0 ≡ 82 → Replace ≡ letter f
+    unfolding bytes
+    letter_replace e = rw (← one_byte f 65 n, ← one_byte f 82 n, e)
 
-  pub letter_unknown : same f (65 ∷ []) ≡ false → same f (82 ∷ []) ≡ false → same f (68 ∷ []) ≡ false → Unknown ≡ letter f
-  unfolding bytes
-  letter_unknown a r e = rw (a, r, e)
+    pub letter_delete : get_or f 0 0 ≡ 68 → Delete ≡ letter f
+    unfolding bytes
+    letter_delete e = rw (← one_byte f 65 n, ← one_byte f 82 n, ← one_byte f 68 n, e)
+
+    pub letter_unknown : (get_or f 0 0 ≡ 65 → ⊥) → (get_or f 0 0 ≡ 82 → ⊥) → (get_or f 0 0 ≡ 68 → ⊥) → Unknown ≡ letter f
+    unfolding bytes
+    letter_unknown a r d = rw (← one_byte f 65 n, ← one_byte f 82 n, ← one_byte f 68 n, ne_eqb _ _ a, ne_eqb _ _ r, ne_eqb _ _ d)
 
 wish_first : (fs : List Bytes) → 1 ≤ length fs → wish fs ≡ counted (letter (get_or fs 0 [])) (length fs - 1)
 wish_first [] h = absurd (omega arith)
@@ -120,5 +125,5 @@ pub read_then : (ed : Edition) (f : Row → Check) (fs : List Bytes) (j : Judged
 read_then ed f fs j e g = rw e (go (bad_field ed fs))
   where
     go : (q : Check) → (rowed q (wide (map value fs))).check ⊳ f (rowed q (wide (map value fs))).row ≡ q ⊳ f (map value fs)
-    go Passes = g
-    go (Fails n k) = refl
+    go (Ok _) = g
+    go (Err f) = refl

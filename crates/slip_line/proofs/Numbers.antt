@@ -11,23 +11,21 @@ use lib.Dec.{lit<}
 use Rattle.words.specs.Words.{Bytes, Row}
 use Rattle.words.proofs.Lists.{drop_step, map_set}
 use Rattle.refusals.proofs.Chaining.{both}
-use Rattle.refusals.specs.declared.Check.{Check}
-use Rattle.refusals.specs.Verdicts.{◌⊳◌}
-use Rattle.refusals.specs.declared.Check.TheVariants.{Passes, Fails}
+use Rattle.std.specs.Prelude.{Ok, Err}
+use Rattle.refusals.specs.Verdicts.{◌⊳◌, Check, fault}
 use Rattle.cells.proofs.Marking.{Stands}
 use Rattle.numbers.specs.Numbers.{value}
 use Rattle.fields.specs.Fields.{fields}
 use Rattle.fields.specs.declared.Fields.{Fields}
 use Rattle.fields.proofs.Cutting.{fields_some, field_stands}
 use Rattle.rows.specs.Rows.{wide, column}
-use Rattle.rows.specs.Room.{zeros}
 use Rattle.editions.specs.declared.Edition.{Edition}
 use Rattle.editions.specs.declared.Edition.TheVariants.{Dino21, Dino23}
 use Rattle.tables.specs.Columns.{columns_of, Column, column_at, no_column}
 use Rattle.tables.specs.declared.Table.TheVariants.{Block}
 use Rattle.tables.proofs.Figures.{version_low, kept_decimal, kept_required}
 use Rattle.values.specs.Values.{bad_cell, cell_check}
-use Rattle.values.specs.Judged.{breaks, value_of, check_of, rowed}
+use Rattle.values.specs.Judged.{breaks, value_of, check_of, rowed, unkept}
 use Rattle.values.specs.declared.Value.{Value}
 use Rattle.values.specs.declared.Value.TheVariants as value-is
 use Rattle.values.proofs.Values.{check_of_value, check_kept, kept_value, number_from}
@@ -72,23 +70,23 @@ module _ (ed : Edition) (fs : List Bytes) (few : length fs ≤ 11) (i : ℕ) whe
     field_check : q ≡ cell_check (i + 1) (column_at ed Block i).rules (get_or fs i [])
     field_check = checked ∙ ap (check_of (i + 1)) is ∙ check_of_value (i + 1) (column_at ed Block i).rules (get_or fs i [])
 
-    pub field_fault : (n k : ℕ) → q ≡ Fails n k → bad_from ed i fs ≡ Fails n k
+    pub field_fault : (n k : ℕ) → q ≡ Err (fault n k) → bad_from ed i fs ≡ Err (fault n k)
     field_fault n k e = bad_here in_row ∙ ap (λ (c : Check). c ⊳ bad_from ed (i + 1) fs) (sym field_check ∙ e)
 
-    pub field_passes : q ≡ Passes → bad_from ed i fs ≡ bad_from ed (i + 1) fs
+    pub field_passes : q ≡ Ok tt → bad_from ed i fs ≡ bad_from ed (i + 1) fs
     field_passes e = bad_here in_row ∙ ap (λ (c : Check). c ⊳ bad_from ed (i + 1) fs) (sym field_check ∙ e)
 
-    keeps : q ≡ Passes → breaks (column_at ed Block i).rules (get_or fs i []) ≡ false
+    keeps : q ≡ Ok tt → breaks (column_at ed Block i).rules (get_or fs i []) ≡ false
     keeps e = check_kept (i + 1) (column_at ed Block i).rules (get_or fs i []) (sym field_check ∙ e)
 
-    pub field_number : q ≡ Passes → v ≡ value-is.Number (value (get_or fs i []))
+    pub field_number : q ≡ Ok tt → v ≡ value-is.Number (value (get_or fs i []))
     field_number e = is ∙ kept_value ed Block i (omega arith) (get_or fs i []) (keeps e)
 
-  pub bad_end : length fs ≤ i → bad_from ed i fs ≡ Passes
+  pub bad_end : length fs ≤ i → bad_from ed i fs ≡ Ok tt
   unfolding bad_cell
   bad_end h = rw (drop_of_length-le fs {i = i} h) (none (drop i (columns_of ed Block)))
     where
-      none : (cs : List Column) → bad_cell (i + 1) cs [] ≡ Passes
+      none : (cs : List Column) → bad_cell (i + 1) cs [] ≡ Ok tt
       none [] = refl
       none (x ∷ cs) = refl
 
@@ -106,16 +104,16 @@ row_whole fs i e =
 
 -- what is answered of the fields
 module _ (q : Check) (row : Row) where
-  pub refused : (n k : ℕ) → q ≡ Fails n k → record { check = Fails n k; row = zeros } ≡ rowed q row
-  refused n k e = rw e
+  pub refused : (n k : ℕ) (check : Check) → check ≡ Err (fault n k) → q ≡ Err (fault n k) → unkept check ≡ rowed q row
+  refused n k check c e = rw (c, e)
 
-  pub passed : (l : Row) → q ≡ Passes → l ≡ row → record { check = Passes; row = l } ≡ rowed q row
+  pub passed : (l : Row) → q ≡ Ok tt → l ≡ row → record { check = Ok tt; row = l } ≡ rowed q row
   passed l e f = rw (e, f)
 
 -- a line whose fields pass names a VERSION of at least 1
-pub version_some : (ed : Edition) (fs : List Bytes) → 1 ≤ length fs → length fs ≤ 11 → bad_field ed fs ≡ Passes → 1 ≤ column 1 (map value fs)
+pub version_some : (ed : Edition) (fs : List Bytes) → 1 ≤ length fs → length fs ≤ 11 → bad_field ed fs ≡ Ok tt → 1 ≤ column 1 (map value fs)
 version_some ed [] h few e = absurd (omega arith)
 version_some ed (f ∷ fs) h few e =
-    let p : cell_check 1 (column_at ed Block 0).rules f ≡ Passes = (both (cell_check 1 (column_at ed Block 0).rules f) (bad_from ed 1 (f ∷ fs)) (sym (bad_here ed (f ∷ fs) few 0 (omega arith)) ∙ e)).0 in
+    let p : cell_check 1 (column_at ed Block 0).rules f ≡ (Ok tt) = (both (cell_check 1 (column_at ed Block 0).rules f) (bad_from ed 1 (f ∷ fs)) (sym (bad_here ed (f ∷ fs) few 0 (omega arith)) ∙ e)).0 in
     let k : breaks (column_at ed Block 0).rules f ≡ false = check_kept 1 (column_at ed Block 0).rules f p in
     omega (arith, version_low ed Block, number_from (column_at ed Block 0).rules f (kept_decimal ed Block 0 (lit< tt)) (kept_required ed Block 0 (lit< tt)) k)

@@ -1,7 +1,7 @@
 -- A line of a slip: what it asks for, and its numbers.
 use Rattle.std.specs.Prelude.{List, [], ◌∷◌, map, ℕ, eqb, length}
 use Rattle.words.specs.Words.{Bytes, whether◌then◌else◌, bytes, same, Row}
-use Rattle.refusals.specs.declared.Check.{Check}
+use Rattle.refusals.specs.Verdicts.{Check}
 use Rattle.numbers.specs.Numbers.{value}
 use Rattle.fields.specs.Fields.{fields}
 use Rattle.editions.specs.declared.Edition.{Edition}

@@ -8,12 +8,9 @@ use native.Mathlib.Numerals.{add-one}
 use lib.ListN.{take, drop, length}
 use borrow.Author.Tests.{eq-eqb, ne_eqb, lt-ltb, le-ltb}
 use Rattle.words.specs.Words.{Bytes, Row}
-use Rattle.refusals.specs.Verdicts.{placed, ◌when◌, nowhere, text_too_long, bad_loan}
+use Rattle.refusals.specs.Verdicts.{placed, ◌when◌, nowhere, text_too_long, bad_loan, Check, Verdict}
 use Rattle.refusals.specs.declared.Place.{Place}
-use Rattle.refusals.specs.declared.Check.{Check}
-use Rattle.refusals.specs.declared.Check.TheVariants.{Passes, Fails}
-use Rattle.refusals.specs.declared.Verdict.TheVariants.{Refused, Accepted}
-use Rattle.refusals.specs.declared.Verdict.{Verdict}
+use Rattle.std.specs.Prelude.{Ok, Err}
 use Rattle.refusals.proofs.Placing.{placed_passes}
 use Rattle.lines.specs.Lines.{slip_lines}
 use Rattle.lines.specs.declared.Line.{Line}
@@ -29,9 +26,9 @@ use Rattle.slips.specs.Taking.{behind}
 use Rattle.slips.specs.Calls.{outcome, work_sized, cleared, slip_outcome, slip_call}
 
 -- a check that is refused on its line does not pass
-placed_refused : (t i : ℕ) (c : Check) (p : Place) → placed t i c ≡ Refused p → c ≡ Passes → ⊥
-placed_refused t i Passes p e f = let z : ◌≡◌ {A = ℕ} 0 1 = cc in omega arith
-placed_refused t i (Fails n k) p e f = let z : ◌≡◌ {A = ℕ} 0 1 = cc in omega arith
+placed_refused : (t i : ℕ) (c : Check) (p : Place) → placed t i c ≡ Err p → c ≡ Ok tt → ⊥
+placed_refused t i (Ok _) p e f = let z : ◌≡◌ {A = ℕ} 0 1 = cc in omega arith
+placed_refused t i (Err w) p e f = let z : ◌≡◌ {A = ℕ} 0 1 = cc in omega arith
 
 -- line by line --------------------------------------------------------------------------------------------------------------------
 
@@ -44,19 +41,19 @@ module _ (s : Bytes) (at : ℕ) (here : Line) (from : LineFrom slip_lines s at h
   lines_here = ap (λ (ls : List Bytes). lines_posted i ls b) from.is ∙ rw (add-one i)
 
   module _ (c : Check) (v : Verdict) (is : c ≡ slip_check line_here_lem b) (on : v ≡ placed 5 i c) where
-    pub line_passes : v ≡ Accepted → c ≡ Passes
+    pub line_passes : v ≡ Ok tt → c ≡ Ok tt
     line_passes e = placed_passes 5 i c (sym on ∙ e)
 
-    pub line_fails : (p : Place) → v ≡ Refused p → c ≡ Passes → ⊥
+    pub line_fails : (p : Place) → v ≡ Err p → c ≡ Ok tt → ⊥
     line_fails p e = placed_refused 5 i c p (sym on ∙ e)
 
-    pub line_next : v ≡ Accepted → (b' : Book) → b' ≡ slip_leaves line_here_lem b → lines_posted i (slip_lines (drop at s)) b ≡ lines_posted (i + 1) (slip_lines (drop here.next s)) b'
+    pub line_next : v ≡ Ok tt → (b' : Book) → b' ≡ slip_leaves line_here_lem b → lines_posted i (slip_lines (drop at s)) b ≡ lines_posted (i + 1) (slip_lines (drop here.next s)) b'
     line_next e b' f =
         lines_here
         ∙ ap (λ (x : Check). unless (placed 5 i x) (lines_posted (i + 1) (slip_lines (drop here.next s)) (slip_leaves line_here_lem b))) (sym is ∙ line_passes e)
         ∙ ap (lines_posted (i + 1) (slip_lines (drop here.next s))) (sym f)
 
-    pub line_refused : (p : Place) → v ≡ Refused p → lines_posted i (slip_lines (drop at s)) b ≡ refused p
+    pub line_refused : (p : Place) → v ≡ Err p → lines_posted i (slip_lines (drop at s)) b ≡ refused p
     line_refused p e =
         lines_here
         ∙ ap (λ (x : Verdict). unless x (lines_posted (i + 1) (slip_lines (drop here.next s)) (slip_leaves line_here_lem b))) (ap (placed 5 i) (sym is) ∙ sym on ∙ e)
@@ -75,8 +72,8 @@ module _ (s : Bytes) (xs work : List Row) where
       ap (λ (l : List Row). outcome v l (cleared work)) e ∙ go v ∙ ap (λ (q : Result). slip_outcome q xs work) (r ∙ ap (lines_posted 1 (slip_lines s)) before)
     where
       go : (v : Verdict) → outcome v (behind v b' xs) (cleared work) ≡ slip_outcome (unless v (leaves b')) xs work
-      go Accepted = refl
-      go (Refused p) = refl
+      go (Ok _) = refl
+      go (Err p) = refl
 
   -- 16 and 1
   pub call_unruled : (v : Verdict) → keeps_rule xs ≡ false → v ≡ placed 0 0 bad_loan → outcome v xs (cleared work) ≡ slip_call s xs work

@@ -1,9 +1,7 @@
 -- What the slip call answers, and what everything lent to it holds behind the call.
-use Rattle.std.specs.Prelude.{◌≡◌, List, Bool, ◌&&◌, not, ℕ, eqb, length, replicate}
+use Rattle.std.specs.Prelude.{◌≡◌, List, Bool, ◌&&◌, not, ℕ, eqb, length, replicate, Ok, Err}
 use Rattle.words.specs.Words.{Row, whether◌then◌else◌, Bytes}
-use Rattle.refusals.specs.declared.Verdict.{Verdict}
-use Rattle.refusals.specs.declared.Verdict.TheVariants.{Accepted, Refused}
-use Rattle.refusals.specs.Verdicts.{◌when◌, nowhere, bad_loan}
+use Rattle.refusals.specs.Verdicts.{◌when◌, nowhere, bad_loan, Verdict}
 use Rattle.rows.specs.Room.{zeros}
 use Rattle.tables.specs.Parts.{room}
 use Rattle.tables.specs.declared.Table.TheVariants.{Block}
@@ -34,8 +32,8 @@ cleared work = whether work_sized work then replicate work_rows zeros else work
 
 -- "All other refusals leave book and output as handed in."
 abbrev pub slip_outcome : Result → List Row → List Row → Outcome
-slip_outcome (refused p) book work = outcome (Refused p) book (cleared work)
-slip_outcome (leaves b) book work = outcome Accepted (laid b) (cleared work)
+slip_outcome (refused p) book work = outcome (Err p) book (cleared work)
+slip_outcome (leaves b) book work = outcome (Ok tt) (laid b) (cleared work)
 
 -- "Order: 16; 1; per line"
 abbrev pub slip_call : Bytes → List Row → List Row → Outcome

@@ -1,9 +1,8 @@
 -- What the lines of a slip leave on the shelf that the blocks stand on.
 -- Inner: no promise and no contract of a public function speaks of it.
-use Rattle.std.specs.Prelude.{◌≡◌, List, ℕ}
+use Rattle.std.specs.Prelude.{◌≡◌, List, ℕ, Ok, Err}
 use Rattle.words.specs.Words.{Bytes, Row}
-use Rattle.refusals.specs.declared.Verdict.{Verdict}
-use Rattle.refusals.specs.declared.Verdict.TheVariants.{Accepted, Refused}
+use Rattle.refusals.specs.Verdicts.{Verdict}
 use Rattle.lines.specs.Lines.{slip_lines}
 use Rattle.tables.specs.declared.Table.TheVariants.{Block}
 use Rattle.book.specs.Result.{leaves, unless}
@@ -20,5 +19,5 @@ pub record LinesTaken (slip : Bytes) (slice slots slots' : List Row) (order orde
 
 -- a book's slice behind a slip: nothing is laid out where it is refused
 abbrev pub behind : Verdict → Book → List Row → List Row
-behind Accepted b slice = laid b
-behind (Refused p) b slice = slice
+behind (Ok _) b slice = laid b
+behind (Err p) b slice = slice

@@ -13,7 +13,7 @@ ghost use Rattle.slips.specs.Calls.{outcome, work_rows, cleared, slip_outcome, s
 ghost use Rattle.slips.specs.Slips.{lines_posted};
 
 use lines::MOST_BYTES;
-use refusals::{Check, Place, Verdict};
+use refusals::{Fault, Place, Verdict};
 use rows::{ROWS, Row};
 use tables::{Columns, Table};
 
@@ -36,7 +36,7 @@ fn take_lines(
     requires { OnShelf Table.Block book.now slots.old order.old n × (length slip.now ≤ most_bytes) × (columns.now ≡ listed (book_of book.now).edition Table.Block) }
     ensures { LinesTaken slip.now book.now slots.old slots.new order.old order.new n result }
 {
-    let mut verdict = Verdict::Accepted;
+    let mut verdict = Ok(());
     let mut count = n;
     let mut at: usize = 0;
     let mut number: u64 = 1;
@@ -45,10 +45,10 @@ fn take_lines(
         let end = here.end;
         let told = block_change::take_slip_line(&slip[at..end], columns, book, slots, order, count);
         let check = told.check;
-        match check.on(Place::SLIP, number) {
-            Verdict::Accepted => {}
-            Verdict::Refused(place) => {
-                verdict = Verdict::Refused(place);
+        match refusals::placed(check, Place::SLIP, number) {
+            Ok(()) => {}
+            Err(place) => {
+                verdict = Err(place);
                 break 'lines;
             }
         }
@@ -65,10 +65,10 @@ fn lay_accepted(verdict: Verdict, book: &mut [Row], slots: &[Row], order: &[u16]
     ensures { book.new ≡ behind verdict (shelf_book Table.Block book.old slots.now order.now n) book.old }
 {
     match verdict {
-        Verdict::Accepted => {
+        Ok(()) => {
             intake::lay_table(book, Table::Block, slots, order, n);
         }
-        Verdict::Refused(_) => {}
+        Err(_) => {}
     }
 }
 
@@ -95,10 +95,10 @@ fn post(slip: &[u8], book: &mut [Row], work: &mut [Row]) -> Verdict
     ensures { outcome result book.new (cleared work.old) ≡ slip_call slip.now book.old work.old }
 {
     if !keeping::keeps_rule(&book[..]) {
-        return Check::bad_loan().on(Place::NO_TABLE, Place::NO_LINE);
+        return Err(Fault::bad_loan().on(Place::NO_TABLE, Place::NO_LINE));
     }
     if MOST_BYTES < slip.len() {
-        return Check::text_too_long().on(Place::SLIP, Place::NO_LINE);
+        return Err(Fault::text_too_long().on(Place::SLIP, Place::NO_LINE));
     }
     take_whole(slip, book, work)
 }
@@ -108,7 +108,7 @@ pub fn slip(slip: &[u8], book: &mut [Row], work: &mut [Row]) -> Verdict
     ensures { SlipPermits slip.now book.old work.old (outcome result book.new work.new) }
 {
     if work.len() != ROWS {
-        return Check::bad_loan().on(Place::NO_TABLE, Place::NO_LINE);
+        return Err(Fault::bad_loan().on(Place::NO_TABLE, Place::NO_LINE));
     }
     let verdict = post(slip, book, work);
     rows::clear(work);

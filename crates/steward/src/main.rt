@@ -2,323 +2,219 @@
 // line that it stands on.
 #![tactic(auto)]
 
-use editions::{Choice, Edition};
+use editions::Edition;
 use fault_mark::Mark;
-use refusals::{Place, Verdict};
+use files::{Delivery, ROOM};
+use phrases::{Dino, NO_EDITION};
+use refusals::Place;
 use rows::{NO_ROW, Row};
-use std::io;
 use std::rt::Files;
-use tables::{BOOK_ROWS, COLUMN_ROOM, Columns, Named, Rules, Table};
+use std::{fmt, io, str};
+use tables::{BOOK_ROWS, COLUMN_ROOM, Rules, Table};
 
 // Room for the longest row and, behind it, the mark of an empty last cell. Of one that is too long only so much is shown: by 2.3 a quote that is not
 // closed makes a row of all the rest of a text.
 const LINE_ROOM: usize = lines::MOST_LINE + 1;
 
-fn say(rt: &impl Print, bytes: &[u8]) -> io::Result<()> {
-    rt.write_all(bytes)
-}
-
-fn number(rt: &impl Print, n: u64) -> io::Result<()> {
-    rt.print(n)
-}
-
 // A count and its word, as in `2 depots`.
-fn counted(rt: &impl Print, n: usize, one: &[u8], more: &[u8]) -> io::Result<()> {
-    number(rt, n as u64)?;
-    say(rt, b" ")?;
-    if n == 1 { say(rt, one) } else { say(rt, more) }
+#[derive(Clone, Copy)]
+struct Counted(usize, &'static str);
+
+impl fmt::Display for Counted {
+    fn fmt<W: fmt::Write>(&self, f: &mut fmt::Formatter<W>) -> fmt::Result {
+        let n = self.0;
+        let thing = self.1;
+        let ending = if n == 1 { "" } else { "s" };
+        write!(f, "{n} {thing}{ending}")
+    }
 }
 
-// How many rows a table has. (An accepted delivery leaves a book that keeps the book rule; it is tested for it, since counting asks for it.)
-fn row_count(book: &[Row], t: Table) -> usize {
+// The rows that a table has. (An accepted delivery leaves a book that keeps the book rule; it is tested for it, since counting asks for it.)
+fn rows_in(book: &[Row], t: Table, thing: &'static str) -> Counted {
     if keeping::keeps_rule(book) {
-        return book::count_rows(book, t);
+        return Counted(book::count_rows(book, t), thing);
     }
-    0
-}
-
-// ` by DINO 2.3: `, behind the answer's first word.
-fn by(rt: &impl Print, edition: Edition) -> io::Result<()> {
-    match edition {
-        Edition::Dino21 => say(rt, b" by DINO 2.1: "),
-        Edition::Dino23 => say(rt, b" by DINO 2.3: "),
-    }
+    Counted(0, thing)
 }
 
 fn good(rt: &impl Print, edition: Edition, book: &[Row]) -> io::Result<()> {
-    say(rt, b"good")?;
-    by(rt, edition)?;
-    counted(
-        rt,
-        row_count(book, Table::VehicleType),
-        b"vehicle type",
-        b"vehicle types",
-    )?;
-    say(rt, b", ")?;
-    counted(rt, row_count(book, Table::Depot), b"depot", b"depots")?;
-    say(rt, b", ")?;
-    counted(rt, row_count(book, Table::Stop), b"stop", b"stops")?;
-    say(rt, b", ")?;
-    counted(
-        rt,
-        row_count(book, Table::StopPoint),
-        b"stop point",
-        b"stop points",
-    )?;
-    say(rt, b", ")?;
-    counted(
-        rt,
-        row_count(book, Table::Block),
-        b"vehicle block",
-        b"vehicle blocks",
-    )?;
-    say(rt, b", ")?;
-    counted(
-        rt,
-        row_count(book, Table::Calendar),
-        b"calendar day",
-        b"calendar days",
-    )?;
-    say(rt, b"\n")
+    println!(rt;
+        "good by {}: {}, {}, {}, {}, {}, {}",
+        Dino(edition),
+        rows_in(book, Table::VehicleType, "vehicle type"),
+        rows_in(book, Table::Depot, "depot"),
+        rows_in(book, Table::Stop, "stop"),
+        rows_in(book, Table::StopPoint, "stop point"),
+        rows_in(book, Table::Block, "vehicle block"),
+        rows_in(book, Table::Calendar, "calendar day")
+    )
 }
 
-fn table_name(rt: &impl Print, table: u64) -> io::Result<()> {
-    match table {
-        Place::VEHICLE_TYPE => say(rt, b"vehicle_type"),
-        Place::DEPOT => say(rt, b"depot"),
-        Place::STOP => say(rt, b"stop"),
-        Place::VEHICLE_BLOCK => say(rt, b"vehicle_block"),
-        Place::STOP_POINT => say(rt, b"stop_point"),
-        Place::DAY_TYPE_CALENDAR => say(rt, b"day_type_calendar"),
-        _ => say(rt, b"the book"),
+// The table whose text, columns and room a place speaks of.
+fn table_of(p: Place) -> Table {
+    Table::numbered(p.table).unwrap_or(Table::Block)
+}
+
+fn table_name(p: Place) -> &'static str {
+    match Table::numbered(p.table) {
+        Some(Table::VehicleType) => "vehicle_type",
+        Some(Table::Depot) => "depot",
+        Some(Table::Stop) => "stop",
+        Some(Table::StopPoint) => "stop_point",
+        Some(Table::Block) => "vehicle_block",
+        Some(Table::Calendar) => "day_type_calendar",
+        None => "the book",
     }
 }
 
-// A block's points, at columns 7 and 10, are sought by their stop too.
-fn unknown_row(rt: &impl Print, column: u64) -> io::Result<()> {
-    match column {
-        7 | 10 => say(
-            rt,
-            b"this point, with its version and its stop, is in no row of stop_point",
-        ),
-        _ => say(
-            rt,
-            b"this number, with its version, is in no row of the table that it refers to",
-        ),
+// A header of all names of a table's columns. Those of vehicle_type by 2.3 begin with those by 2.1.
+fn all_names(t: Table) -> &'static [u8] {
+    match t {
+        Table::VehicleType => &column_names::VEHICLE_TYPE_NAMES_23,
+        Table::Depot => &column_names::DEPOT_NAMES,
+        Table::Stop => &column_names::STOP_NAMES,
+        Table::StopPoint => &column_names::STOP_POINT_NAMES,
+        Table::Block => &column_names::BLOCK_NAMES,
+        Table::Calendar => &column_names::CALENDAR_NAMES,
     }
 }
 
-// The columns of a table by its number.
-fn columns_of(edition: Edition, table: u64) -> Columns {
-    let named = Table::numbered(table);
-    match named {
-        Named::Known(t) => t.column_rules(edition),
-        Named::Unknown => Table::Block.column_rules(edition),
-    }
+// The name of the place's column, which is the cell of its number in that header.
+fn column_name(p: Place) -> &'static str {
+    str::from_utf8(fault_mark::cell_numbered(all_names(table_of(p)), p.column)).unwrap_or("")
 }
 
 // What the cells of the place's column must keep to. (A fault of a cell names a column of its table; that there is one of this number is tested, since
 // looking it up asks for it.)
 fn rules_of(edition: Edition, p: Place) -> Rules {
-    let columns = columns_of(edition, p.table);
-    let k = p.column as usize;
-    if k == 0 {
-        return tables::rules_at(&columns, 0);
-    }
-    if COLUMN_ROOM < k {
-        return tables::rules_at(&columns, 0);
-    }
-    tables::rules_at(&columns, k - 1)
+    let columns = table_of(p).column_rules(edition);
+    let k = (p.column as usize).saturating_sub(1);
+    tables::rules_at(&columns, if k < COLUMN_ROOM { k } else { 0 })
 }
 
-fn too_long(rt: &impl Print, rules: Rules) -> io::Result<()> {
-    say(rt, b"this cell has more than ")?;
-    counted(rt, rules.width, b"byte", b"bytes")?;
-    say(rt, b", the width of its column")
-}
+// Where a fault is: `depot, line 3`, and behind it `, cell 2` or `, column 6 (DEP_STOP_NR)` where there is one.
+#[derive(Clone, Copy)]
+struct Spot(Place);
 
-fn out_of_range(rt: &impl Print, rules: Rules) -> io::Result<()> {
-    if rules.date {
-        return say(
-            rt,
-            b"this day is no date, YYYYMMDD, of the years 1600 to 9999",
-        );
-    }
-    say(rt, b"this number is not in its column's range, ")?;
-    number(rt, rules.low)?;
-    say(rt, b" to ")?;
-    number(rt, rules.high)
-}
-
-// The rows that a table has room for.
-fn too_many_rows(rt: &impl Print, table: u64) -> io::Result<()> {
-    say(rt, b"the table has more than ")?;
-    let named = Table::numbered(table);
-    match named {
-        Named::Known(t) => number(rt, t.room() as u64)?,
-        Named::Unknown => number(rt, Table::Block.room() as u64)?,
-    }
-    say(rt, b" rows; this is the first too many")
-}
-
-// What each number of refusal means, for a person.
-fn meaning(rt: &impl Print, edition: Edition, p: Place) -> io::Result<()> {
-    let refusal = p.number;
-    match refusal {
-        1 => say(rt, b"the file has more than 65,536 bytes"),
-        2 => say(rt, b"this column is required and the header lacks it"),
-        3 => say(rt, b"the header has this column twice"),
-        4 => say(rt, b"the header has more than 32 cells"),
-        5 => too_many_rows(rt, p.table),
-        6 => say(
-            rt,
-            b"this cell is badly quoted, or holds a byte that no cell may hold",
-        ),
-        7 => say(rt, b"this row has more or fewer cells than the header"),
-        8 => say(rt, b"this cell is not digits"),
-        9 => say(rt, b"the key of this row stands in an earlier row"),
-        10 => unknown_row(rt, p.column),
-        11 => say(
-            rt,
-            b"the block ends before it begins, and one of its two times is 86,400 or more",
-        ),
-        17 => say(rt, b"this row has more than 2,048 bytes"),
-        18 => say(
-            rt,
-            b"the table came with more or fewer bytes than were announced",
-        ),
-        19 => say(rt, b"this cell is empty and its column is required"),
-        20 => too_long(rt, rules_of(edition, p)),
-        21 => out_of_range(rt, rules_of(edition, p)),
-        _ => say(rt, b"the book was lent at another length"),
-    }
-}
-
-// The name of a column, which is the cell of its number in a header of all names. Those of vehicle_type by 2.3 begin with those by 2.1.
-fn column_name(rt: &impl Print, table: u64, column: u64) -> io::Result<()> {
-    match table {
-        Place::VEHICLE_TYPE => say(
-            rt,
-            fault_mark::cell_numbered(&column_names::VEHICLE_TYPE_NAMES_23, column),
-        ),
-        Place::DEPOT => say(
-            rt,
-            fault_mark::cell_numbered(&column_names::DEPOT_NAMES, column),
-        ),
-        Place::STOP => say(
-            rt,
-            fault_mark::cell_numbered(&column_names::STOP_NAMES, column),
-        ),
-        Place::STOP_POINT => say(
-            rt,
-            fault_mark::cell_numbered(&column_names::STOP_POINT_NAMES, column),
-        ),
-        Place::DAY_TYPE_CALENDAR => say(
-            rt,
-            fault_mark::cell_numbered(&column_names::CALENDAR_NAMES, column),
-        ),
-        _ => say(
-            rt,
-            fault_mark::cell_numbered(&column_names::BLOCK_NAMES, column),
-        ),
-    }
-}
-
-// `, line 3`, and `, cell 2` or `, column 6 (DEP_STOP_NR)` where there is one.
-fn place(rt: &impl Print, p: Place) -> io::Result<()> {
-    table_name(rt, p.table)?;
-    if p.line != 0 {
-        say(rt, b", line ")?;
-        number(rt, p.line)?;
-    }
-    if p.column != 0 {
+impl fmt::Display for Spot {
+    fn fmt<W: fmt::Write>(&self, f: &mut fmt::Formatter<W>) -> fmt::Result {
+        let p = self.0;
+        f.write_str(table_name(p))?;
+        if p.line != 0 {
+            write!(f, ", line {}", p.line)?;
+        }
+        if p.column == 0 {
+            return Ok(());
+        }
         if p.number == Place::QUOTE_FAULT {
-            say(rt, b", cell ")?;
-            number(rt, p.column)?;
-        } else {
-            say(rt, b", column ")?;
-            number(rt, p.column)?;
-            say(rt, b" (")?;
-            column_name(rt, p.table, p.column)?;
-            say(rt, b")")?;
+            return write!(f, ", cell {}", p.column);
+        }
+        write!(f, ", column {} ({})", p.column, column_name(p))
+    }
+}
+
+// What a refusal means, for a person.
+#[derive(Clone, Copy)]
+struct Meaning {
+    edition: Edition,
+    place: Place,
+}
+
+// A block's points, at columns 7 and 10, are sought by their stop too.
+fn unknown_row(column: u64) -> &'static str {
+    match column {
+        7 | 10 => "this point, with its version and its stop, is in no row of stop_point",
+        _ => "this number, with its version, is in no row of the table that it refers to",
+    }
+}
+
+// What the number of a refusal means, where it says all.
+fn words_of(p: Place) -> &'static str {
+    match p.number {
+        Place::TEXT_TOO_LONG => "the file has more than 65,536 bytes",
+        Place::COLUMN_MISSING => "this column is required and the header lacks it",
+        Place::COLUMN_TWICE => "the header has this column twice",
+        Place::TOO_MANY_CELLS => "the header has more than 32 cells",
+        Place::QUOTE_FAULT => "this cell is badly quoted, or holds a byte that no cell may hold",
+        Place::CELL_COUNT => "this row has more or fewer cells than the header",
+        Place::NOT_DIGITS => "this cell is not digits",
+        Place::KEY_STANDS => "the key of this row stands in an earlier row",
+        Place::NO_ROW => unknown_row(p.column),
+        Place::ENDS_EARLY => {
+            "the block ends before it begins, and one of its two times is 86,400 or more"
+        }
+        Place::LINE_TOO_LONG => "this row has more than 2,048 bytes",
+        Place::LENGTH_DIFFERS => "the table came with more or fewer bytes than were announced",
+        Place::CELL_EMPTY => "this cell is empty and its column is required",
+        _ => "the book was lent at another length",
+    }
+}
+
+impl fmt::Display for Meaning {
+    fn fmt<W: fmt::Write>(&self, f: &mut fmt::Formatter<W>) -> fmt::Result {
+        let p = self.place;
+        let rules = rules_of(self.edition, p);
+        match p.number {
+            Place::TOO_MANY_ROWS => write!(
+                f,
+                "the table has more than {} rows; this is the first too many",
+                table_of(p).room()
+            ),
+            Place::CELL_TOO_LONG => write!(
+                f,
+                "this cell has more than {}, the width of its column",
+                Counted(rules.width, "byte")
+            ),
+            Place::OUT_OF_RANGE if rules.date => {
+                f.write_str("this day is no date, YYYYMMDD, of the years 1600 to 9999")
+            }
+            Place::OUT_OF_RANGE => write!(
+                f,
+                "this number is not in its column's range, {} to {}",
+                rules.low, rules.high
+            ),
+            _ => f.write_str(words_of(p)),
         }
     }
-    Ok(())
 }
 
 // A byte as a screen can show it, one character for one byte, so that the mark stands under its cell. A row is shown on one line: `|` is a break in it.
 fn legible(byte: u8) -> u8 {
-    if byte == b'\n' {
-        return b'|';
+    match byte {
+        b'\n' => b'|',
+        0..=31 | 127 => b'?',
+        _ => byte,
     }
-    if byte < 32 {
-        return b'?';
-    }
-    if byte == 127 {
-        return b'?';
-    }
-    byte
-}
-
-fn write_legible(line: &[u8], out: &mut [u8]) -> usize {
-    let mut i = 0;
-    'bytes: while i < line.len() {
-        if out.len() <= i {
-            return i;
-        }
-        out[i] = legible(line[i]);
-        i += 1;
-    }
-    i
 }
 
 // The line from one place of a text to another.
 fn show(rt: &impl Print, text: &[u8], start: usize, end: usize) -> io::Result<()> {
-    let mut out = [0u8; LINE_ROOM];
-    if end < start {
+    let Some(size) = end.checked_sub(start) else {
         return Ok(());
-    }
-    let n = write_legible(files::text(text, start, end - start), &mut out);
-    say(rt, files::text(&out, 0, n))?;
-    say(rt, b"\n")
-}
-
-fn blank_or_mark(i: usize, from: usize) -> u8 {
-    if i < from { b' ' } else { b'^' }
-}
-
-// Whether a place lies behind the mark, which has one byte at the least, so that an empty cell has its mark.
-fn behind_mark(i: usize, from: usize, to: usize) -> bool {
-    if i <= from {
-        return false;
-    }
-    to <= i
-}
-
-// Blanks, and a mark from one place to another.
-fn write_mark(out: &mut [u8], from: usize, to: usize) -> usize {
-    let mut i = 0;
-    'bytes: while i < out.len() {
-        if behind_mark(i, from, to) {
-            return i;
-        }
-        out[i] = blank_or_mark(i, from);
-        i += 1;
-    }
-    i
-}
-
-fn underline(rt: &impl Print, from: usize, to: usize) -> io::Result<()> {
+    };
+    let line = files::text(text, start, size);
     let mut out = [0u8; LINE_ROOM];
-    let n = write_mark(&mut out, from, to);
-    say(rt, files::text(&out, 0, n))?;
-    say(rt, b"\n")
+    for (shown, byte) in out.iter_mut().zip(line) {
+        *shown = legible(*byte);
+    }
+    rt.write_all(files::text(&out, 0, line.len()))?;
+    println!(rt)
+}
+
+// Blanks, and a mark from one place to another, of one byte at the least, so that an empty cell has its mark.
+fn underline(rt: &impl Print, from: usize, to: usize) -> io::Result<()> {
+    let mut out = [b' '; LINE_ROOM];
+    if let Some(mark) = out.get_mut(from..) {
+        mark.fill(b'^');
+    }
+    let end = to.max(from.saturating_add(1));
+    rt.write_all(files::text(&out, 0, end))?;
+    println!(rt)
 }
 
 // The line of the fault, if its file has it, and the mark under the cell.
 fn offence(rt: &impl Print, edition: Edition, text: &[u8], p: Place) -> io::Result<()> {
-    let mark = fault_mark::marked(edition, text, p);
-    match mark {
+    match fault_mark::marked(edition, text, p) {
         Mark::Nothing => Ok(()),
         Mark::Line { start, end } => show(rt, text, start, end),
         Mark::Cell {
@@ -333,83 +229,47 @@ fn offence(rt: &impl Print, edition: Edition, text: &[u8], p: Place) -> io::Resu
     }
 }
 
-fn fault(
-    rt: &impl Print,
-    edition: Edition,
-    p: Place,
-    types: &[u8],
-    depots: &[u8],
-    stops: &[u8],
-    points: &[u8],
-    blocks: &[u8],
-    days: &[u8],
-) -> io::Result<()> {
-    say(rt, b"fault")?;
-    by(rt, edition)?;
-    place(rt, p)?;
-    say(rt, b", refusal ")?;
-    number(rt, p.number)?;
-    say(rt, b": ")?;
-    meaning(rt, edition, p)?;
-    say(rt, b"\n")?;
-    let table = p.table;
-    match table {
-        Place::VEHICLE_TYPE => offence(rt, edition, types, p),
-        Place::DEPOT => offence(rt, edition, depots, p),
-        Place::STOP => offence(rt, edition, stops, p),
-        Place::STOP_POINT => offence(rt, edition, points, p),
-        Place::DAY_TYPE_CALENDAR => offence(rt, edition, days, p),
-        _ => offence(rt, edition, blocks, p),
-    }
+fn fault(rt: &impl Print, edition: Edition, p: Place, texts: &Delivery) -> io::Result<()> {
+    println!(rt;
+        "fault by {}: {}, refusal {}: {}",
+        Dino(edition),
+        Spot(p),
+        p.number,
+        Meaning { edition, place: p }
+    )?;
+    offence(rt, edition, texts.text(table_of(p)), p)
 }
 
 // Reads the delivery by an edition, which is that of the number, and says what came of it.
-fn answer(
-    rt: &impl Print,
-    number: u64,
-    edition: Edition,
-    types: &[u8],
-    depots: &[u8],
-    stops: &[u8],
-    points: &[u8],
-    blocks: &[u8],
-    days: &[u8],
-) -> io::Result<()> {
+fn answer(rt: &impl Print, number: u64, edition: Edition, texts: &Delivery) -> io::Result<()> {
     let mut book = [NO_ROW; BOOK_ROWS];
     let verdict = delivery::read(
-        number, types, depots, stops, points, blocks, days, &mut book,
+        number,
+        texts.types,
+        texts.depots,
+        texts.stops,
+        texts.points,
+        texts.blocks,
+        texts.days,
+        &mut book,
     );
     match verdict {
-        Verdict::Accepted => good(rt, edition, &book),
-        Verdict::Refused(p) => fault(rt, edition, p, types, depots, stops, points, blocks, days),
+        Ok(()) => good(rt, edition, &book),
+        Err(p) => fault(rt, edition, p, texts),
     }
 }
 
 fn morning(rt: &(impl Files + Print + Eprint), number: u64, edition: Edition) -> io::Result<()> {
-    let mut room = [0u8; files::ROOM];
-    let n = files::load_delivery(rt, &mut room, true);
-    answer(
-        rt,
-        number,
-        edition,
-        files::text(&room, files::VEHICLE_TYPE, n.types),
-        files::text(&room, files::DEPOT, n.depots),
-        files::text(&room, files::STOP, n.stops),
-        files::text(&room, files::STOP_POINT, n.points),
-        files::text(&room, files::VEHICLE_BLOCK, n.blocks),
-        files::text(&room, files::DAY_TYPE_CALENDAR, n.days),
-    )
+    let mut room = [0u8; ROOM];
+    let texts = files::load_delivery(rt, &mut room, true);
+    answer(rt, number, edition, &texts)
 }
 
 // An unknown edition is refused before anything is read.
 fn main(rt: HostRuntime) -> io::Result<()> {
     let number = options::edition_asked(&rt);
-    let choice = Edition::numbered(number);
-    match choice {
-        Choice::Chosen(edition) => morning(&rt, number, edition),
-        Choice::Unknown => say(
-            &rt,
-            b"fault: refusal 22: this edition is not known: 2.1 or 2.3\n",
-        ),
+    match Edition::numbered(number) {
+        Some(edition) => morning(&rt, number, edition),
+        None => println!(rt; "fault: refusal {}: {NO_EDITION}", Place::UNKNOWN_EDITION),
     }
 }

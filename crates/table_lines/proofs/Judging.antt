@@ -3,9 +3,8 @@ use mathlib.Core.Path.{◌≡◌, sym, ap, ◌∙◌}
 use mathlib.Core.Bool.{false, true}
 use Prim.Native.Nat.{ℕ, ◌≤◌}
 use Rattle.words.specs.Words.{Bytes}
-use Rattle.refusals.specs.Verdicts.{◌⊳◌, too_many_rows}
-use Rattle.refusals.specs.declared.Check.{Check}
-use Rattle.refusals.specs.declared.Check.TheVariants.{Passes, Fails}
+use Rattle.refusals.specs.Verdicts.{◌⊳◌, too_many_rows, Check, fault}
+use Rattle.std.specs.Prelude.{Ok, Err}
 use Rattle.rows.specs.Rows.{column}
 use Rattle.tables.specs.declared.Table.{Table}
 use Rattle.values.specs.Judged.{rowed}
@@ -31,16 +30,16 @@ module _ (t : Table) (h : Header) (line : Bytes) (b : Book) where
   judged_full e = rw e
 
   module _ (room : full t b ≡ false) (j : Judged) (is : j ≡ read b.edition t h line) where
-    pub judged_bad : (n k : ℕ) → j.check ≡ Fails n k → judged t h line b ≡ Fails n k
+    pub judged_bad : (n k : ℕ) → j.check ≡ Err (fault n k) → judged t h line b ≡ Err (fault n k)
     judged_bad n k e = judged_read t h line b room ∙ go (cut_check b.edition h line ⊳ cells_check b.edition t h line) (sym (ap (λ (x : Judged). x.check) is) ∙ e)
       where
-        go : (c : Check) → (rowed c (row_read b.edition t h line)).check ≡ Fails n k → (c ⊳ ruled t (row_read b.edition t h line) b) ≡ Fails n k
-        go Passes f = cc
-        go (Fails m l) f = f
+        go : (c : Check) → (rowed c (row_read b.edition t h line)).check ≡ Err (fault n k) → (c ⊳ ruled t (row_read b.edition t h line) b) ≡ Err (fault n k)
+        go (Ok _) f = cc
+        go (Err w) f = f
 
     -- a line without a fault of its own: its row begins with a version, and the rules decide
-    module _ (good : j.check ≡ Passes) where
-      passing : (read b.edition t h line).check ≡ Passes
+    module _ (good : j.check ≡ Ok tt) where
+      passing : (read b.edition t h line).check ≡ Ok tt
       passing = sym (ap (λ (x : Judged). x.check) is) ∙ good
 
       pub good_row : j.row ≡ row_read b.edition t h line

@@ -5,12 +5,9 @@ use Prim.Native.Nat.{ℕ, suc, ◌≤◌, ◌<◌, ◌-◌}
 use native.Mathlib.Omega.{arith}
 use lib.ListN.{length, take, drop}
 use Rattle.words.specs.Words.{Bytes, Row}
-use Rattle.refusals.specs.declared.Check.{Check}
-use Rattle.refusals.specs.declared.Check.TheVariants.{Passes, Fails}
-use Rattle.refusals.specs.Verdicts.{too_many_rows, placed}
+use Rattle.std.specs.Prelude.{Ok, Err}
+use Rattle.refusals.specs.Verdicts.{too_many_rows, placed, Check, Verdict, fault}
 use Rattle.refusals.specs.declared.Place.{Place}
-use Rattle.refusals.specs.declared.Verdict.{Verdict}
-use Rattle.refusals.specs.declared.Verdict.TheVariants.{Accepted, Refused}
 use Rattle.refusals.proofs.Placing.{placed_passes}
 use Rattle.lines.specs.Lines.{lines, line_after}
 use Rattle.lines.specs.Ends.{line_at}
@@ -37,7 +34,7 @@ use Rattle.table_lines.proofs.Judging.{judged_full, judged_bad, judged_good, goo
 -- a line ------------------------------------------------------------------------------------------------------------------------
 
 -- a line that is refused says nothing of the shelf behind it
-pub refused_shelf : {A : Type 0} (n k : ℕ) (c : Check) → c ≡ Fails n k → c ≡ Passes → A
+pub refused_shelf : {A : Type 0} (n k : ℕ) (c : Check) → c ≡ Err (fault n k) → c ≡ Ok tt → A
 refused_shelf n k c f p = let z : ◌≡◌ {A = ℕ} 0 1 = cc in absurd (omega arith)
 
 module _ (t : Table) (h : Header) (line : Bytes) (xs slots : List Row) (order : List ℕ) (n : ℕ) (on : OnShelf t xs slots order n) where
@@ -51,14 +48,14 @@ module _ (t : Table) (h : Header) (line : Bytes) (xs slots : List Row) (order : 
     line_room_lem = omega (arith, shelf_most t xs slots order n on, less)
 
     module _ (j : Judged) (is : j ≡ read (book_of xs).edition t h line) where
-      pub line_faulty : (d : Book) (m k : ℕ) → j.check ≡ Fails m k → Taken t h line (shelf_book t xs slots order n) d (Fails m k)
+      pub line_faulty : (d : Book) (m k : ℕ) → j.check ≡ Err (fault m k) → Taken t h line (shelf_book t xs slots order n) d (Err (fault m k))
       line_faulty d m k e =
           record {
             is = sym (judged_bad t h line (shelf_book t xs slots order n) (shelf_room t xs slots order n on line_room_lem) j is m k e);
-            enters = refused_shelf m k (Fails m k) refl;
+            enters = refused_shelf m k (Err (fault m k)) refl;
           }
 
-      module _ (good : j.check ≡ Passes) where
+      module _ (good : j.check ≡ Ok tt) where
         pub line_version : 1 ≤ column 1 j.row
         line_version = good_version t h line (shelf_book t xs slots order n) (shelf_room t xs slots order n on line_room_lem) j is good
 
@@ -93,13 +90,13 @@ module _ (t : Table) (h : Header) (n : ℕ) (s : Bytes) (i : ℕ) (b : Book) whe
     unfolding rows_read
     step = rw (line_from b.edition s i r l e).is
 
-    pub rows_passed : v ≡ Accepted → (m : ℕ) → m ≡ line_after b.edition n (take (r.end - i) (drop i s)) → rows_read t h n (lines b.edition (drop i s)) b ≡ rows_read t h m (lines b.edition (drop r.next s)) d
+    pub rows_passed : v ≡ Ok tt → (m : ℕ) → m ≡ line_after b.edition n (take (r.end - i) (drop i s)) → rows_read t h n (lines b.edition (drop i s)) b ≡ rows_read t h m (lines b.edition (drop r.next s)) d
     rows_passed a m w =
-        let p : c ≡ Passes = placed_passes (number t) n c (sym o ∙ a) in
-        let q : judged t h (take (r.end - i) (drop i s)) b ≡ Passes = sym x.is ∙ p in
+        let p : c ≡ (Ok tt) = placed_passes (number t) n c (sym o ∙ a) in
+        let q : judged t h (take (r.end - i) (drop i s)) b ≡ (Ok tt) = sym x.is ∙ p in
         step ∙ rw (q, ← w, x.enters p)
 
-    pub rows_refused : (p : Place) → v ≡ Refused p → rows_read t h n (lines b.edition (drop i s)) b ≡ refused p
+    pub rows_refused : (p : Place) → v ≡ Err p → rows_read t h n (lines b.edition (drop i s)) b ≡ refused p
     rows_refused p a =
-        let q : placed (number t) n (judged t h (take (r.end - i) (drop i s)) b) ≡ Refused p = ap (placed (number t) n) (sym x.is) ∙ sym o ∙ a in
+        let q : placed (number t) n (judged t h (take (r.end - i) (drop i s)) b) ≡ Err p = ap (placed (number t) n) (sym x.is) ∙ sym o ∙ a in
         step ∙ rw q

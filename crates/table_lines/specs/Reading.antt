@@ -1,8 +1,7 @@
 -- The lines of a table, each judged on the book as the earlier ones left it.
 use Rattle.std.specs.Prelude.{List, [], ◌∷◌, ℕ}
 use Rattle.words.specs.Words.{Bytes}
-use Rattle.refusals.specs.Verdicts.{◌⊳◌, ◌when◌, too_many_rows, placed}
-use Rattle.refusals.specs.declared.Check.{Check}
+use Rattle.refusals.specs.Verdicts.{◌⊳◌, ◌when◌, too_many_rows, placed, Check}
 use Rattle.lines.specs.Lines.{line_after}
 use Rattle.cells.specs.Cells.{cut, cells_of}
 use Rattle.tables.specs.Columns.{columns_of, number}

@@ -8,7 +8,7 @@ ghost use Rattle.row_line.specs.Judging.{Guided};
 ghost use Rattle.table_lines.specs.Taking.{ReadBy, RowTaken, LinesTaken};
 
 use header::{BOUNDS, Places};
-use refusals::{Check, Verdict};
+use refusals::{Check, Fault, Verdict};
 use rows::Row;
 use tables::{Columns, Table};
 use values::Judged;
@@ -41,14 +41,10 @@ pub fn take_row(
     ensures { RowTaken t read book.now slots.old slots.new order.old order.new n result }
 {
     if n == t.room() {
-        return Check::too_many_rows();
+        return Err(Fault::too_many_rows());
     }
-    let check = read.check;
-    let row = read.row;
-    match check {
-        Check::Fails { number, column } => Check::Fails { number, column },
-        Check::Passes => intake::enter(book, t, row, slots, order, n),
-    }
+    read.check?;
+    intake::enter(book, t, read.row, slots, order, n)
 }
 
 // Lines behind the header, from any one on, onto the shelf; the first refusal ends it.
@@ -68,7 +64,7 @@ pub fn take_lines(
     let edition = book::edition_of(book);
     let table = t.number();
     let mut bounds = [0usize; BOUNDS];
-    let mut verdict = Verdict::Accepted;
+    let mut verdict = Ok(());
     let mut count = from.count;
     let mut line = from.line;
     let mut i = 0;
@@ -78,11 +74,11 @@ pub fn take_lines(
         let next = l.next;
         let read = row_line::read_row(&bytes[i..end], edition, t, columns, at, &mut bounds);
         let check = take_row(read, t, book, slots, order, count);
-        let v = check.on(table, line);
+        let v = refusals::placed(check, table, line);
         match v {
-            Verdict::Accepted => {}
-            Verdict::Refused(p) => {
-                verdict = Verdict::Refused(p);
+            Ok(()) => {}
+            Err(p) => {
+                verdict = Err(p);
                 break 'rows;
             }
         }

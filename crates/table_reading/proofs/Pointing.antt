@@ -5,11 +5,8 @@ use mathlib.Core.Bool.{true}
 use Prim.Native.Nat.{ℕ}
 use Rattle.words.specs.Words.{Bytes}
 use Rattle.refusals.proofs.Chaining.{both}
-use Rattle.refusals.specs.Verdicts.{◌⊳◌, ◌when◌, too_many_rows, key_stands, ends_early, placed}
-use Rattle.refusals.specs.declared.Check.TheVariants.{Passes, Fails}
-use Rattle.refusals.specs.declared.Check.{Check}
-use Rattle.refusals.specs.declared.Verdict.{Verdict}
-use Rattle.refusals.specs.declared.Verdict.TheVariants.{Accepted, Refused}
+use Rattle.refusals.specs.Verdicts.{◌⊳◌, ◌when◌, too_many_rows, key_stands, ends_early, placed, Check, Verdict}
+use Rattle.std.specs.Prelude.{Ok, Err}
 use Rattle.lines.specs.Lines.{line_after, lines, head_line, row_lines}
 use Rattle.cells.specs.Cells.{cut, cells_of}
 use Rattle.tables.specs.Columns.{columns_of, number}
@@ -26,7 +23,7 @@ use Rattle.table_lines.specs.Reading.{judged, rows_read}
 use Rattle.table_reading.specs.Reading.{table_read}
 
 -- a line that passes has its references
-passes_known : (t : Table) (h : Header) (line : Bytes) (b : Book) → judged t h line b ≡ Passes → unknown t (row_read b.edition t h line) b ≡ Passes
+passes_known : (t : Table) (h : Header) (line : Bytes) (b : Book) → judged t h line b ≡ Ok tt → unknown t (row_read b.edition t h line) b ≡ Ok tt
 unfolding judged
 passes_known t h line b p =
     let row = row_read b.edition t h line in
@@ -43,10 +40,10 @@ rows_named t h i [] b e = e
 rows_named t h i (l ∷ ls) b e =
     go (judged t h l b) refl (λ p. rows_named t h (line_after b.edition i l) ls (entered t (row_read b.edition t h l) b) (entered_named t (row_read b.edition t h l) b (passes_known t h l b p) e))
   where
-    go : (c : Check) → judged t h l b ≡ c → (judged t h l b ≡ Passes → NamedIn (rows_read t h (line_after b.edition i l) ls (entered t (row_read b.edition t h l) b)))
+    go : (c : Check) → judged t h l b ≡ c → (judged t h l b ≡ Ok tt → NamedIn (rows_read t h (line_after b.edition i l) ls (entered t (row_read b.edition t h l) b)))
         → NamedIn (unless (placed (number t) i c) (rows_read t h (line_after b.edition i l) ls (entered t (row_read b.edition t h l) b)))
-    go Passes q k = k q
-    go (Fails n m) q k = tt
+    go (Ok _) q k = k q
+    go (Err f) q k = tt
 
 module _ (t : Table) (h : Header) (i : ℕ) (b : Book) (left : Result) where
   pub rows_left : (ls : List Bytes) → left ≡ rows_read t h i ls b → points_named b ≡ true → NamedIn left
@@ -57,8 +54,8 @@ module _ (t : Table) (h : Header) (i : ℕ) (b : Book) (left : Result) where
   line_left l e p = rows_left (l ∷ []) e p
 
 unless_named : (v : Verdict) (r : Result) → NamedIn r → NamedIn (unless v r)
-unless_named Accepted r k = k
-unless_named (Refused p) r k = tt
+unless_named (Ok _) r k = k
+unless_named (Err p) r k = tt
 
 table_named : (t : Table) (s : Bytes) (b : Book) → points_named b ≡ true → NamedIn (table_read t s b)
 unfolding table_read

@@ -8,12 +8,9 @@ use native.Mathlib.Numerals.{add-one}
 use lib.ListN.{length, take, drop, length-take, length-drop}
 use lib.Seq.{take_all, length-take-le}
 use Rattle.words.specs.Words.{Row, Bytes}
-use Rattle.refusals.specs.Verdicts.{placed}
-use Rattle.refusals.specs.declared.Check.{Check}
-use Rattle.refusals.specs.declared.Check.TheVariants.{Passes}
+use Rattle.refusals.specs.Verdicts.{placed, Check, Verdict}
+use Rattle.std.specs.Prelude.{Ok, Err}
 use Rattle.refusals.specs.declared.Place.{Place}
-use Rattle.refusals.specs.declared.Verdict.{Verdict}
-use Rattle.refusals.specs.declared.Verdict.TheVariants.{Accepted, Refused}
 use Rattle.refusals.proofs.Placing.{placed_passes}
 use Rattle.lines.specs.Lines.{lines, head_line}
 use Rattle.lines.proofs.Starting.{line_after_lem, head_few}
@@ -53,26 +50,26 @@ pub laid_next : (t : Table) (xs slots : List Row) (order : List ℕ) (n : ℕ) �
     → Sound ys × (book_of ys ≡ shelf_book t xs slots order (suc n))
 laid_next t xs slots order n on ys e = laid_accepted t xs slots order (suc n) on ys (e ∙ ap (λ (m : ℕ). laid (shelf_book t xs slots order m)) (add-one n))
 
-pub not_accepted : {A : Type 0} (p : Place) → Refused p ≡ Accepted → A
+pub not_accepted : {A : Type 0} (p : Place) → ◌≡◌ {A = Verdict} (Err p) (Ok tt) → A
 not_accepted p e = let z : ◌≡◌ {A = ℕ} 0 1 = cc in absurd (omega arith)
 
 -- the lines of a text on the shelf, from line i on
 module _ (t : Table) (at : List ℕ) (s : Bytes) (i : ℕ) (xs : List Row) (v : Verdict) (b : Book) (headed : (h : Header) × (at ≡ places h)) (named : points_named (book_of xs) ≡ true)
     (is : (h : Header) → at ≡ places h → unless v (leaves b) ≡ rows_read t h i (lines (book_of xs).edition s) (book_of xs)) where
-  pub rows_accepted : v ≡ Accepted → (ys : List Row) → Sound ys × (book_of ys ≡ b) → (next : ℕ) → next ≡ lines_after (book_of xs).edition i (lines (book_of xs).edition s)
-      → RowsTaken t at s i xs ys (record { verdict = Accepted; line = next })
+  pub rows_accepted : v ≡ Ok tt → (ys : List Row) → Sound ys × (book_of ys ≡ b) → (next : ℕ) → next ≡ lines_after (book_of xs).edition i (lines (book_of xs).edition s)
+      → RowsTaken t at s i xs ys (record { verdict = Ok tt; line = next })
   rows_accepted a ys left next k =
       record { sound = left.0; named = rows_left t headed.0 i (book_of xs) _ (lines (book_of xs).edition s) (taken headed.0 headed.1) named; next = λ e. k; taken = taken }
     where
-      taken : (h : Header) → at ≡ places h → result_of Accepted ys ≡ rows_read t h i (lines (book_of xs).edition s) (book_of xs)
+      taken : (h : Header) → at ≡ places h → result_of (Ok tt) ys ≡ rows_read t h i (lines (book_of xs).edition s) (book_of xs)
       taken h e = ap leaves left.1 ∙ subst (λ (x : Verdict). unless x (leaves b) ≡ rows_read t h i (lines (book_of xs).edition s) (book_of xs)) a (is h e)
 
-  pub rows_refused : (p : Place) → v ≡ Refused p → Sound xs → (next : ℕ) → RowsTaken t at s i xs xs (record { verdict = Refused p; line = next })
+  pub rows_refused : (p : Place) → v ≡ Err p → Sound xs → (next : ℕ) → RowsTaken t at s i xs xs (record { verdict = Err p; line = next })
   rows_refused p a sound next =
       record { sound = sound; named = tt; next = not_accepted p; taken = λ h e. subst (λ (x : Verdict). unless x (leaves b) ≡ rows_read t h i (lines (book_of xs).edition s) (book_of xs)) a (is h e) }
 
 -- one line on the shelf, which is line i
-pub check_passes : (table i : ℕ) (c : Check) (v : Verdict) → v ≡ placed table i c → v ≡ Accepted → c ≡ Passes
+pub check_passes : (table i : ℕ) (c : Check) (v : Verdict) → v ≡ placed table i c → v ≡ Ok tt → c ≡ Ok tt
 check_passes table i c v o a = placed_passes table i c (sym o ∙ a)
 
 module _ (t : Table) (at : List ℕ) (line : Bytes) (i : ℕ) (xs : List Row) (b d : Book) (same : b ≡ book_of xs) (c : Check) (v : Verdict) (o : v ≡ placed (number t) i c)
@@ -84,22 +81,22 @@ module _ (t : Table) (at : List ℕ) (line : Bytes) (i : ℕ) (xs : List Row) (b
   judged_so : (h : Header) → at ≡ places h → c ≡ judged t h line (book_of xs)
   judged_so h e = (k h e).is ∙ ap (judged t h line) same
 
-  pub line_accepted : v ≡ Accepted → (ys : List Row) → Sound ys × (book_of ys ≡ d) → LineTaken t at line i xs ys Accepted
+  pub line_accepted : v ≡ Ok tt → (ys : List Row) → Sound ys × (book_of ys ≡ d) → LineTaken t at line i xs ys (Ok tt)
   line_accepted a ys left =
       record { sound = left.0; named = line_left t headed.0 i (book_of xs) _ line (is headed.0 headed.1) named; taken = is }
     where
-      is : (h : Header) → at ≡ places h → result_of Accepted ys ≡ after h
+      is : (h : Header) → at ≡ places h → result_of (Ok tt) ys ≡ after h
       is h e =
-          let p : c ≡ Passes = check_passes (number t) i c v o a in
-          let q : judged t h line (book_of xs) ≡ Passes = sym (judged_so h e) ∙ p in
+          let p : c ≡ (Ok tt) = check_passes (number t) i c v o a in
+          let q : judged t h line (book_of xs) ≡ (Ok tt) = sym (judged_so h e) ∙ p in
           rw q (ap leaves (left.1 ∙ (k h e).enters p ∙ ap (λ (x : Book). entered t (row_read x.edition t h line) x) same))
 
-  pub line_refused : (p : Place) → v ≡ Refused p → Sound xs → LineTaken t at line i xs xs (Refused p)
+  pub line_refused : (p : Place) → v ≡ Err p → Sound xs → LineTaken t at line i xs xs (Err p)
   line_refused p a sound = record { sound = sound; named = tt; taken = is }
     where
-      is : (h : Header) → at ≡ places h → result_of (Refused p) xs ≡ after h
+      is : (h : Header) → at ≡ places h → result_of (Err p) xs ≡ after h
       is h e =
-          let q : placed (number t) i (judged t h line (book_of xs)) ≡ Refused p = ap (placed (number t) i) (sym (judged_so h e)) ∙ sym o ∙ a in
+          let q : placed (number t) i (judged t h line (book_of xs)) ≡ Err p = ap (placed (number t) i) (sym (judged_so h e)) ∙ sym o ∙ a in
           rw q
 
 -- what is lent of a text from a place on
@@ -114,19 +111,19 @@ module _ (t : Table) (s : Bytes) (top : Top) (xs : List Row) (e : Edition) (same
   by_book : TopOf (book_of xs).edition t s top
   by_book = subst (λ (d : Edition). TopOf d t s top) same o
 
-  pub table_refused : (p : Place) → top.verdict ≡ Refused p → result_of (Refused p) xs ≡ table_read t s (book_of xs)
+  pub table_refused : (p : Place) → top.verdict ≡ Err p → result_of (Err p) xs ≡ table_read t s (book_of xs)
   unfolding table_read
-  table_refused p q = let z : top_faults (book_of xs).edition t s ≡ Refused p = sym by_book.is ∙ q in rw z
+  table_refused p q = let z : top_faults (book_of xs).edition t s ≡ Err p = sym by_book.is ∙ q in rw z
 
-  pub table_rows : (a : top.verdict ≡ Accepted) (ys : List Row) (r : Reached) → RowsTaken t top.at (take (length s - top.next) (drop top.next s)) top.line xs ys r → result_of r.verdict ys ≡ table_read t s (book_of xs)
+  pub table_rows : (a : top.verdict ≡ Ok tt) (ys : List Row) (r : Reached) → RowsTaken t top.at (take (length s - top.next) (drop top.next s)) top.line xs ys r → result_of r.verdict ys ≡ table_read t s (book_of xs)
   unfolding table_read
   table_rows a ys r w =
-      let z : top_faults (book_of xs).edition t s ≡ Accepted = sym by_book.is ∙ a in
+      let z : top_faults (book_of xs).edition t s ≡ (Ok tt) = sym by_book.is ∙ a in
       let kept = by_book.kept a in
       w.taken (header_of (book_of xs).edition t s) kept.headed ∙ rw (z, rest_whole s top.next, kept.rest, kept.first)
 
   -- the lines of a text do not overflow
-  pub few_lines : (a : top.verdict ≡ Accepted) → top.line + length (take (length s - top.next) (drop top.next s)) + 1 < 2 ^ 64
+  pub few_lines : (a : top.verdict ≡ Ok tt) → top.line + length (take (length s - top.next) (drop top.next s)) + 1 < 2 ^ 64
   few_lines a =
       let kept = by_book.kept a in
       let d = (book_of xs).edition in

@@ -1,10 +1,8 @@
 -- What the rows of a text leave in a lent book.
 -- Inner: no promise and no contract of a public function speaks of it.
-use Rattle.std.specs.Prelude.{List, ◌≡◌, ℕ}
+use Rattle.std.specs.Prelude.{List, ◌≡◌, ℕ, Ok}
 use Rattle.words.specs.Words.{Bytes, Row}
-use Rattle.refusals.specs.Verdicts.{placed}
-use Rattle.refusals.specs.declared.Verdict.{Verdict}
-use Rattle.refusals.specs.declared.Verdict.TheVariants.{Accepted}
+use Rattle.refusals.specs.Verdicts.{placed, Verdict}
 use Rattle.lines.specs.Lines.{lines}
 use Rattle.tables.specs.Columns.{number}
 use Rattle.tables.specs.declared.Table.{Table}
@@ -24,7 +22,7 @@ use Rattle.table_reading.specs.declared.Taken.{Taken}
 pub record RowsTaken (t : Table) (at : List ℕ) (s : Bytes) (i : ℕ) (slice slice' : List Row) (r : Taken) : Type 0 where
   pub sound : Sound slice'
   pub named : NamedIn (result_of r.verdict slice')
-  pub next : r.verdict ≡ Accepted → r.line ≡ lines_after (book_of slice).edition i (lines (book_of slice).edition s)
+  pub next : r.verdict ≡ Ok tt → r.line ≡ lines_after (book_of slice).edition i (lines (book_of slice).edition s)
   pub taken : (h : Header) → at ≡ places h → result_of r.verdict slice' ≡ rows_read t h i (lines (book_of slice).edition s) (book_of slice)
 
 -- and one line, which is line i

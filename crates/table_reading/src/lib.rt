@@ -56,15 +56,15 @@ fn shelve_rows(
     let line = filled.line;
     let count = filled.count;
     match verdict {
-        Verdict::Accepted => {
+        Ok(()) => {
             intake::lay_table(book, t, &slots[..], &order[..], count);
             Taken {
-                verdict: Verdict::Accepted,
+                verdict: Ok(()),
                 line,
             }
         }
-        Verdict::Refused(p) => Taken {
-            verdict: Verdict::Refused(p),
+        Err(p) => Taken {
+            verdict: Err(p),
             line,
         },
     }
@@ -116,14 +116,9 @@ fn shelve_line(
     let n = intake::shelve(&book[..], t, slots, order);
     let read = row_line::read_row(line, edition, t, columns, at, &mut bounds);
     let check = table_lines::take_row(read, t, &book[..], slots, order, n);
-    let verdict = check.on(t.number(), i);
-    match verdict {
-        Verdict::Accepted => {
-            intake::lay_table(book, t, &slots[..], &order[..], n + 1);
-            Verdict::Accepted
-        }
-        Verdict::Refused(p) => Verdict::Refused(p),
-    }
+    refusals::placed(check, t.number(), i)?;
+    intake::lay_table(book, t, &slots[..], &order[..], n + 1);
+    Ok(())
 }
 
 // The same, on a shelf of the table's room.
@@ -161,15 +156,8 @@ pub fn take_table(bytes: &[u8], t: Table, book: &mut [Row]) -> Verdict
     let edition = book::edition_of(&book[..]);
     let columns = t.column_rules(edition);
     let top = header::read_top(bytes, edition, t, &columns);
-    let verdict = top.verdict;
+    top.verdict?;
     let at = top.at;
-    let next = top.next;
-    let line = top.line;
-    match verdict {
-        Verdict::Refused(p) => Verdict::Refused(p),
-        Verdict::Accepted => {
-            let taken = take_rows(&bytes[next..], line, t, &columns, &at, book);
-            taken.verdict
-        }
-    }
+    let taken = take_rows(&bytes[top.next..], top.line, t, &columns, &at, book);
+    taken.verdict
 }

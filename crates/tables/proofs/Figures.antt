@@ -14,7 +14,7 @@ use Rattle.editions.specs.declared.Edition.TheVariants.{Dino21, Dino23}
 use Rattle.tables.specs.declared.Table.{Table}
 use Rattle.tables.specs.declared.Table.TheVariants.{VehicleType, Depot, Stop, StopPoint, Block, Calendar}
 use Rattle.tables.specs.Parts.{part_of}
-use Rattle.tables.specs.Columns.{references, ref, columns_of, key_width, kept_width, column_at, version, Column, no_column}
+use Rattle.tables.specs.Columns.{columns_of, key_width, kept_width, column_at, version, Column, no_column}
 use Rattle.tables.specs.declared.Sort.{Sort}
 use Rattle.tables.specs.declared.Sort.TheVariants.{Decimal, Text}
 
@@ -27,16 +27,6 @@ part_below Stop = lit≤ tt
 part_below StopPoint = lit≤ tt
 part_below Block = lit≤ tt
 part_below Calendar = lit≤ tt
-
--- only stop points and blocks have references
-pub reference_of_point : (t : Table) (i : ℕ) → (t ≡ Block → ⊥) → i < length (references t) → get_or (references StopPoint) 0 (ref 0 VehicleType) ≡ get_or (references t) i (ref 0 VehicleType)
-reference_of_point VehicleType i n h = absurd (omega arith)
-reference_of_point Depot i n h = absurd (omega arith)
-reference_of_point Stop i n h = absurd (omega arith)
-reference_of_point StopPoint zero n h = refl
-reference_of_point StopPoint (suc i) n h = absurd (omega arith)
-reference_of_point Block i n h = absurd (n refl)
-reference_of_point Calendar i n h = absurd (omega arith)
 
 -- bounds ----------------------------------------------------------------------------------------------------------------------
 

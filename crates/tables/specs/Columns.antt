@@ -1,5 +1,5 @@
 -- The tables of columns.
-use Rattle.std.specs.Prelude.{false, true, ◌||◌, Bool, ◌&&◌, not, List, [], ◌∷◌, ℕ, ◌-◌, ◌^◌, suc, eqb, leb, get_or}
+use Rattle.std.specs.Prelude.{false, true, ◌||◌, Bool, ◌&&◌, not, List, [], ◌∷◌, ℕ, ◌-◌, ◌^◌, suc, eqb, leb, get_or, Option, Some, None}
 use Prim.Native.String.{String}
 use Rattle.words.specs.Words.{Bytes, bytes, whether◌then◌else◌, same}
 use Rattle.dates.specs.Calendar.{is_date}
@@ -10,8 +10,6 @@ use Rattle.editions.specs.declared.Edition.{Edition}
 use Rattle.editions.specs.declared.Edition.TheVariants.{Dino21, Dino23}
 use Rattle.tables.specs.declared.Table.{Table}
 use Rattle.tables.specs.declared.Table.TheVariants.{VehicleType, Depot, Stop, StopPoint, Block, Calendar}
-use Rattle.tables.specs.declared.Named.{Named}
-use Rattle.tables.specs.declared.Named.TheVariants.{Known, Unknown}
 use Rattle.tables.specs.declared.Reference.{Reference}
 
 -- a column's names, and what its cells must keep to
@@ -131,15 +129,15 @@ number Block = 4
 number Calendar = 7
 
 -- the table of a number
-abbrev pub numbered : ℕ → Named
+abbrev pub numbered : ℕ → Option Table
 numbered n =
-    whether eqb n 1 then Known VehicleType
-    else whether eqb n 2 then Known Depot
-    else whether eqb n 3 then Known Stop
-    else whether eqb n 4 then Known Block
-    else whether eqb n 6 then Known StopPoint
-    else whether eqb n 7 then Known Calendar
-    else Unknown
+    whether eqb n 1 then Some VehicleType
+    else whether eqb n 2 then Some Depot
+    else whether eqb n 3 then Some Stop
+    else whether eqb n 4 then Some Block
+    else whether eqb n 6 then Some StopPoint
+    else whether eqb n 7 then Some Calendar
+    else None
 
 -- how many columns are keys, which come first
 abbrev pub key_width : Table → ℕ

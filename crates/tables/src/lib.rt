@@ -19,7 +19,7 @@ pub const COLUMN_ROOM: usize = 12;
 
 pub type Columns = [Column; COLUMN_ROOM];
 
-#[derive(Clone, Copy)]
+#[derive(Clone, Copy, PartialEq, Eq, Debug)]
 pub enum Table {
     VehicleType,
     Depot,
@@ -29,15 +29,8 @@ pub enum Table {
     Calendar,
 }
 
-// What a number asks for: a table, or none.
-#[derive(Clone, Copy)]
-pub enum Named {
-    Known(Table),
-    Unknown,
-}
-
 // A decimal number or a text.
-#[derive(Clone, Copy)]
+#[derive(Clone, Copy, PartialEq, Eq, Debug)]
 pub enum Sort {
     Decimal,
     Text,
@@ -259,6 +252,17 @@ const ARRIVAL_POINT: Reference = Reference {
     to: Table::StopPoint,
 };
 
+static STOP_POINT_REFERENCES: [Reference; 1] = [STOP_OF_POINT];
+
+static BLOCK_REFERENCES: [Reference; 6] = [
+    DEPOT_OF_BLOCK,
+    TYPE_OF_BLOCK,
+    DEPARTURE_STOP,
+    DEPARTURE_POINT,
+    ARRIVAL_STOP,
+    ARRIVAL_POINT,
+];
+
 // How many rows a calendar has room for: no table has room for more.
 pub const DAYS: usize = 800;
 
@@ -269,6 +273,7 @@ pub const MARKS: usize = 5 * ROWS + DAYS;
 pub const BOOK_ROWS: usize = MARKS + 1;
 
 // What the cells of the column at place i, counted from 0, must keep to, of the columns that a table handed out.
+#[tactic(auto, using(crate::proofs::Listing::listed_back))]
 pub fn rules_at(columns: &Columns, i: usize) -> Rules
     requires { i < column_room }
     ensures { (e : Edition) (t : Table) → columns.now ≡ listed e t → result ≡ (column_at e t i).rules }
@@ -282,20 +287,6 @@ pub fn rules_at(columns: &Columns, i: usize) -> Rules
         key: column[4] == 1,
         required: column[5] == 1,
         date: column[6] == 1,
-    }
-}
-
-fn block_reference(i: usize) -> Reference
-    requires { i < length (references Table.Block) }
-    ensures { result ≡ get_or (references Table.Block) i (ref 0 Table.VehicleType) }
-{
-    match i {
-        0 => DEPOT_OF_BLOCK,
-        1 => TYPE_OF_BLOCK,
-        2 => DEPARTURE_STOP,
-        3 => DEPARTURE_POINT,
-        4 => ARRIVAL_STOP,
-        _ => ARRIVAL_POINT,
     }
 }
 
@@ -361,21 +352,22 @@ impl Table {
         references: 0,
     };
 
-    // The constructor by number.
-    pub fn numbered(n: u64) -> Named
+    // The table of a number, if it is one's.
+    pub fn numbered(n: u64) -> Option<Table>
         ensures { result ≡ numbered n }
     {
         match n {
-            Place::VEHICLE_TYPE => Named::Known(Table::VehicleType),
-            Place::DEPOT => Named::Known(Table::Depot),
-            Place::STOP => Named::Known(Table::Stop),
-            Place::VEHICLE_BLOCK => Named::Known(Table::Block),
-            Place::STOP_POINT => Named::Known(Table::StopPoint),
-            Place::DAY_TYPE_CALENDAR => Named::Known(Table::Calendar),
-            _ => Named::Unknown,
+            Place::VEHICLE_TYPE => Some(Table::VehicleType),
+            Place::DEPOT => Some(Table::Depot),
+            Place::STOP => Some(Table::Stop),
+            Place::VEHICLE_BLOCK => Some(Table::Block),
+            Place::STOP_POINT => Some(Table::StopPoint),
+            Place::DAY_TYPE_CALENDAR => Some(Table::Calendar),
+            _ => None,
         }
     }
 
+    #[tactic(auto, unfolding(crate::specs::Columns::columns_of))]
     pub fn figures(self) -> TableFigures
         ensures { result ≡ figures_of self }
     {
@@ -424,6 +416,7 @@ impl Table {
     }
 
     // What the cells of each column must keep to. A constant is laid out where it is named: this is asked once for a table.
+    #[tactic(auto, using(crate::proofs::Listing::chosen_listed), unfolding(crate::specs::Columns::columns_of, crate::specs::Listing::listed, crate::specs::Listing::listing))]
     pub fn column_rules(self, edition: Edition) -> Columns
         ensures { result ≡ listed edition self }
     {
@@ -437,14 +430,22 @@ impl Table {
         }
     }
 
+    // The references of a row, in the order of their columns.
+    fn all_references(self) -> &'static [Reference]
+        ensures { result.now ≡ references self }
+    {
+        match self {
+            Table::StopPoint => &STOP_POINT_REFERENCES,
+            Table::Block => &BLOCK_REFERENCES,
+            _ => &[],
+        }
+    }
+
     pub fn reference(self, i: usize) -> Reference
         requires { i < length (references self) }
         ensures { result ≡ get_or (references self) i (ref 0 Table.VehicleType) }
     {
-        match self {
-            Table::Block => block_reference(i),
-            _ => STOP_OF_POINT,
-        }
+        self.all_references()[i]
     }
 }
 
@@ -463,7 +464,10 @@ impl Sort {
     fn of(n: u64) -> Sort
         ensures { result ≡ (whether eqb n 0 then Sort.Decimal else Sort.Text) }
     {
-        if n == 0 { Sort::Decimal } else { Sort::Text }
+        match n {
+            0 => Sort::Decimal,
+            _ => Sort::Text,
+        }
     }
 }
 
@@ -476,43 +480,35 @@ impl Table {
 
     pub const BEGIN: [usize; Table::COUNT] = [0, ROWS, 2 * ROWS, 3 * ROWS, 4 * ROWS, 5 * ROWS];
 
+    // The tables in the order of reading.
+    pub const ORDER: [Table; Table::COUNT] = [
+        Table::VehicleType,
+        Table::Depot,
+        Table::Stop,
+        Table::StopPoint,
+        Table::Block,
+        Table::Calendar,
+    ];
+
     pub fn room(self) -> usize
         ensures { result ≡ room self }
     {
-        match self {
-            Table::VehicleType => Table::ROOM[0],
-            Table::Depot => Table::ROOM[1],
-            Table::Stop => Table::ROOM[2],
-            Table::StopPoint => Table::ROOM[3],
-            Table::Block => Table::ROOM[4],
-            Table::Calendar => Table::ROOM[5],
-        }
+        Table::ROOM[self as usize]
     }
 
     pub fn begin(self) -> usize
         ensures { result ≡ begin self }
     {
-        match self {
-            Table::VehicleType => Table::BEGIN[0],
-            Table::Depot => Table::BEGIN[1],
-            Table::Stop => Table::BEGIN[2],
-            Table::StopPoint => Table::BEGIN[3],
-            Table::Block => Table::BEGIN[4],
-            Table::Calendar => Table::BEGIN[5],
-        }
+        Table::BEGIN[self as usize]
     }
 
     // The table at place i of the order of reading, counted from 0; past the last one it is the last.
     pub fn in_order(i: usize) -> Table
         ensures { result ≡ get_or tables i Table.Calendar }
     {
-        match i {
-            0 => Table::VehicleType,
-            1 => Table::Depot,
-            2 => Table::Stop,
-            3 => Table::StopPoint,
-            4 => Table::Block,
-            _ => Table::Calendar,
+        match Table::ORDER.get(i) {
+            Some(t) => *t,
+            None => Table::Calendar,
         }
     }
 }

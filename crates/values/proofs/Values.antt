@@ -6,13 +6,12 @@ use native.Mathlib.Omega.{arith}
 use lib.Dec.{eqb, ltb}
 use lib.ListN.{length}
 use borrow.Author.Tests.{le-leb, eqb-false, ltb-false}
+use Rattle.std.specs.Prelude.{Some, None}
 use Rattle.words.specs.Words.{Bytes, whether◌then◌else◌}
 use Rattle.refusals.specs.Verdicts.{◌when◌, ◌⊳◌, passes, cell_empty, cell_too_long, not_digits, out_of_range}
-use Rattle.refusals.specs.declared.Check.TheVariants.{Passes}
+use Rattle.std.specs.Prelude.{Ok}
 use Rattle.numbers.specs.Numbers.{all_digits, value}
 use Rattle.numbers.specs.Decimals.{decimal_of}
-use Rattle.numbers.specs.declared.Digits.{Digits}
-use Rattle.numbers.specs.declared.Digits.TheVariants as digits_are
 use Rattle.tables.specs.declared.Sort.{Sort}
 use Rattle.tables.specs.declared.Sort.TheVariants.{Decimal, Text}
 use Rattle.tables.specs.declared.Rules.{Rules}
@@ -22,12 +21,12 @@ use Rattle.tables.specs.declared.Table.{Table}
 use Rattle.ranges.proofs.Ranges.{range_within}
 use Rattle.tables.proofs.Figures.{kept_decimal, kept_required, decimal_width}
 use Rattle.values.specs.Values.{cell_check, said_check}
-use Rattle.values.specs.Judged.{breaks, by_length, by_digits, by_sort, value_of, check_of}
+use Rattle.values.specs.Judged.{breaks, by_digits, by_sort, value_of, check_of}
 use Rattle.values.specs.declared.Value.{Value}
 use Rattle.values.specs.declared.Value.TheVariants as value-is
 
 -- content that is neither empty nor too long is a decimal if it is digits
-fits_digits : (w : ℕ) (s : Bytes) → eqb (length s) 0 ≡ false → ltb w (length s) ≡ false → decimal_of w s ≡ (whether all_digits s then digits_are.Value (value s) else digits_are.Other)
+fits_digits : (w : ℕ) (s : Bytes) → eqb (length s) 0 ≡ false → ltb w (length s) ≡ false → decimal_of w s ≡ (whether all_digits s then Some (value s) else None)
 unfolding decimal_of
 fits_digits w s e l = rw (le-leb 1 (length s) (omega (arith, eqb-false (length s) 0 e)), le-leb (length s) w (ltb-false w (length s) l))
 
@@ -39,7 +38,7 @@ check_of_value k x s = by_length_lem (eqb (length s) 0) refl x.required (ltb x.w
     by_range true = refl
     by_range false = refl
 
-    by_digits_lem : (b : Bool) → check_of k (by_digits x (whether b then digits_are.Value (value s) else digits_are.Other)) ≡ (not_digits k when not b ⊳ out_of_range k when not (in_range x (value s)))
+    by_digits_lem : (b : Bool) → check_of k (by_digits x (whether b then Some (value s) else None)) ≡ (not_digits k when not b ⊳ out_of_range k when not (in_range x (value s)))
     by_digits_lem true = by_range (in_range x (value s))
     by_digits_lem false = refl
 
@@ -56,53 +55,45 @@ check_of_value k x s = by_length_lem (eqb (length s) 0) refl x.required (ltb x.w
     by_length_lem false e q false l = by_sort_lem e l x.sort
 
 -- at which column content stands says nothing of whether it has a fault
-pub check_kept : (k : ℕ) (x : Rules) (s : Bytes) → cell_check k x s ≡ Passes → breaks x s ≡ false
+pub check_kept : (k : ℕ) (x : Rules) (s : Bytes) → cell_check k x s ≡ Ok tt → breaks x s ≡ false
 check_kept k x s e = rw (← check_of_value 0 x s) (go (value_of x s) (check_of_value k x s ∙ e))
   where
-    go : (v : Value) → check_of k v ≡ Passes → not (passes (check_of 0 v)) ≡ false
+    go : (v : Value) → check_of k v ≡ Ok tt → not (passes (check_of 0 v)) ≡ false
     go (value-is.Number n) p = refl
     go value-is.Text p = refl
     go value-is.Empty p = refl
     go (value-is.Bad n) p = cc
 
-pub kept_check : (k : ℕ) (x : Rules) (s : Bytes) → breaks x s ≡ false → cell_check k x s ≡ Passes
+pub kept_check : (k : ℕ) (x : Rules) (s : Bytes) → breaks x s ≡ false → cell_check k x s ≡ Ok tt
 kept_check k x s e = sym (check_of_value k x s) ∙ go (value_of x s) (rw (check_of_value 0 x s) e)
   where
-    go : (v : Value) → not (passes (check_of 0 v)) ≡ false → check_of k v ≡ Passes
+    go : (v : Value) → not (passes (check_of 0 v)) ≡ false → check_of k v ≡ Ok tt
     go (value-is.Number n) p = refl
     go value-is.Text p = refl
     go value-is.Empty p = refl
     go (value-is.Bad n) p = cc
-
--- by its sort, its length and what it is read as
-pub decimal_judged : (x : Rules) (s : Bytes) (n : ℕ) (d : Digits) (v r : Value)
-    → x.sort ≡ Decimal → n ≡ length s → d ≡ decimal_of x.width s → v ≡ by_digits x d → r ≡ by_length x n v → r ≡ value_of x s
-decimal_judged x s n d v r e l p q f = f ∙ rw (q, p, l, e)
-
-pub text_judged : (x : Rules) (s : Bytes) (n : ℕ) (r : Value) → x.sort ≡ Text → n ≡ length s → r ≡ by_length x n value-is.Text → r ≡ value_of x s
-text_judged x s n r e l f = f ∙ rw (l, e)
 
 -- what a required number that keeps to its column's rules tells
 module _ (x : Rules) (s : Bytes) (e : x.sort ≡ Decimal) (q : x.required ≡ true) (b : breaks x s ≡ false) where
   number_kept : (value_of x s ≡ value-is.Number (value s)) × (in_range x (value s) ≡ true)
   number_kept = by_length_lem (eqb (length s) 0) refl (ltb x.width (length s)) refl (kept_check 0 x s b)
     where
-      by_range : (i : Bool) → (out_of_range 0 when not i) ≡ Passes → ((whether i then value-is.Number (value s) else value-is.Bad 21) ≡ value-is.Number (value s)) × (i ≡ true)
+      by_range : (i : Bool) → (out_of_range 0 when not i) ≡ Ok tt → ((whether i then value-is.Number (value s) else value-is.Bad 21) ≡ value-is.Number (value s)) × (i ≡ true)
       by_range true p = (refl, refl)
       by_range false p = let z : ◌≡◌ {A = ℕ} 0 1 = cc in absurd (omega arith)
 
-      by_digits_lem : (d : Bool) → (not_digits 0 when not d ⊳ out_of_range 0 when not (in_range x (value s))) ≡ Passes
-          → (by_digits x (whether d then digits_are.Value (value s) else digits_are.Other) ≡ value-is.Number (value s)) × (in_range x (value s) ≡ true)
+      by_digits_lem : (d : Bool) → (not_digits 0 when not d ⊳ out_of_range 0 when not (in_range x (value s))) ≡ Ok tt
+          → (by_digits x (whether d then Some (value s) else None) ≡ value-is.Number (value s)) × (in_range x (value s) ≡ true)
       by_digits_lem true p = by_range (in_range x (value s)) p
       by_digits_lem false p = let z : ◌≡◌ {A = ℕ} 0 1 = cc in absurd (omega arith)
 
-      by_sort_lem : eqb (length s) 0 ≡ false → ltb x.width (length s) ≡ false → (sort : Sort) → sort ≡ Decimal → said_check sort 0 x s ≡ Passes
+      by_sort_lem : eqb (length s) 0 ≡ false → ltb x.width (length s) ≡ false → (sort : Sort) → sort ≡ Decimal → said_check sort 0 x s ≡ Ok tt
           → (by_sort sort x s ≡ value-is.Number (value s)) × (in_range x (value s) ≡ true)
       by_sort_lem f l Decimal d p = rw (fits_digits x.width s f l) (by_digits_lem (all_digits s) p)
       by_sort_lem f l Text d p = let z : ◌≡◌ {A = ℕ} 0 1 = cc in absurd (omega arith)
 
       by_length_lem : (z : Bool) → eqb (length s) 0 ≡ z → (w : Bool) → ltb x.width (length s) ≡ w
-          → (whether z then cell_empty 0 when x.required else (cell_too_long 0 when w ⊳ said_check x.sort 0 x s)) ≡ Passes
+          → (whether z then cell_empty 0 when x.required else (cell_too_long 0 when w ⊳ said_check x.sort 0 x s)) ≡ Ok tt
           → ((whether z then (whether x.required then value-is.Bad 19 else value-is.Empty) else (whether w then value-is.Bad 20 else by_sort x.sort x s)) ≡ value-is.Number (value s)) × (in_range x (value s) ≡ true)
       by_length_lem true f w l p = let z : ◌≡◌ {A = ℕ} 0 1 = cc in absurd (omega arith)
       by_length_lem false f true l p = let z : ◌≡◌ {A = ℕ} 0 1 = cc in absurd (omega arith)

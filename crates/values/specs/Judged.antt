@@ -1,13 +1,9 @@
 -- What the code takes content, and a line, for.
 -- Inner: no promise and no contract of a public function speaks of it.
-use Rattle.std.specs.Prelude.{Bool, not, ℕ, eqb, ltb, length}
+use Rattle.std.specs.Prelude.{Bool, not, ℕ, Option, Some, None, eqb, ltb, length, Ok, Err}
 use Rattle.words.specs.Words.{Bytes, whether◌then◌else◌, Row}
-use Rattle.refusals.specs.Verdicts.{passes, cell_empty, cell_too_long, not_digits, out_of_range}
-use Rattle.refusals.specs.declared.Check.{Check}
-use Rattle.refusals.specs.declared.Check.TheVariants.{Passes, Fails}
+use Rattle.refusals.specs.Verdicts.{passes, cell_empty, cell_too_long, not_digits, out_of_range, Check, fault}
 use Rattle.numbers.specs.Decimals.{decimal_of}
-use Rattle.numbers.specs.declared.Digits.{Digits}
-use Rattle.numbers.specs.declared.Digits.TheVariants as digits_are
 use Rattle.rows.specs.Room.{zeros}
 use Rattle.tables.specs.declared.Sort.{Sort}
 use Rattle.tables.specs.declared.Sort.TheVariants.{Decimal, Text}
@@ -24,8 +20,8 @@ breaks x s = not (passes (cell_check 0 x s))
 
 -- the value of a fault
 abbrev pub against : Check → Value
-against Passes = value-is.Empty
-against (Fails n k) = value-is.Bad n
+against (Ok _) = value-is.Empty
+against (Err f) = value-is.Bad f.number
 
 -- a value by the length of its content: what is empty, what is too long, and else what is given
 abbrev pub by_length : Rules → ℕ → Value → Value
@@ -35,9 +31,9 @@ by_length x n v =
     else (whether ltb x.width n then against (cell_too_long 0) else v)
 
 -- what digits are to a column
-abbrev pub by_digits : Rules → Digits → Value
-by_digits x digits_are.Other = against (not_digits 0)
-by_digits x (digits_are.Value n) = whether in_range x n then value-is.Number n else against (out_of_range 0)
+abbrev pub by_digits : Rules → Option ℕ → Value
+by_digits x None = against (not_digits 0)
+by_digits x (Some n) = whether in_range x n then value-is.Number n else against (out_of_range 0)
 
 abbrev pub by_sort : Sort → Rules → Bytes → Value
 by_sort Decimal x s = by_digits x (decimal_of x.width s)
@@ -48,10 +44,10 @@ value_of x s = by_length x (length s) (by_sort x.sort x s)
 
 -- the check of a value at column k
 abbrev pub check_of : ℕ → Value → Check
-check_of k (value-is.Number n) = Passes
-check_of k value-is.Text = Passes
-check_of k value-is.Empty = Passes
-check_of k (value-is.Bad n) = Fails n k
+check_of k (value-is.Number n) = Ok tt
+check_of k value-is.Text = Ok tt
+check_of k value-is.Empty = Ok tt
+check_of k (value-is.Bad n) = Err (fault n k)
 
 -- the number that a row keeps of a value
 abbrev pub kept_number : Value → ℕ
@@ -66,5 +62,5 @@ unkept fault = record { check = fault; row = zeros }
 
 -- a line that passes is its row
 abbrev pub rowed : Check → Row → Judged
-rowed Passes row = record { check = Passes; row = row }
-rowed (Fails n k) row = unkept (Fails n k)
+rowed (Ok _) row = record { check = Ok tt; row = row }
+rowed (Err f) row = unkept (Err f)

@@ -1,7 +1,7 @@
 // What content is to a column, and what the cells of a line come to.
 #![tactic(auto)]
 
-ghost use Rattle.std.specs.Prelude.{◌≡◌, ◌≤◌};
+ghost use Rattle.std.specs.Prelude.{Err, ◌≡◌, ◌≤◌};
 ghost use Rattle.words.specs.Words.{whether◌then◌else◌};
 ghost use Rattle.refusals.specs.Verdicts.{cell_empty, out_of_range};
 ghost use Rattle.cells.specs.Cells.{content};
@@ -9,8 +9,7 @@ ghost use Rattle.numbers.specs.Decimals.{decimal_of};
 ghost use Rattle.tables.specs.Columns.{in_range};
 ghost use Rattle.values.specs.Judged.{against, by_length, by_digits, value_of, check_of, unkept, kept_number};
 
-use numbers::Digits;
-use refusals::{Check, Place};
+use refusals::{Check, Fault, Place};
 use rows::{NO_ROW, Row};
 use tables::{Rules, Sort};
 
@@ -31,7 +30,7 @@ pub struct Judged {
 }
 
 // What the content of a decimal's cell is read as.
-pub fn number_in(cell: &[u8], width: usize) -> Digits
+pub fn number_in(cell: &[u8], width: usize) -> Option<u64>
     requires { width ≤ 19 }
     ensures { result ≡ decimal_of width (content cell.now) }
 {
@@ -74,13 +73,26 @@ impl Value {
     }
 
     // What the content of a decimal column says.
-    fn of_digits(rules: Rules, digits: Digits) -> Value
+    fn of_digits(rules: Rules, digits: Option<u64>) -> Value
         ensures { result ≡ by_digits rules digits }
     {
         match digits {
-            Digits::Other => Value::Bad(Place::NOT_DIGITS),
-            Digits::Value(n) => Value::of_number(rules, n),
+            None => Value::Bad(Place::NOT_DIGITS),
+            Some(n) => Value::of_number(rules, n),
         }
+    }
+
+    // Content of so many bytes, which is read as a number where the column asks for one.
+    fn of_content<F: FnOnce() -> Option<u64>>(rules: Rules, count: usize, read: F) -> Value
+        requires { rules.sort ≡ Sort.Decimal → F.pre read }
+        ensures decimal { rules.sort ≡ Sort.Decimal → (digits : _) × F.post read digits × (result ≡ by_length rules count (by_digits rules digits)) }
+        ensures text { rules.sort ≡ Sort.Text → result ≡ by_length rules count Value.Text }
+    {
+        let said = match rules.sort {
+            Sort::Decimal => Value::of_digits(rules, read()),
+            Sort::Text => Value::Text,
+        };
+        Value::of_length(rules, count, said)
     }
 
     // What a cell of the column holds, by its content.
@@ -89,14 +101,7 @@ impl Value {
         ensures { result ≡ value_of rules (content cell.now) }
     {
         let count = contents::content_length(cell);
-        let sort = rules.sort;
-        match sort {
-            Sort::Decimal => {
-                let said = Value::of_digits(rules, number_in(cell, rules.width));
-                Value::of_length(rules, count, said)
-            }
-            Sort::Text => Value::of_length(rules, count, Value::Text),
-        }
+        Value::of_content(rules, count, || number_in(cell, rules.width))
     }
 
     // What a field of a slip line holds: bytes that are never quoted.
@@ -105,37 +110,26 @@ impl Value {
         ensures { result ≡ value_of rules field.now }
     {
         let count = field.len();
-        let sort = rules.sort;
-        match sort {
-            Sort::Decimal => {
-                let said = Value::of_digits(rules, numbers::number_of(field, rules.width));
-                Value::of_length(rules, count, said)
-            }
-            Sort::Text => Value::of_length(rules, count, Value::Text),
-        }
+        Value::of_content(rules, count, || numbers::number_of(field, rules.width))
     }
-}
 
-impl Value {
     // The check of a value at a column.
     pub fn check(self, column: u64) -> Check
         ensures { result ≡ check_of column self }
     {
         match self {
-            Value::Number(_) => Check::Passes,
-            Value::Text => Check::Passes,
-            Value::Empty => Check::Passes,
-            Value::Bad(number) => Check::fails(number, column),
+            Value::Number(_) | Value::Text | Value::Empty => Ok(()),
+            Value::Bad(number) => Err(Fault::new(number, column)),
         }
     }
 }
 
 // Nothing is kept of a line that has a fault.
-pub fn no_row(fault: Check) -> Judged
-    ensures { result ≡ unkept fault }
+pub fn no_row(fault: Fault) -> Judged
+    ensures { result ≡ unkept (Err fault) }
 {
     Judged {
-        check: fault,
+        check: Err(fault),
         row: NO_ROW,
     }
 }
@@ -146,8 +140,6 @@ pub fn kept_number(value: Value) -> u64
 {
     match value {
         Value::Number(n) => n,
-        Value::Text => 0,
-        Value::Empty => 0,
-        Value::Bad(_) => 0,
+        Value::Text | Value::Empty | Value::Bad(_) => 0,
     }
 }

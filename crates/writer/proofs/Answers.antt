@@ -8,9 +8,8 @@ use lib.Dec.{ltb}
 use lib.ListN.{length, length-append, take}
 use borrow.Author.Tests.{lt-ltb, le-ltb}
 use Rattle.words.specs.Words.{Bytes, bytes, Row}
-use Rattle.refusals.specs.Verdicts.{◌when◌, nowhere, output_short, ◌before◌, bad_loan}
-use Rattle.refusals.specs.declared.Verdict.{Verdict}
-use Rattle.refusals.specs.declared.Verdict.TheVariants.{Accepted}
+use Rattle.refusals.specs.Verdicts.{◌when◌, nowhere, output_short, ◌before◌, bad_loan, Verdict}
+use Rattle.std.specs.Prelude.{Ok}
 use Rattle.cells.specs.Cells.{parted}
 use Rattle.numbers.specs.Putting.{put}
 use Rattle.rows.proofs.Room.{used_take}
@@ -30,7 +29,7 @@ module _ (s out : Bytes) (size : ℕ) (long : size ≡ length s) where
   too_short v n h ev en = rw (ev, en, lt-ltb (length out) (length s) (omega arith))
 
   -- the text
-  pub all_written : (p : Bytes) → size ≤ length out → p ≡ put s out → outcome Accepted size p ≡ wrote (nowhere (output_short when ltb (length out) (length s))) s out
+  pub all_written : (p : Bytes) → size ≤ length out → p ≡ put s out → outcome (Ok tt) size p ≡ wrote (nowhere (output_short when ltb (length out) (length s))) s out
   all_written p h ep = rw (ep, long, le-ltb (length out) (length s) (omega arith))
 
 module _ (keeps : Bool) (next : Verdict) (s out : Bytes) where

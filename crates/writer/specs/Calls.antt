@@ -1,9 +1,7 @@
 -- What the write call answers, and what the lent output holds behind it.
-use Rattle.std.specs.Prelude.{◌≡◌, List, not, ℕ, length, ltb}
+use Rattle.std.specs.Prelude.{◌≡◌, List, not, ℕ, length, ltb, Ok, Err}
 use Rattle.words.specs.Words.{Bytes, Row}
-use Rattle.refusals.specs.declared.Verdict.{Verdict}
-use Rattle.refusals.specs.declared.Verdict.TheVariants.{Accepted, Refused}
-use Rattle.refusals.specs.Verdicts.{◌when◌, ◌before◌, nowhere, bad_loan, output_short}
+use Rattle.refusals.specs.Verdicts.{◌when◌, ◌before◌, nowhere, bad_loan, output_short, Verdict}
 use Rattle.numbers.specs.Putting.{put}
 use Rattle.book.specs.Room.{book_of}
 use Rattle.keeping.specs.Keeping.{keeps_rule}
@@ -20,8 +18,8 @@ outcome v n out = record { verdict = v; size = n; out = out }
 
 -- "The answer is the text's length, 0 if refused."
 abbrev pub wrote : Verdict → Bytes → Bytes → Outcome
-wrote Accepted s out = outcome Accepted (length s) (put s out)
-wrote (Refused p) s out = outcome (Refused p) 0 out
+wrote (Ok _) s out = outcome (Ok tt) (length s) (put s out)
+wrote (Err p) s out = outcome (Err p) 0 out
 
 -- "Order: 16, 14."
 abbrev pub write_call : List Row → Bytes → Outcome

@@ -1,7 +1,7 @@
 // The vehicle_block table, written.
 #![tactic(auto)]
 
-ghost use Rattle.std.specs.Prelude.{◌≡◌, [], ◌∷◌, ◌++◌, map, ◌+◌, ◌≤◌, ◌*◌, length, take, ltb};
+ghost use Rattle.std.specs.Prelude.{Err, ◌≡◌, [], ◌∷◌, ◌++◌, map, ◌+◌, ◌≤◌, ◌*◌, length, take, ltb};
 ghost use Rattle.refusals.specs.Verdicts.{nowhere, ◌when◌, output_short};
 ghost use Rattle.numbers.specs.Putting.{put};
 ghost use Rattle.rows.specs.Rows.{row_numbers};
@@ -10,7 +10,7 @@ ghost use Rattle.writer.specs.Writing.{row_line, lines_written, names_line};
 ghost use Rattle.writer.specs.Calls.{outcome, wrote, WritePermits};
 
 use number_lines::LINE_FEED;
-use refusals::{Check, Place, Verdict};
+use refusals::{Fault, Place, Verdict};
 use rows::Row;
 use tables::Table;
 
@@ -47,10 +47,8 @@ fn lines_length(list: &[Row], n: usize) -> usize
     ensures { (result ≡ length (lines_written (map row_line (take n list.now)))) × (result ≤ n * (row_numbers * 21)) }
 {
     let mut size = 0;
-    let mut i = 0;
-    'rows: while i < n {
-        size += line_length(list[i]);
-        i += 1;
+    for row in &list[..n] {
+        size += line_length(*row);
     }
     size
 }
@@ -61,10 +59,8 @@ pub fn write_rows(out: &mut [u8], list: &[Row], n: usize) -> usize
     ensures { (result ≡ length (lines_written (map row_line (take n list.now)))) × (out.new ≡ put (lines_written (map row_line (take n list.now))) out.old) }
 {
     let mut at = 0;
-    let mut written = 0;
-    'rows: while written < n {
-        at += write_row(&mut out[at..], list[written]);
-        written += 1;
+    for row in &list[..n] {
+        at += write_row(&mut out[at..], *row);
     }
     at
 }
@@ -80,11 +76,13 @@ pub fn write_header(out: &mut [u8]) -> usize
 }
 
 // Nothing is written.
-pub fn unwritten(check: Check) -> Written
-    ensures { (result.verdict ≡ nowhere check) × (result.size ≡ 0) }
+pub fn unwritten(fault: Fault) -> Written
+    ensures { (result.verdict ≡ nowhere (Err fault)) × (result.size ≡ 0) }
 {
-    let verdict = check.on(Place::NO_TABLE, Place::NO_LINE);
-    Written { verdict, size: 0 }
+    Written {
+        verdict: Err(fault.on(Place::NO_TABLE, Place::NO_LINE)),
+        size: 0,
+    }
 }
 
 // 14, or the header line and the lines of the first n rows of a list.
@@ -94,12 +92,12 @@ fn write_table(list: &[Row], n: usize, out: &mut [u8]) -> Written
 {
     let size = HEADER + lines_length(list, n);
     if out.len() < size {
-        return unwritten(Check::output_short());
+        return unwritten(Fault::output_short());
     }
     let at = write_header(out);
     write_rows(&mut out[at..], list, n);
     Written {
-        verdict: Verdict::Accepted,
+        verdict: Ok(()),
         size,
     }
 }
@@ -109,7 +107,7 @@ pub fn write(book: &[Row], out: &mut [u8]) -> Written
     ensures { WritePermits book.now out.old (outcome result.verdict result.size out.new) }
 {
     if !keeping::keeps_rule(book) {
-        return unwritten(Check::bad_loan());
+        return unwritten(Fault::bad_loan());
     }
     let n = book::count_rows(book, Table::Block);
     let blocks = book::table_of(book, Table::Block);

@@ -25,24 +25,24 @@ enter-rules-requires c =
     let st = c in
     let j = c.read_fields-read in
     let room = c.if-n-eq-ROWS.false in
-    (st.requires.2, add_room st.args.line.now st.args.book.now st.args.slots.now st.args.order.now st.args.n st.requires.2 j.result (j.ensures (book_of st.args.book.now).edition st.requires.3) st.requires.1 room, add_version st.args.line.now st.args.book.now st.args.slots.now st.args.order.now st.args.n st.requires.2 j.result (j.ensures (book_of st.args.book.now).edition st.requires.3) st.requires.1 room c.in-Passes.is)
+    (st.requires.2, add_room st.args.line.now st.args.book.now st.args.slots.now st.args.order.now st.args.n st.requires.2 j.result (j.ensures (book_of st.args.book.now).edition st.requires.3) st.requires.1 room, add_version st.args.line.now st.args.book.now st.args.slots.now st.args.order.now st.args.n st.requires.2 j.result (j.ensures (book_of st.args.book.now).edition st.requires.3) st.requires.1 room c.in-Ok.is)
 
-pub returns-in-Passes-rules : goal.returns-in-Passes-rules
-returns-in-Passes-rules c =
+pub returns-in-Ok-rules : goal.returns-in-Ok-rules
+returns-in-Ok-rules c =
     let st = c in
     let j = c.read_fields-read in
     let e = c.enter-rules in
-    add_taken st.args.line.now st.args.book.now st.args.slots.now st.args.order.now st.args.n st.requires.2 j.result (j.ensures (book_of st.args.book.now).edition st.requires.3) st.requires.1 c.if-n-eq-ROWS.false c.in-Passes.is _ _ e.result e.ensures c.in-Passes-rules.is
+    add_taken st.args.line.now st.args.book.now st.args.slots.now st.args.order.now st.args.n st.requires.2 j.result (j.ensures (book_of st.args.book.now).edition st.requires.3) st.requires.1 c.if-n-eq-ROWS.false c.in-Ok.is _ _ e.result e.ensures c.in-Ok-rules.is
 
-pub returns-in-Fails-rules : goal.returns-in-Fails-rules
-returns-in-Fails-rules c =
+pub returns-in-Err-rules : goal.returns-in-Err-rules
+returns-in-Err-rules c =
     let st = c in
     let j = c.read_fields-read in
     let e = c.enter-rules in
-    add_refused st.args.line.now st.args.book.now st.args.slots.now st.args.order.now st.args.n st.requires.2 j.result (j.ensures (book_of st.args.book.now).edition st.requires.3) st.requires.1 c.if-n-eq-ROWS.false c.in-Passes.is _ _ e.result e.ensures _ _ c.in-Fails-rules.is
+    add_refused st.args.line.now st.args.book.now st.args.slots.now st.args.order.now st.args.n st.requires.2 j.result (j.ensures (book_of st.args.book.now).edition st.requires.3) st.requires.1 c.if-n-eq-ROWS.false c.in-Ok.is _ _ e.result e.ensures _ _ c.in-Err-rules.is
 
-pub returns-in-Fails : goal.returns-in-Fails
-returns-in-Fails c =
+pub returns-in-Err : goal.returns-in-Err
+returns-in-Err c =
     let st = c in
     let j = c.read_fields-read in
-    add_faulty st.args.line.now st.args.book.now st.args.slots.now st.args.order.now st.args.n st.requires.2 j.result (j.ensures (book_of st.args.book.now).edition st.requires.3) st.requires.1 c.if-n-eq-ROWS.false _ _ c.in-Fails.is
+    add_faulty st.args.line.now st.args.book.now st.args.slots.now st.args.order.now st.args.n st.requires.2 j.result (j.ensures (book_of st.args.book.now).edition st.requires.3) st.requires.1 c.if-n-eq-ROWS.false _ _ c.in-Err.is

@@ -20,28 +20,28 @@ free_slot-requires c =
     let st = c in
     let j = c.read_fields-read in
     let on = st.requires.2 in
-    (place_within st.args.line.now st.args.book.now st.args.slots.now st.args.order.now st.args.n st.requires.2 j.result (j.ensures (book_of st.args.book.now).edition st.requires.3) _ (sym c.spot_of.ensures ∙ c.in-At.is), omega (arith, on.shelf.long, on.shelf.few))
+    (place_within st.args.line.now st.args.book.now st.args.slots.now st.args.order.now st.args.n st.requires.2 j.result (j.ensures (book_of st.args.book.now).edition st.requires.3) _ (sym c.spot_of.ensures ∙ c.in-Ok.is), omega (arith, on.shelf.long, on.shelf.few))
 
 pub overflow_sub-result : goal.overflow_sub-result
 overflow_sub-result c =
     let st = c in
     let j = c.read_fields-read in
-    omega (arith, place_within st.args.line.now st.args.book.now st.args.slots.now st.args.order.now st.args.n st.requires.2 j.result (j.ensures (book_of st.args.book.now).edition st.requires.3) _ (sym c.spot_of.ensures ∙ c.in-At.is))
+    omega (arith, place_within st.args.line.now st.args.book.now st.args.slots.now st.args.order.now st.args.n st.requires.2 j.result (j.ensures (book_of st.args.book.now).edition st.requires.3) _ (sym c.spot_of.ensures ∙ c.in-Ok.is))
 
-pub returns-in-Passes : goal.returns-in-Passes
-returns-in-Passes c =
+pub returns-in-Ok-fields : goal.returns-in-Ok-fields
+returns-in-Ok-fields c =
     let st = c in
     let j = c.read_fields-read in
-    delete_taken st.args.line.now st.args.book.now st.args.slots.now st.args.order.now st.args.n st.requires.2 j.result (j.ensures (book_of st.args.book.now).edition st.requires.3) st.requires.1 _ (sym c.spot_of.ensures ∙ c.in-At.is) c.in-Passes.is _ c.free_slot.ensures
+    delete_taken st.args.line.now st.args.book.now st.args.slots.now st.args.order.now st.args.n st.requires.2 j.result (j.ensures (book_of st.args.book.now).edition st.requires.3) st.requires.1 _ (sym c.spot_of.ensures ∙ c.in-Ok.is) c.in-Ok-fields.is _ c.free_slot.ensures
 
-pub returns-in-Fails : goal.returns-in-Fails
-returns-in-Fails c =
+pub returns-in-Err-fields : goal.returns-in-Err-fields
+returns-in-Err-fields c =
     let st = c in
     let j = c.read_fields-read in
-    delete_refused st.args.line.now st.args.book.now st.args.slots.now st.args.order.now st.args.n st.requires.2 j.result (j.ensures (book_of st.args.book.now).edition st.requires.3) st.requires.1 _ _ c.in-Fails.is
+    delete_refused st.args.line.now st.args.book.now st.args.slots.now st.args.order.now st.args.n st.requires.2 j.result (j.ensures (book_of st.args.book.now).edition st.requires.3) st.requires.1 _ _ c.in-Err-fields.is
 
-pub returns-in-Gap : goal.returns-in-Gap
-returns-in-Gap c =
+pub returns-in-Err : goal.returns-in-Err
+returns-in-Err c =
     let st = c in
     let j = c.read_fields-read in
-    delete_missing st.args.line.now st.args.book.now st.args.slots.now st.args.order.now st.args.n st.requires.2 j.result (j.ensures (book_of st.args.book.now).edition st.requires.3) st.requires.1 _ (sym c.spot_of.ensures ∙ c.in-Gap.is) _ c.or_else.result c.no_block.ensures c.or_else.ensures
+    delete_missing st.args.line.now st.args.book.now st.args.slots.now st.args.order.now st.args.n st.requires.2 j.result (j.ensures (book_of st.args.book.now).edition st.requires.3) st.requires.1 _ (sym c.spot_of.ensures ∙ c.in-Err.is) _ c.and.result c.no_block.ensures c.and.ensures

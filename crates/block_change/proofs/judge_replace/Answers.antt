@@ -3,4 +3,4 @@ use mathlib.Core.Path.{◌∙◌}
 use Rattle.block_change.proofs.judge_replace.Goals as goal
 
 pub returns : goal.returns
-returns c = c.or_else-3.ensures ∙ rw (c.or_else-2.ensures, c.or_else.ensures, c.early.ensures, c.unknown_reference-references.ensures)
+returns c = c.and-3.ensures ∙ rw (c.and-2.ensures, c.and.ensures, c.early.ensures, c.unknown_reference-references.ensures)

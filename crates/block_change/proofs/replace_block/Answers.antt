@@ -19,25 +19,25 @@ pub set_slot-requires : goal.set_slot-requires
 set_slot-requires c =
     let st = c in
     let j = c.read_fields-read in
-    (st.requires.2.shelf, place_within st.args.line.now st.args.book.now st.args.slots.now st.args.order.now st.args.n st.requires.2 j.result (j.ensures (book_of st.args.book.now).edition st.requires.3) _ (sym c.spot_of.ensures ∙ c.in-At.is))
+    (st.requires.2.shelf, place_within st.args.line.now st.args.book.now st.args.slots.now st.args.order.now st.args.n st.requires.2 j.result (j.ensures (book_of st.args.book.now).edition st.requires.3) _ (sym c.spot_of.ensures ∙ c.in-Ok.is))
 
-pub returns-in-Passes : goal.returns-in-Passes
-returns-in-Passes c =
+pub returns-in-Ok-check : goal.returns-in-Ok-check
+returns-in-Ok-check c =
     let st = c in
     let j = c.read_fields-read in
     let q = c.judge_replace-check in
-    replace_taken st.args.line.now st.args.book.now st.args.slots.now st.args.order.now st.args.n st.requires.2 j.result (j.ensures (book_of st.args.book.now).edition st.requires.3) st.requires.1 q.result _ (sym c.spot_of.ensures ∙ c.in-At.is) q.ensures c.in-Passes.is _ c.set_slot.ensures
+    replace_taken st.args.line.now st.args.book.now st.args.slots.now st.args.order.now st.args.n st.requires.2 j.result (j.ensures (book_of st.args.book.now).edition st.requires.3) st.requires.1 q.result _ (sym c.spot_of.ensures ∙ c.in-Ok.is) q.ensures c.in-Ok-check.is _ c.set_slot.ensures
 
-pub returns-in-Fails : goal.returns-in-Fails
-returns-in-Fails c =
+pub returns-in-Err-check : goal.returns-in-Err-check
+returns-in-Err-check c =
     let st = c in
     let j = c.read_fields-read in
     let q = c.judge_replace-check in
-    replace_refused st.args.line.now st.args.book.now st.args.slots.now st.args.order.now st.args.n st.requires.2 j.result (j.ensures (book_of st.args.book.now).edition st.requires.3) st.requires.1 q.result _ (sym c.spot_of.ensures ∙ c.in-At.is) q.ensures _ _ c.in-Fails.is
+    replace_refused st.args.line.now st.args.book.now st.args.slots.now st.args.order.now st.args.n st.requires.2 j.result (j.ensures (book_of st.args.book.now).edition st.requires.3) st.requires.1 q.result _ (sym c.spot_of.ensures ∙ c.in-Ok.is) q.ensures _ _ c.in-Err-check.is
 
-pub returns-in-Gap : goal.returns-in-Gap
-returns-in-Gap c =
+pub returns-in-Err : goal.returns-in-Err
+returns-in-Err c =
     let st = c in
     let j = c.read_fields-read in
     let q = c.judge_replace in
-    replace_missing st.args.line.now st.args.book.now st.args.slots.now st.args.order.now st.args.n st.requires.2 j.result (j.ensures (book_of st.args.book.now).edition st.requires.3) st.requires.1 q.result _ (sym c.spot_of.ensures ∙ c.in-Gap.is) _ c.no_block.ensures q.ensures
+    replace_missing st.args.line.now st.args.book.now st.args.slots.now st.args.order.now st.args.n st.requires.2 j.result (j.ensures (book_of st.args.book.now).edition st.requires.3) st.requires.1 q.result _ (sym c.spot_of.ensures ∙ c.in-Err.is) _ c.no_block.ensures q.ensures

@@ -11,7 +11,7 @@ table_of-table-requires c = c.requires.0.long
 pub offset_bounds-table-i : goal.offset_bounds-table-i
 offset_bounds-table-i c =
     let st = c in
-    omega (arith, st.requires.1, (laying.orderly_book st.args.book.now st.requires.0).few st.args.t, part_within st.args.t)
+    omega (arith, st.requires.1, laying.rows_few st.args.book.now st.requires.0 st.args.t, part_within st.args.t)
 
 pub bounds-table-i : goal.bounds-table-i
 bounds-table-i c =

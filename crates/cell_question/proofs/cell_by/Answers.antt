@@ -4,14 +4,14 @@ use Rattle.refusals.specs.declared.Cell.TheVariants.{Empty}
 use Rattle.cell_question.proofs.Asking.{asked_known, asked_unknown}
 use Rattle.cell_question.proofs.cell_by.Goals as goal
 
-pub returns-in-Known : goal.returns-in-Known
-returns-in-Known c =
+pub returns-in-Some : goal.returns-in-Some
+returns-in-Some c =
     let a = c.args in
-    let n = c.numbered-named in
-    c.cell_in_table.ensures ∙ asked_known a.edition a.text.now a.table a.line a.column n.result n.ensures c.in-Known.t c.in-Known.is
+    let n = c.numbered in
+    c.cell_in_table.ensures ∙ asked_known a.edition a.text.now a.table a.line a.column n.result n.ensures c.in-Some.t c.in-Some.is
 
-pub returns-in-Unknown : goal.returns-in-Unknown
-returns-in-Unknown c =
+pub returns-in-None : goal.returns-in-None
+returns-in-None c =
     let a = c.args in
-    let n = c.numbered-named in
-    c.not_there.ensures Empty ∙ asked_unknown a.edition a.text.now a.table a.line a.column n.result n.ensures c.in-Unknown.is
+    let n = c.numbered in
+    c.not_there.ensures Empty ∙ asked_unknown a.edition a.text.now a.table a.line a.column n.result n.ensures c.in-None.is

@@ -29,7 +29,7 @@ slice_bounds-cell_in_row-count c =
     let s = st.args.bytes.now in
     let w = c.row_asked-way in
     let r = c.next_line-l in
-    let h = w.ensures.inside c.in-Accepted.is in
+    let h = w.ensures.inside c.in-Ok.is in
     let l = line_from st.args.edition s w.result.begin r.result h r.ensures in
     omega (arith, l.low)
 
@@ -39,7 +39,7 @@ slice_bounds-cell_in_row-start c =
     let s = st.args.bytes.now in
     let w = c.row_asked-way in
     let r = c.next_line-l in
-    let h = w.ensures.inside c.in-Accepted.is in
+    let h = w.ensures.inside c.in-Ok.is in
     let l = line_from st.args.edition s w.result.begin r.result h r.ensures in
     omega (arith, l.low, l.high)
 
@@ -49,7 +49,7 @@ slice_bounds-cell_in_row-end c =
     let s = st.args.bytes.now in
     let w = c.row_asked-way in
     let r = c.next_line-l in
-    let h = w.ensures.inside c.in-Accepted.is in
+    let h = w.ensures.inside c.in-Ok.is in
     let l = line_from st.args.edition s w.result.begin r.result h r.ensures in
     omega (arith, l.low, l.high)
 
@@ -59,29 +59,29 @@ cell_in_row-requires c =
     let s = st.args.bytes.now in
     let w = c.row_asked-way in
     let r = c.next_line-l in
-    let h = w.ensures.inside c.in-Accepted.is in
+    let h = w.ensures.inside c.in-Ok.is in
     let l = line_from st.args.edition s w.result.begin r.result h r.ensures in
     (omega (arith, part_length s w.result.begin r.result.end l.high, l.low, l.high, st.requires.2.short), st.requires.0, omega (arith, st.requires.1, columns_few st.args.edition st.args.t), st.requires.2.few, st.requires.4)
 
-pub returns-in-Refused : goal.returns-in-Refused
-returns-in-Refused c =
+pub returns-in-Err : goal.returns-in-Err
+returns-in-Err c =
     let st = c in
     let s = st.args.bytes.now in
     let w = c.row_asked-way in
     let a = st.args in
     let top = a.top in
     way_refused a.edition a.t s a.line a.column (λ z. omega (arith, st.requires.0)) st.requires.1 st.requires.3 top.line (lines a.edition (drop top.next s)) st.requires.2.first st.requires.2.rest w.result.verdict
-    (w.ensures.is ∙ ap (λ (n : ℕ). above_from a.edition n a.line top.line (lines a.edition (drop top.next s)) before nowhere (not_there when not (starts_on a.edition a.line top.line (lines a.edition (drop top.next s))))) c.number.ensures) _ c.in-Refused.is
+    (w.ensures.is ∙ ap (λ (n : ℕ). above_from a.edition n a.line top.line (lines a.edition (drop top.next s)) before nowhere (not_there when not (starts_on a.edition a.line top.line (lines a.edition (drop top.next s))))) c.number.ensures) _ c.in-Err.is
 
-pub returns-in-Accepted : goal.returns-in-Accepted
-returns-in-Accepted c =
+pub returns-in-Ok : goal.returns-in-Ok
+returns-in-Ok c =
     let st = c in
     let s = st.args.bytes.now in
     let w = c.row_asked-way in
     let a = st.args in
     let top = a.top in
     let r = c.next_line-l in
-    let accepted = c.in-Accepted.is in
+    let accepted = c.in-Ok.is in
     c.cell_in_row.ensures (header_of a.edition a.t s) st.requires.2.headed
     ∙ line_here_lem a.edition a.t s a.line a.column (λ z. omega (arith, st.requires.0)) st.requires.1 st.requires.3 top.line (lines a.edition (drop top.next s)) st.requires.2.first st.requires.2.rest w.result.verdict
     (w.ensures.is ∙ ap (λ (n : ℕ). above_from a.edition n a.line top.line (lines a.edition (drop top.next s)) before nowhere (not_there when not (starts_on a.edition a.line top.line (lines a.edition (drop top.next s))))) c.number.ensures) accepted w.result.begin _ (w.ensures.start accepted)

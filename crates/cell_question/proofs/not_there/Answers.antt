@@ -1,5 +1,8 @@
 -- `cell_question::not_there` meets its contract. Assumes nothing.
+use mathlib.Core.Path.{ap, ◌∙◌}
+use Rattle.refusals.specs.Verdicts.{Check, nowhere}
+use Rattle.cell_question.specs.CellQuestion.{answered}
 use Rattle.cell_question.proofs.not_there.Goals as goal
 
 pub returns : goal.returns
-returns c = λ k. c.refused.ensures 15 0 k c.not_there.ensures
+returns c = λ k. c.refused.ensures k ∙ ap (λ (q : Check). answered (nowhere q) k) c.not_there.ensures

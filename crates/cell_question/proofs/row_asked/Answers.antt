@@ -1,4 +1,5 @@
 use mathlib.Core.Path.{refl, ap, ◌∙◌}
+use Rattle.std.specs.Prelude.{Err}
 use Prim.Native.Nat.{◌-◌, ◌<◌}
 use native.Mathlib.Omega.{arith}
 use lib.ListN.{length, take, drop}
@@ -8,6 +9,7 @@ use Rattle.lines.specs.Ends.{line_at}
 use Rattle.lines.proofs.Lining.{line_from}
 use Rattle.cell_question.proofs.Walking.{after_more, walk_begun, walk_ended, walk_past, walk_refused, walk_on, walk_found}
 use Rattle.cell_question.proofs.row_asked.Goals as goal
+use Rattle.cell_question.proofs.row_asked.Goals.{then-line-i-via-then-line-i, then-line-i-via-else-line-i+then-bytes-at-2}
 
 pub rows-init : goal.rows-init
 rows-init c =
@@ -52,16 +54,16 @@ slice_bounds-check_above-end c =
     let t = line_from a.edition s k.at r.result h r.ensures in
     omega (arith, t.low, t.high)
 
-pub returns-in-Refused : goal.returns-in-Refused
-returns-in-Refused c =
+pub returns-in-Err : goal.returns-in-Err
+returns-in-Err c =
     let a = c.args in
     let s = a.bytes.now in
     let k = c.rows in
     let r = c.next_line-l in
     let h : k.at < length s = c.if-bytes-at.false in
     let t = line_from a.edition s k.at r.result h r.ensures in
-    walk_refused a.edition a.table a.line a.first s a.from k.i k.at k.invariant r.result h r.ensures c.rows-test.true c.on-verdict.result
-    (c.on-verdict.ensures ∙ ap (placed a.table k.i) c.check_above.ensures) _ c.in-Refused.is k.at
+    walk_refused a.edition a.table a.line a.first s a.from k.i k.at k.invariant r.result h r.ensures c.rows-test.true c.placed-verdict.result
+    (c.placed-verdict.ensures ∙ ap (placed a.table k.i) c.check_above.ensures) _ c.in-Err.is k.at
 
 pub slice_bounds-line_after-count : goal.slice_bounds-line_after-count
 slice_bounds-line_after-count c =
@@ -118,22 +120,17 @@ rows-preserved c =
     let r = c.next_line-l in
     let h : k.at < length s = c.if-bytes-at.false in
     let t = line_from a.edition s k.at r.result h r.ensures in
-    walk_on a.edition a.table a.line a.first s a.from k.i k.at k.invariant r.result h r.ensures c.rows-test.true c.on-verdict.result
-    (c.on-verdict.ensures ∙ ap (placed a.table k.i) c.check_above.ensures) c.in-Accepted.is c.line_after-i.result c.line_after-i.ensures
+    walk_on a.edition a.table a.line a.first s a.from k.i k.at k.invariant r.result h r.ensures c.rows-test.true c.placed-verdict.result
+    (c.placed-verdict.ensures ∙ ap (placed a.table k.i) c.check_above.ensures) c.in-Ok.is c.line_after-i.result c.line_after-i.ensures
 
 pub returns-then-line-i : goal.returns-then-line-i
 returns-then-line-i c =
     let a = c.args in
-    let s = a.bytes.now in
     let k = c.rows in
-    walk_past a.edition a.table a.line a.first s a.from k.i k.at k.invariant c.if-line-i.true c.no_row-then-line-i.result c.no_row-then-line-i.ensures
-
-pub returns-then-bytes-at-2 : goal.returns-then-bytes-at-2
-returns-then-bytes-at-2 c =
-    let a = c.args in
-    let s = a.bytes.now in
-    let k = c.rows in
-    walk_ended a.edition a.table a.line a.first s a.from k.i k.at k.invariant c.if-bytes-at-2.true c.no_row-then-bytes-at-2.result c.no_row-then-bytes-at-2.ensures
+    elim c.then-line-i.branch [
+      | then-line-i-via-then-line-i w ↦ walk_past a.edition a.table a.line a.first a.bytes.now a.from k.i k.at k.invariant w.if-line-i.true c.no_row-then-line-i.result c.no_row-then-line-i.ensures
+      | then-line-i-via-else-line-i+then-bytes-at-2 w ↦ walk_ended a.edition a.table a.line a.first a.bytes.now a.from k.i k.at k.invariant w.if-bytes-at-2.true c.no_row-then-line-i.result c.no_row-then-line-i.ensures
+    ]
 
 pub returns : goal.returns
 returns c =

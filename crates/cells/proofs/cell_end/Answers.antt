@@ -1,12 +1,7 @@
 use mathlib.Core.Path.{sym, ◌∙◌}
-use native.Mathlib.Omega.{arith}
 use lib.ListN.{drop}
-use Rattle.cells.proofs.Contents.{quoted_within}
 use Rattle.cells.proofs.Ending.{fresh_inside, fresh_plain}
 use Rattle.cells.proofs.cell_end.Goals as goal
-
-pub overflow_add-from : goal.overflow_add-from
-overflow_add-from c = omega (arith, quoted_within c.args.line.now c.args.from (sym c.quote_at.ensures ∙ c.if-quote_at.true))
 
 pub returns-then-quote_at : goal.returns-then-quote_at
 returns-then-quote_at c = c.quoted_end.ensures ∙ sym (fresh_inside c.args.edition c.args.line.now c.args.from (sym c.quote_at.ensures ∙ c.if-quote_at.true))

@@ -1,13 +1,11 @@
 -- `cells::cell_of` meets its contract: a cell stands between its bounds, and what is no cell's number has none. Assumes nothing.
-use mathlib.Core.Path.{sym}
 use Prim.Native.Nat.{◌-◌}
 use native.Mathlib.Omega.{arith}
 use lib.ListN.{get_or}
-use borrow.Author.Tests.{eq-eqb}
 use Rattle.cells.specs.Cells.{cut, cells_of}
 use Rattle.cells.specs.Numbered.{cell_numbered}
 use Rattle.cells.proofs.Marking.{Stands}
-use Rattle.cells.proofs.Numbered.{cell_bounded, behind_last}
+use Rattle.cells.proofs.Numbered.{cell_bounded}
 use Rattle.cells.proofs.cell_of.Goals as goal
 use Rattle.cells.proofs.cell_of.Goals.{After-shared_slice_known-2-1}
 
@@ -15,14 +13,6 @@ between : (c : After-shared_slice_known-2-1) → let a = c.args in Stands a.line
 between c =
     let st = c in
     cell_bounded st.args.edition st.args.line.now st.args.bounds.now st.args.cells st.args.cell st.requires (omega (arith, c.if-cell-eq0.false)) (omega (arith, c.if-cells-cell.false))
-
-pub returns-then-cell-eq0 : goal.returns-then-cell-eq0
-returns-then-cell-eq0 c = rw (eq-eqb _ _ c.if-cell-eq0.true)
-
-pub returns-then-cells-cell : goal.returns-then-cells-cell
-returns-then-cells-cell c =
-    let st = c in
-    sym (behind_last st.args.cell (cells_of (cut st.args.edition st.args.line.now)) (omega (arith, c.if-cell-eq0.false)) (omega (arith, c.if-cells-cell.true, st.requires.counted)))
 
 pub overflow_sub-to : goal.overflow_sub-to
 overflow_sub-to c = omega (arith, (between (goal.at.overflow_sub-to c).After-shared_slice_known-2-1).ordered)

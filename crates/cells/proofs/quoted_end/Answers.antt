@@ -1,7 +1,4 @@
 use mathlib.Core.Path.{sym, ◌∙◌}
-use Prim.Native.Nat.{◌+◌}
-use native.Mathlib.Omega.{arith}
-use Rattle.cells.proofs.Contents.{quoted_within}
 use Rattle.cells.proofs.Ending.{inside_on, inside_break, inside_control, inside_doubled, inside_closed, inside_last}
 use Rattle.cells.proofs.quoted_end.Goals as goal
 
@@ -13,9 +10,6 @@ bytes-preserved-then-break_at c = let k = c in let a = k.args in sym (inside_bre
 
 pub returns-then-line-i-ne34 : goal.returns-then-line-i-ne34
 returns-then-line-i-ne34 c = let k = c in let a = k.args in sym (inside_control a.edition a.line.now k.bytes.i c.bytes-test.true (sym c.stays_inside.ensures ∙ c.if-stays_inside.false) (sym c.break_at.ensures ∙ c.if-break_at.false) c.if-line-i-ne34.true) ∙ k.bytes.invariant
-
-pub overflow_add-i-then-quote_at : goal.overflow_add-i-then-quote_at
-overflow_add-i-then-quote_at c = let k = c in let a = k.args in omega (arith, quoted_within a.line.now (k.bytes.i + 1) (sym c.quote_at.ensures ∙ c.if-quote_at.true))
 
 pub bytes-preserved : goal.bytes-preserved
 bytes-preserved c = let k = c in let a = k.args in sym (inside_doubled a.edition a.line.now k.bytes.i c.bytes-test.true c.if-line-i-ne34.false (sym c.quote_at.ensures ∙ c.if-quote_at.true)) ∙ k.bytes.invariant

@@ -1,4 +1,5 @@
 -- `day::day` meets its contract: 16 of the working area, the reading, and the slip behind an accepted one. Assumes nothing.
+use Rattle.std.specs.Prelude.{Err}
 use mathlib.Core.Path.{ap, ◌∙◌}
 use Rattle.refusals.specs.Verdicts.{placed}
 use Rattle.slips.proofs.Posting.{work_cleared}
@@ -12,23 +13,23 @@ returns-then-work-ne-ROWS c =
     let xs = st.args.book.now in
     let work = st.args.work.now in
     let emptying = c.empty_book in
-    day_unsized st.args.edition _ s xs work c.on.result emptying.new.book c.if-work-ne-ROWS.true (c.on.ensures ∙ ap (placed 0 0) c.bad_loan.ensures) emptying.ensures
+    day_unsized st.args.edition _ s xs work (Err c.on.result) emptying.new.book c.if-work-ne-ROWS.true (c.on.ensures ∙ ap (placed 0 0) c.bad_loan.ensures) emptying.ensures
 
-pub returns-in-Accepted : goal.returns-in-Accepted
-returns-in-Accepted c =
+pub returns-in-Ok : goal.returns-in-Ok
+returns-in-Ok c =
     let st = c in
     let s = st.args.slip.now in
     let xs = st.args.book.now in
     let work = st.args.work.now in
     let read = c.read in
-    day_slip st.args.edition _ s xs work c.if-work-ne-ROWS.false read.result read.new.book read.ensures _ c.in-Accepted.is c.slip.ensures
+    day_slip st.args.edition _ s xs work c.if-work-ne-ROWS.false read.result read.new.book read.ensures _ c.in-Ok.is c.slip.ensures
 
-pub returns-in-Refused : goal.returns-in-Refused
-returns-in-Refused c =
+pub returns-in-Err : goal.returns-in-Err
+returns-in-Err c =
     let st = c in
     let s = st.args.slip.now in
     let xs = st.args.book.now in
     let work = st.args.work.now in
     let read = c.read in
     let sized = c.if-work-ne-ROWS.false in
-    day_refused st.args.edition _ s xs work sized read.result read.new.book read.ensures c.in-Refused.place _ c.in-Refused.is (work_cleared work _ _ sized sized c.clear.ensures)
+    day_refused st.args.edition _ s xs work sized read.result read.new.book read.ensures c.in-Err.place _ c.in-Err.is (work_cleared work _ _ sized sized c.clear.ensures)

@@ -12,54 +12,53 @@ use Rattle.day_tally.proofs.tally_blocks.Goals as goal
 pub count_rows-n-requires : goal.count_rows-n-requires
 count_rows-n-requires c = keeps_sound c.args.book.now c.requires.0
 
-pub blocks-2-init : goal.blocks-2-init
-blocks-2-init c =
+pub loop-i-init : goal.loop-i-init
+loop-i-init c =
     let st = c in
     let a = st.args in
-    (omega arith, c.count_rows-n.ensures.0, c.count_rows-n.ensures.1, sofar_none a.version a.number (book_of a.book.now).blocks a.tally.now _ st.requires.1 refl)
+    (c.count_rows-n.ensures.0, c.count_rows-n.ensures.1, sofar_none a.version a.number (book_of a.book.now).blocks a.tally.now _ st.requires.1 refl)
 
 pub row_at-row-requires : goal.row_at-row-requires
 row_at-row-requires c =
     let st = c in
-    (keeps_sound st.args.book.now st.requires.0, omega (arith, c.blocks-2.invariant.1))
+    (keeps_sound st.args.book.now st.requires.0, omega (arith, c.loop-i.invariant.0))
 
 pub add_block-at-requires : goal.add_block-at-requires
 add_block-at-requires c =
     let st = c in
     let a = st.args in
     let xs = a.book.now in
-    let at = c.blocks-2 in
-    let more : at.i < length (book_of xs).blocks = omega (arith, at.invariant.1, c.blocks-2-test.true) in
-    let room : length (book_of xs).blocks ≤ 512 = omega (arith, at.invariant.1, at.invariant.2) in (
-      omega (arith, at.invariant.3.few, at.invariant.3.long),
-      sofar_most a.version a.number (book_of xs).blocks at.tally at.at at.i at.invariant.3 room (book_short xs st.requires.0) (omega (arith, at.invariant.3.few)),
+    let at = c.loop-i in
+    let more : at.i < length (book_of xs).blocks = omega (arith, at.invariant.0, c.loop-i-test.true) in
+    let room : length (book_of xs).blocks ≤ 512 = omega (arith, at.invariant.0, at.invariant.1) in (
+      omega (arith, at.invariant.2.few, at.invariant.2.long),
+      sofar_most a.version a.number (book_of xs).blocks at.tally at.at at.i at.invariant.2 room (book_short xs st.requires.0) (omega (arith, at.invariant.2.few)),
       block_seconds xs st.requires.0 at.i c.row_at-row.result more c.row_at-row.ensures,
     )
 
-pub blocks-2-preserved : goal.blocks-2-preserved
-blocks-2-preserved c =
+pub loop-i-preserved : goal.loop-i-preserved
+loop-i-preserved c =
     let st = c in
     let a = st.args in
     let xs = a.book.now in
-    let at = c.blocks-2 in
+    let at = c.loop-i in
     let row = c.row_at-row in
-    let more : at.i < length (book_of xs).blocks = omega (arith, at.invariant.1, c.blocks-2-test.true) in
-    let room : length (book_of xs).blocks ≤ 512 = omega (arith, at.invariant.1, at.invariant.2) in (
-      omega arith,
+    let more : at.i < length (book_of xs).blocks = omega (arith, at.invariant.0, c.loop-i-test.true) in
+    let room : length (book_of xs).blocks ≤ 512 = omega (arith, at.invariant.0, at.invariant.1) in (
+      at.invariant.0,
       at.invariant.1,
-      at.invariant.2,
-      sofar_next a.version a.number (book_of xs).blocks at.tally at.at at.i at.invariant.3 ((keeps_sound xs st.requires.0).tables Block).rises more room row.result row.ensures _ _ c.add_block-at.ensures.0 c.add_block-at.ensures.1,
+      sofar_next a.version a.number (book_of xs).blocks at.tally at.at at.i at.invariant.2 ((keeps_sound xs st.requires.0).tables Block).rises more room row.result row.ensures _ _ c.add_block-at.ensures.0 c.add_block-at.ensures.1,
     )
 
 pub shape_of-tally : goal.shape_of-tally
-shape_of-tally c = c.blocks-2.invariant.3.long ∙ sym c.requires.1
+shape_of-tally c = c.loop-i.invariant.2.long ∙ sym c.requires.1
 
 pub returns : goal.returns
 returns c =
     let st = c in
     let a = st.args in
     let xs = a.book.now in
-    let at = c.blocks-2 in
-    let all : length (book_of xs).blocks ≤ at.i = omega (arith, at.invariant.1, c.blocks-2-test.false) in
-    let room : length (book_of xs).blocks ≤ 512 = omega (arith, at.invariant.1, at.invariant.2) in
-    sofar_all a.version a.number (book_of xs).blocks at.tally at.at at.i at.invariant.3 all room (book_short xs st.requires.0) (omega (arith, at.invariant.3.few, at.invariant.0, at.invariant.2))
+    let at = c.loop-i in
+    let all : length (book_of xs).blocks ≤ at.i = omega (arith, at.invariant.0, c.loop-i-test.false) in
+    let room : length (book_of xs).blocks ≤ 512 = omega (arith, at.invariant.0, at.invariant.1) in
+    sofar_all a.version a.number (book_of xs).blocks at.tally at.at at.i at.invariant.2 all room (book_short xs st.requires.0) (omega (arith, at.invariant.2.few, at.invariant.1))

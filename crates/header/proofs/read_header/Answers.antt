@@ -3,8 +3,8 @@ use mathlib.Core.Path.{◌≡◌, sym, ap, ◌∙◌}
 use Prim.Native.Nat.{◌<◌, ◌≤◌}
 use native.Mathlib.Omega.{arith}
 use lib.ListN.{length}
-use Rattle.refusals.specs.declared.Check.{Check}
-use Rattle.refusals.specs.declared.Check.TheVariants.{Passes}
+use Rattle.std.specs.Prelude.{Ok}
+use Rattle.refusals.specs.Verdicts.{Check}
 use Rattle.cells.specs.Cells.{cut, cells_of}
 use Rattle.header.specs.Header.{header, line_check, most_cells}
 use Rattle.header.specs.Heading.{headed}
@@ -17,22 +17,22 @@ returns-then-cells-gt-MOST_CELLS c =
     let line = a.line.now in
     let h = header a.edition a.t (cells_of (cut a.edition line)) in
     let r = c.cut_line-cut in
-    let passes = c.in-Passes.is in
-    let e : line_check a.edition line ≡ Passes = sym r.ensures.is ∙ passes in
+    let passes = c.in-Ok.is in
+    let e : line_check a.edition line ≡ (Ok tt) = sym r.ensures.is ∙ passes in
     let l : most_cells < length (cells_of (cut a.edition line)) = omega (arith, r.ensures.counted passes, c.if-cells-gt-MOST_CELLS.true) in
-    c.no_heading-then-cells-gt-MOST_CELLS.ensures 4 0 h c.too_many_cells.ensures ∙ ap (λ (q : Check). headed q h) (sym (header_wide a.edition a.t line e l))
+    c.no_heading-then-cells-gt-MOST_CELLS.ensures h ∙ ap (λ (q : Check). headed q h) (c.too_many_cells.ensures ∙ sym (header_wide a.edition a.t line e l))
 
 pub map_names-requires : goal.map_names-requires
 map_names-requires c =
     let r = c.cut_line-cut in
-    (r.ensures.marks c.in-Passes.is (omega (arith, c.if-cells-gt-MOST_CELLS.false, c.bounds-2-1.given)), c.requires)
+    (r.ensures.marks c.in-Ok.is (omega (arith, c.if-cells-gt-MOST_CELLS.false, c.bounds-2-1.given)), c.requires)
 
-pub returns-in-Fails : goal.returns-in-Fails
-returns-in-Fails c =
+pub returns-in-Err : goal.returns-in-Err
+returns-in-Err c =
     let a = c.args in
     let line = a.line.now in
     let h = header a.edition a.t (cells_of (cut a.edition line)) in
-    c.no_heading.ensures c.in-Fails.number c.in-Fails.column h c.in-Fails.is ∙ ap (λ (q : Check). headed q h) (sym (header_refused a.edition a.t line c.in-Fails.number c.in-Fails.column (sym c.cut_line-cut.ensures.is ∙ c.in-Fails.is)))
+    c.no_heading.ensures h ∙ ap (λ (q : Check). headed q h) (sym (header_refused a.edition a.t line c.in-Err.fault.number c.in-Err.fault.column (sym c.cut_line-cut.ensures.is ∙ c.in-Err.is)))
 
 pub returns-else-cells-gt-MOST_CELLS : goal.returns-else-cells-gt-MOST_CELLS
 returns-else-cells-gt-MOST_CELLS c =
@@ -40,7 +40,7 @@ returns-else-cells-gt-MOST_CELLS c =
     let line = a.line.now in
     let h = header a.edition a.t (cells_of (cut a.edition line)) in
     let r = c.cut_line-cut in
-    let passes = c.in-Passes.is in
-    let e : line_check a.edition line ≡ Passes = sym r.ensures.is ∙ passes in
+    let passes = c.in-Ok.is in
+    let e : line_check a.edition line ≡ (Ok tt) = sym r.ensures.is ∙ passes in
     let l : length (cells_of (cut a.edition line)) ≤ most_cells = omega (arith, r.ensures.counted passes, c.if-cells-gt-MOST_CELLS.false) in
     c.map_names.ensures ∙ ap (λ (q : Check). headed q h) (sym (header_names a.edition a.t line e l))

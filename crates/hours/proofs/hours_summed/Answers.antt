@@ -1,56 +1,39 @@
-use Rattle.book.specs.Room.{book_of}
-use Rattle.keeping.proofs.Keeping.{keeps_sound}
-use Rattle.questions.proofs.Sums.{block_seconds}
-use Rattle.hours.proofs.Each.{each_next, each_end}
-use lib.Ieee.{of_bits}
-use lib.ListN.{length}
-use Prim.Native.Nat.{◌≤◌, ◌<◌}
-use native.Mathlib.Omega.{arith}
 use mathlib.Core.Path.{refl, sym, ◌∙◌}
+use native.Mathlib.Omega.{arith}
+use lib.Ieee.{of_bits}
+use Rattle.keeping.proofs.Keeping.{keeps_sound}
+use Rattle.questions.proofs.Sums.{each_seconds}
+use Rattle.hours.proofs.Each.{each_more, each_same, each_end}
 use Rattle.hours.proofs.hours_summed.Goals as goal
+use Rattle.hours.proofs.hours_summed.Goals.{then-of_type, else-of_type}
 
-pub count_rows-n-requires : goal.count_rows-n-requires
-count_rows-n-requires c = keeps_sound c.args.book.now c.requires
+pub rows_of-blocks-requires : goal.rows_of-blocks-requires
+rows_of-blocks-requires c = keeps_sound c.args.book.now c.requires
 
-pub blocks-2-init : goal.blocks-2-init
+pub loop-row-init : goal.loop-row-init
 unfolding of_bits
-blocks-2-init c = (omega arith, c.count_rows-n.ensures.0, c.count_rows-n.ensures.1, refl)
+loop-row-init c = refl
 
-pub row_at-row-requires : goal.row_at-row-requires
-row_at-row-requires c = (keeps_sound c.args.book.now c.requires, omega (arith, c.blocks-2.invariant.1))
+pub hours-sum-requires : goal.hours-sum-requires
+hours-sum-requires c =
+    let rows = c.rows_of-blocks in
+    omega (arith, each_seconds c.args.book.now rows.result.now c.requires rows.ensures c.loop-row.row-index c.loop-row-test.true, c.seconds_of.ensures)
 
-pub added-sum-requires : goal.added-sum-requires
-added-sum-requires c =
-    let ty = c in
-    let at = ty in
-    let st = at in
-    let row = ty.row_at-row in
-    let xs = st.args.book.now in
-    let i = at.blocks-2.i in
-    let more : i < length (book_of xs).blocks = omega (arith, at.blocks-2.invariant.1, ty.blocks-2-test.true) in
-    omega (arith, block_seconds xs st.requires i row.result more row.ensures, c.seconds_of-seconds.ensures)
-
-pub blocks-2-preserved : goal.blocks-2-preserved
-blocks-2-preserved c =
-    let ty = c in
-    let at = ty in
-    let st = at in
-    let a = st.args in
-    let row = ty.row_at-row in
-    let bs = (book_of a.book.now).blocks in
-    let i = at.blocks-2.i in
-    let more : i < length bs = omega (arith, at.blocks-2.invariant.1, ty.blocks-2-test.true) in (
-      omega arith,
-      at.blocks-2.invariant.1,
-      at.blocks-2.invariant.2,
-      at.blocks-2.invariant.3
-          ∙ each_next a.version a.number bs at.blocks-2.sum c.added-sum.result i row.result ty.of_type-here.result c.seconds_of-seconds.result more row.ensures ty.of_type-here.ensures c.seconds_of-seconds.ensures c.added-sum.ensures,
-    )
+pub loop-row-preserved : goal.loop-row-preserved
+loop-row-preserved c =
+    let a = c.args in
+    let rs = c.rows_of-blocks.result.now in
+    let l = c.loop-row in
+    let here = c.loop-row-test.true in
+    elim c.if-of_type.branch [
+      | then-of_type w ↦
+          rw (w.sum-is, w.hours-sum.ensures, w.seconds_of.ensures) (l.invariant ∙ each_more a.version a.number rs l.sum l.row-index here (sym w.if-of_type.ensures))
+      | else-of_type w ↦ rw w.sum-is (l.invariant ∙ each_same a.version a.number rs l.sum l.row-index here (sym w.if-of_type.ensures))
+    ]
 
 pub returns : goal.returns
 returns c =
-    let at = c in
-    let a = at.args in
-    let bs = (book_of a.book.now).blocks in
-    let l : length bs ≤ at.blocks-2.i = omega (arith, at.blocks-2.invariant.1, c.blocks-2-test.false) in
-    sym (at.blocks-2.invariant.3 ∙ each_end a.version a.number bs at.blocks-2.sum at.blocks-2.i l)
+    let a = c.args in
+    let rows = c.rows_of-blocks in
+    let l = c.loop-row in
+    rw rows.ensures at (sym (l.invariant ∙ each_end a.version a.number rows.result.now l.sum l.row-index c.loop-row-test.false))

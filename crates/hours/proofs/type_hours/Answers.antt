@@ -13,18 +13,18 @@ hours_summed-summed-requires c =
     let h = c in
     let f = h in
     let a = f.args in
-    keeps_there a.book.now a.version a.number f.type_answer-found.result h.hours-hours.result f.type_answer-found.ensures h.hours-hours.ensures c.in-Accepted.is
+    keeps_there a.book.now a.version a.number f.type_answer-found.result h.hours-hours.result f.type_answer-found.ensures h.hours-hours.ensures c.in-Ok.is
 
-pub returns-in-Accepted : goal.returns-in-Accepted
-returns-in-Accepted c =
+pub returns-in-Ok : goal.returns-in-Ok
+returns-in-Ok c =
     let h = c in
     let f = h in
     let a = f.args in
-    hours_there a.book.now a.version a.number f.type_answer-found.result h.hours-hours.result f.type_answer-found.ensures h.hours-hours.ensures c.in-Accepted.is c.hours_summed-summed.result c.hours_summed-summed.ensures
+    hours_there a.book.now a.version a.number f.type_answer-found.result h.hours-hours.result f.type_answer-found.ensures h.hours-hours.ensures c.in-Ok.is c.hours_summed-summed.result c.hours_summed-summed.ensures
 
-pub returns-in-Refused : goal.returns-in-Refused
-returns-in-Refused c =
+pub returns-in-Err : goal.returns-in-Err
+returns-in-Err c =
     let h = c in
     let f = h in
     let a = f.args in
-    hours_refused a.book.now a.version a.number f.type_answer-found.result h.hours-hours.result f.type_answer-found.ensures h.hours-hours.ensures c.in-Refused.field-0 c.in-Refused.is (of_bits binary64 0) zero_bits
+    hours_refused a.book.now a.version a.number f.type_answer-found.result h.hours-hours.result f.type_answer-found.ensures h.hours-hours.ensures c.in-Err.field-0 c.in-Err.is (of_bits binary64 0) zero_bits

@@ -1,6 +1,7 @@
 -- `keeping::is_lawful` meets its contract, test by test. Assumes nothing.
 use mathlib.Core.Path.{sym, ap, ◌∙◌}
 use native.Mathlib.Omega.{arith}
+use borrow.Author.Tests.{not-true, not-false}
 use Prim.Native.Nat.{ℕ}
 use lib.ListN.{take}
 use Rattle.words.specs.Words.{same}
@@ -10,38 +11,49 @@ use Rattle.refusals.specs.Verdicts.{passes}
 use Rattle.book.specs.Room.{book_of}
 use Rattle.keeping.proofs.Keeping as keeping
 use Rattle.keeping.proofs.is_lawful.Goals as goal
+use Rattle.keeping.proofs.is_lawful.Goals.{then-rest_zero, else-rest_zero, then-in_ranges, else-in_ranges}
 
 pub rest_zero-requires : goal.rest_zero-requires
-rest_zero-requires c = omega (arith, c.kept-kept.ensures, kept_few c.args.t)
+rest_zero-requires c = omega (arith, c.kept.ensures, kept_few c.args.t)
 
-pub returns-then-not-rest_zero : goal.returns-then-not-rest_zero
-returns-then-not-rest_zero c =
-    let st = c in
-    sym (keeping.lawful_rest st.args.t (book_of st.args.book.now) st.args.row (sym (c.rest_zero.ensures ∙ ap (λ (k : ℕ). same st.args.row (wide (take k st.args.row))) c.kept-kept.ensures) ∙ c.if-not-rest_zero.true))
+pub returns-then-not-time_fault : goal.returns-then-not-time_fault
+returns-then-not-time_fault c =
+    let a = c.args in
+    elim c.if-in_ranges.branch [
+      | then-in_ranges w ↦
+          elim c.if-rest_zero.branch [
+            | then-rest_zero v ↦
+                c.is_ok.ensures.value
+                ∙ sym (keeping.lawful_known a.t (book_of a.book.now) a.row
+                (sym (c.rest_zero.ensures ∙ ap (λ (k : ℕ). same a.row (wide (take k a.row))) c.kept.ensures) ∙ v.if-rest_zero.true)
+                (sym (v.in_ranges.ensures (book_of a.book.now).edition c.requires.2) ∙ (sym v.value-is ∙ w.if-in_ranges.true))
+                (sym w.time_fault.ensures ∙ not-true w.time_fault.result (sym w.value-is ∙ c.if-not-time_fault.true))
+                ∙ ap passes (sym c.unknown_reference.ensures))
+            | else-rest_zero v ↦ cc
+          ]
+      | else-in_ranges w ↦ cc
+    ]
 
-pub returns-then-not-in_ranges : goal.returns-then-not-in_ranges
-returns-then-not-in_ranges c =
-    let st = c in
-    sym (keeping.lawful_range st.args.t (book_of st.args.book.now) st.args.row (sym (c.rest_zero.ensures ∙ ap (λ (k : ℕ). same st.args.row (wide (take k st.args.row))) c.kept-kept.ensures) ∙ c.if-not-rest_zero.false) (sym (c.in_ranges.ensures (book_of st.args.book.now).edition st.requires.2) ∙ c.if-not-in_ranges.true))
-
-pub returns-then-time_fault : goal.returns-then-time_fault
-returns-then-time_fault c =
-    let rg = c in
-    let st = rg in
-    sym (keeping.lawful_time st.args.t (book_of st.args.book.now) st.args.row (sym (rg.rest_zero.ensures ∙ ap (λ (k : ℕ). same st.args.row (wide (take k st.args.row))) rg.kept-kept.ensures) ∙ rg.if-not-rest_zero.false) (sym (rg.in_ranges.ensures (book_of st.args.book.now).edition st.requires.2) ∙ rg.if-not-in_ranges.false) (sym c.time_fault.ensures ∙ c.if-time_fault.true))
-
-pub returns-in-Passes : goal.returns-in-Passes
-returns-in-Passes c =
-    let tm = c in
-    let rg = tm in
-    let st = rg in
-    sym (keeping.lawful_known st.args.t (book_of st.args.book.now) st.args.row (sym (rg.rest_zero.ensures ∙ ap (λ (k : ℕ). same st.args.row (wide (take k st.args.row))) rg.kept-kept.ensures) ∙ rg.if-not-rest_zero.false) (sym (rg.in_ranges.ensures (book_of st.args.book.now).edition st.requires.2) ∙ rg.if-not-in_ranges.false) (sym tm.time_fault.ensures ∙ tm.if-time_fault.false)
-    ∙ ap passes (sym c.unknown_reference.ensures ∙ c.in-Passes.is))
-
-pub returns-in-Fails : goal.returns-in-Fails
-returns-in-Fails c =
-    let tm = c in
-    let rg = tm in
-    let st = rg in
-    sym (keeping.lawful_known st.args.t (book_of st.args.book.now) st.args.row (sym (rg.rest_zero.ensures ∙ ap (λ (k : ℕ). same st.args.row (wide (take k st.args.row))) rg.kept-kept.ensures) ∙ rg.if-not-rest_zero.false) (sym (rg.in_ranges.ensures (book_of st.args.book.now).edition st.requires.2) ∙ rg.if-not-in_ranges.false) (sym tm.time_fault.ensures ∙ tm.if-time_fault.false)
-    ∙ ap passes (sym c.unknown_reference.ensures ∙ c.in-Fails.is))
+pub returns-else-not-time_fault : goal.returns-else-not-time_fault
+returns-else-not-time_fault c =
+    let a = c.args in
+    elim c.if-rest_zero.branch [
+      | then-rest_zero v ↦
+          elim c.if-in_ranges.branch [
+            | then-in_ranges w ↦
+                c.if-not-time_fault.false
+                ∙ sym (keeping.lawful_time a.t (book_of a.book.now) a.row
+                (sym (c.rest_zero.ensures ∙ ap (λ (k : ℕ). same a.row (wide (take k a.row))) c.kept.ensures) ∙ v.if-rest_zero.true)
+                (sym (v.in_ranges.ensures (book_of a.book.now).edition c.requires.2) ∙ (sym v.value-is ∙ w.if-in_ranges.true))
+                (sym w.time_fault.ensures ∙ not-false w.time_fault.result (sym w.value-is ∙ c.if-not-time_fault.false)))
+            | else-in_ranges w ↦
+                c.if-not-time_fault.false
+                ∙ sym (keeping.lawful_range a.t (book_of a.book.now) a.row
+                (sym (c.rest_zero.ensures ∙ ap (λ (k : ℕ). same a.row (wide (take k a.row))) c.kept.ensures) ∙ v.if-rest_zero.true)
+                (sym (v.in_ranges.ensures (book_of a.book.now).edition c.requires.2) ∙ (sym v.value-is ∙ w.if-in_ranges.false)))
+          ]
+      | else-rest_zero v ↦
+          c.if-not-time_fault.false
+          ∙ sym (keeping.lawful_rest a.t (book_of a.book.now) a.row
+          (sym (c.rest_zero.ensures ∙ ap (λ (k : ℕ). same a.row (wide (take k a.row))) c.kept.ensures) ∙ v.if-rest_zero.false))
+    ]

@@ -1,5 +1,5 @@
 -- A book that keeps the book rule can be counted, and hours that are near some seconds are numbers.
-use Rattle.std.proofs.Common.{◌≡◌, ℕ, List, sym, ap, subst, ◌∙◌, arith, not}
+use Rattle.std.proofs.Common.{◌≡◌, ℕ, List, sym, ap, subst, ◌∙◌, not}
 use Rattle.std.specs.Prelude.{T, Float}
 use Rattle.std.specs.Float.Ieee.{is_nan}
 use Rattle.words.specs.Words.{Row}
@@ -16,17 +16,11 @@ both_numbers book version type a e = (
   subst (λ (z : Float). T (not (is_nan z))) (sym (ap (λ (o : HoursAnswer). o.summed) e ∙ (clerk_near book version type).is)) tt,
 )
 
-pub count_rows-n-requires : goal.count_rows-n-requires
-count_rows-n-requires g c = keeps_sound c.args.book.now (sym c.keeps_rule.ensures ∙ c.if-not-keeps_rule.false)
+pub rows_of-row-items-requires : goal.rows_of-row-items-requires
+rows_of-row-items-requires g c = keeps_sound c.args.book.now (sym c.keeps_rule.ensures ∙ c.if-not-keeps_rule.false)
 
-pub row_at-row-requires : goal.row_at-row-requires
-row_at-row-requires g c = (
-  keeps_sound c.args.book.now (sym c.keeps_rule.ensures ∙ c.if-not-keeps_rule.false),
-  omega (arith, c.types.invariant.1, c.types-test.true),
-)
+pub float_to_bits-quotient : goal.float_to_bits-quotient
+float_to_bits-quotient g c = (both_numbers c.args.book.now _ _ c.type_hours-found.result c.type_hours-found.ensures).0
 
-pub bits-requires : goal.bits-requires
-bits-requires g c = (both_numbers c.args.book.now _ _ c.type_hours-found.result c.type_hours-found.ensures).0
-
-pub bits-requires-in-types : goal.bits-requires-in-types
-bits-requires-in-types g c = (both_numbers c.args.book.now _ _ c.type_hours-found.result c.type_hours-found.ensures).1
+pub float_to_bits-summed : goal.float_to_bits-summed
+float_to_bits-summed g c = (both_numbers c.args.book.now _ _ c.type_hours-found.result c.type_hours-found.ensures).1

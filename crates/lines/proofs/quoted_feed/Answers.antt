@@ -6,14 +6,14 @@ use Rattle.lines.proofs.quoted_feed.Goals as goal
 
 pub returns-then-ends_row : goal.returns-then-ends_row
 returns-then-ends_row c =
-    let w = c.bytes in
-    omega (arith, feed_here Dino23 w.s c.args.text.now w.i c.bytes-test.true (sym c.ends_row.ensures ∙ c.if-ends_row.true), w.invariant)
+    let w = c.loop-i in
+    omega (arith, feed_here Dino23 w.s c.args.text.now w.i c.loop-i-test.true (sym c.ends_row.ensures ∙ c.if-ends_row.true), w.invariant.0)
 
-pub bytes-preserved : goal.bytes-preserved
-bytes-preserved c =
-    let w = c.bytes in
-    let k = feed_on Dino23 w.s c.args.text.now w.i c.bytes-test.true (sym c.ends_row.ensures ∙ c.if-ends_row.false) in
-    rw c.behind-s.ensures (omega (arith, k, w.invariant))
+pub loop-i-preserved : goal.loop-i-preserved
+loop-i-preserved c =
+    let w = c.loop-i in
+    let k = feed_on Dino23 w.s c.args.text.now w.i c.loop-i-test.true (sym c.ends_row.ensures ∙ c.if-ends_row.false) in
+    rw c.behind-s.ensures (omega (arith, k, w.invariant.0), omega arith)
 
 pub returns : goal.returns
-returns c = let w = c.bytes in omega (arith, feed_none Dino23 w.s c.args.text.now w.i c.bytes-test.false, w.invariant)
+returns c = let w = c.loop-i in omega (arith, feed_none Dino23 w.s c.args.text.now w.i c.loop-i-test.false, w.invariant.0)

@@ -7,6 +7,3 @@ use Rattle.lines.proofs.row_feed.Goals as goal
 
 pub returns-in-Dino21 : goal.returns-in-Dino21
 returns-in-Dino21 c = let a = c.args in rw c.in-Dino21.is (c.line_feed.ensures ∙ ap (λ (n : ℕ). a.at + n) (feed_plain a.state (drop a.at a.text.now)))
-
-pub returns-in-Dino23 : goal.returns-in-Dino23
-returns-in-Dino23 c = rw c.in-Dino23.is c.quoted_feed.ensures

@@ -1,10 +1,9 @@
 -- A day is what the word is read as.
-use Rattle.std.proofs.Common.{◌∙◌, sym}
-use Rattle.options.proofs.Saying.{day_value, day_other}
+use Rattle.std.proofs.Common.{◌∙◌, ap, ℕ}
+use Rattle.std.specs.Prelude.{Option}
+use Rattle.std.specs.Option.{unwrap_or}
+use Rattle.options.proofs.Saying.{day_or_none}
 use Rattle.options.proofs.day_said.Goals as goal
 
-pub returns-in-Value : goal.returns-in-Value
-returns-in-Value c = day_value c.args.word.now _ (sym c.number_of.ensures ∙ c.in-Value.is)
-
-pub returns-in-Other : goal.returns-in-Other
-returns-in-Other c = day_other c.args.word.now (sym c.number_of.ensures ∙ c.in-Other.is)
+pub returns : goal.returns
+returns c = c.unwrap_or.ensures ∙ ap (λ (o : Option ℕ). unwrap_or o 0) c.number_of.ensures ∙ day_or_none c.args.word.now

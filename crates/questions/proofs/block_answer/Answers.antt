@@ -3,8 +3,7 @@ use mathlib.Core.Bool.{true}
 use mathlib.Core.Path.{◌≡◌, sym, ap, ◌∙◌}
 use lib.ListN.{replicate}
 use Rattle.words.specs.Words.{Row}
-use Rattle.refusals.specs.Verdicts.{nowhere}
-use Rattle.refusals.specs.declared.Check.{Check}
+use Rattle.refusals.specs.Verdicts.{nowhere, Check}
 use Rattle.tables.specs.declared.Table.TheVariants.{Block}
 use Rattle.book.specs.Book.{knows}
 use Rattle.book.specs.Room.{book_of}
@@ -37,8 +36,8 @@ returns-then-not-knowing c =
     let here = ap (λ (r : Row). knows Block r (book_of xs)) (sym kn.block_key-key.ensures) ∙ sym kn.knowing.ensures ∙ c.if-not-knowing.true in
     c.no_block-then-not-knowing.ensures ∙ ap (λ (k : Check). block_answered (nowhere k) (replicate 7 0)) c.not_there.ensures ∙ answers.block_missing xs a.version a.day_type a.depot a.block keeps here
 
-pub block_of-row-requires : goal.block_of-row-requires
-block_of-row-requires c =
+pub block_of-requires : goal.block_of-requires
+block_of-requires c =
     let kn = c in
     let st = kn in
     keeps_sound st.args.book.now (sym kn.keeps_rule.ensures ∙ kn.if-not-keeps_rule.false)
@@ -51,4 +50,4 @@ returns c =
     let a = st.args in
     let keeps : keeps_rule xs ≡ true = sym kn.keeps_rule.ensures ∙ kn.if-not-keeps_rule.false in
     let here = ap (λ (r : Row). knows Block r (book_of xs)) (sym kn.block_key-key.ensures) ∙ sym kn.knowing.ensures ∙ c.if-not-knowing.false in
-    rw (c.seven_numbers-numbers.ensures, c.block_of-row.ensures, kn.block_key-key.ensures) (answers.block_there xs a.version a.day_type a.depot a.block (keeps_sound xs keeps) keeps here)
+    rw (c.seven_numbers.ensures, c.block_of.ensures, kn.block_key-key.ensures) (answers.block_there xs a.version a.day_type a.depot a.block (keeps_sound xs keeps) keeps here)

@@ -2,8 +2,7 @@
 use mathlib.Core.Bool.{true}
 use mathlib.Core.Path.{◌≡◌, sym, ap, ◌∙◌}
 use Rattle.words.specs.Words.{Row}
-use Rattle.refusals.specs.Verdicts.{nowhere}
-use Rattle.refusals.specs.declared.Check.{Check}
+use Rattle.refusals.specs.Verdicts.{nowhere, Check}
 use Rattle.tables.specs.declared.Table.TheVariants.{VehicleType}
 use Rattle.book.specs.Book.{knows}
 use Rattle.book.specs.Room.{book_of}

@@ -1,6 +1,6 @@
 -- `radio_calls::open` meets its contract: at the right lengths, and by a known edition, all but the book's mark is zero. Assumes nothing.
 use mathlib.Core.Path.{refl, ap, sym, ◌∙◌}
-use Rattle.refusals.specs.declared.Verdict.{Verdict}
+use Rattle.refusals.specs.Verdicts.{Verdict}
 use Rattle.radio.specs.Room.{outcome}
 use Rattle.radio_rule.specs.Lent.{slices}
 use Rattle.radio_rule.proofs.Rule.{book_fits, numbers_fit, lines_fit}
@@ -19,16 +19,16 @@ empty-requires c =
     let fits = sym c.fit.ensures ∙ c.if-not-fit.false in
     (refl, book_fits a.book.now a.kept.now a.lines.now fits, numbers_fit a.book.now a.kept.now a.lines.now fits, lines_fit a.book.now a.kept.now a.lines.now fits)
 
-pub returns-in-Unknown : goal.returns-in-Unknown
-returns-in-Unknown c =
+pub returns-in-None : goal.returns-in-None
+returns-in-None c =
     let a = c.args in
     let s = slices a.book.now a.kept.now a.lines.now in
     let fits = sym c.fit.ensures ∙ c.if-not-fit.false in
     ap (λ (v : Verdict). outcome v s) c.unknown_edition.ensures
-    ∙ sym (not_known a.edition a.book.now a.kept.now a.lines.now fits (sym c.numbered-choice.ensures ∙ c.in-Unknown.is))
+    ∙ sym (not_known a.edition a.book.now a.kept.now a.lines.now fits (sym c.in-None.ensures))
 
-pub returns-in-Chosen : goal.returns-in-Chosen
-returns-in-Chosen c =
+pub returns-in-Some : goal.returns-in-Some
+returns-in-Some c =
     let a = c.args in
     let fits = sym c.fit.ensures ∙ c.if-not-fit.false in
-    opened a.edition a.book.now a.kept.now a.lines.now fits _ (sym c.numbered-choice.ensures ∙ c.in-Chosen.is) _ c.empty.ensures
+    opened a.edition a.book.now a.kept.now a.lines.now fits _ (sym c.in-Some.ensures) _ c.empty.ensures

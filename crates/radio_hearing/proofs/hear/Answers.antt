@@ -42,10 +42,10 @@ pub hear_behind-requires : goal.hear_behind-requires
 hear_behind-requires c =
     let st = c in
     let line = c.end_line-heard.ensures in
-    (line.0.holds c.in-Accepted.is, omega (arith, c.if-part-feed.false), omega (arith, line.1, st.requires.0.begun), omega (arith, line.2, st.requires.1), line.3)
+    (line.0.holds c.in-Ok.is, omega (arith, c.if-part-feed.false), omega (arith, line.1, st.requires.0.begun), omega (arith, line.2, st.requires.1), line.3)
 
-pub returns-in-Refused : goal.returns-in-Refused
-returns-in-Refused c =
+pub returns-in-Err : goal.returns-in-Err
+returns-in-Err c =
     let st = c in
     let part = st.args.part.now in
     let lines = st.args.lines.now in
@@ -53,10 +53,10 @@ returns-in-Refused c =
     let ed = (book_of st.args.book.now).edition in
     let line = c.end_line-heard in
     let whole = behind_line st.args.t part st.args.from st.args.book.now lines st.requires.0 c.first_feed-feed.result (feed_found c.edition_of-edition.result ed c.edition_of-edition.ensures lines part r c.first_feed-feed.result c.first_feed-feed.ensures) (omega (arith, c.if-part-feed.false)) (omega (arith, c.if-rest-feed.false)) in
-    stays_stopped st.args.t _ _ _ whole line.result _ _ line.ensures.0 _ c.in-Refused.is _ _
+    stays_stopped st.args.t _ _ _ whole line.result _ _ line.ensures.0 _ c.in-Err.is _ _
 
-pub returns-in-Accepted : goal.returns-in-Accepted
-returns-in-Accepted c =
+pub returns-in-Ok : goal.returns-in-Ok
+returns-in-Ok c =
     let st = c in
     let part = st.args.part.now in
     let lines = st.args.lines.now in
@@ -64,4 +64,4 @@ returns-in-Accepted c =
     let ed = (book_of st.args.book.now).edition in
     let line = c.end_line-heard in
     let whole = behind_line st.args.t part st.args.from st.args.book.now lines st.requires.0 c.first_feed-feed.result (feed_found c.edition_of-edition.result ed c.edition_of-edition.ensures lines part r c.first_feed-feed.result c.first_feed-feed.ensures) (omega (arith, c.if-part-feed.false)) (omega (arith, c.if-rest-feed.false)) in
-    goes_on st.args.t _ _ _ whole line.result _ _ line.ensures.0 c.in-Accepted.is _ _ c.hear_behind.result c.hear_behind.ensures
+    goes_on st.args.t _ _ _ whole line.result _ _ line.ensures.0 c.in-Ok.is _ _ c.hear_behind.result c.hear_behind.ensures

@@ -29,26 +29,26 @@ keep_tail-requires c =
     let part = st.args.part.now in
     let found = c.behind_rows-end in
     let rows = c.hear_rows-heard in
-    let going = c.in-Accepted.is in (
+    let going = c.in-Ok.is in (
       rows.ensures.0.holds going,
       tail_feedless c.edition_of-edition.result _ (c.edition_of-edition.ensures ∙ sym (edition_stays st.args.t _ st.args.from rows.result st.args.book.now _ st.args.lines.now _ rows.ensures.0 going))
           st.args.lines.now (drop found.result part) _ rows.result.rest rows.ensures.1 (to_end part found.result) found.ensures.feedless,
     )
 
-pub returns-in-Refused : goal.returns-in-Refused
-returns-in-Refused c =
+pub returns-in-Err : goal.returns-in-Err
+returns-in-Err c =
     let st = c in
     let part = st.args.part.now in
     let found = c.behind_rows-end in
     let rows = c.hear_rows-heard in
     let whole = over_parted st.args.t _ _ _ (kept st.args.from st.args.book.now st.args.lines.now) (parted_end part st.args.start found.result found.ensures.low) in
-    stays_stopped st.args.t _ _ _ whole rows.result _ _ rows.ensures.0 _ c.in-Refused.is _ _
+    stays_stopped st.args.t _ _ _ whole rows.result _ _ rows.ensures.0 _ c.in-Err.is _ _
 
-pub returns-in-Accepted : goal.returns-in-Accepted
-returns-in-Accepted c =
+pub returns-in-Ok : goal.returns-in-Ok
+returns-in-Ok c =
     let st = c in
     let part = st.args.part.now in
     let found = c.behind_rows-end in
     let rows = c.hear_rows-heard in
     let whole = over_parted st.args.t _ _ _ (kept st.args.from st.args.book.now st.args.lines.now) (parted_end part st.args.start found.result found.ensures.low) in
-    goes_on st.args.t _ _ _ whole rows.result _ _ rows.ensures.0 c.in-Accepted.is _ _ c.keep_tail.result c.keep_tail.ensures
+    goes_on st.args.t _ _ _ whole rows.result _ _ rows.ensures.0 c.in-Ok.is _ _ c.keep_tail.result c.keep_tail.ensures

@@ -7,24 +7,25 @@ use lib.ListN.{length, length-append}
 use Rattle.numbers.proofs.Putting.{lent}
 use Rattle.radio_hearing.proofs.Bytes.{together_none, together_return, together_other}
 use Rattle.radio_hearing.proofs.put_together.Goals as goal
+use Rattle.radio_hearing.proofs.put_together.Goals.{After-write_bytes-b}
 
-pub returns-then-n-eq0 : goal.returns-then-n-eq0
-returns-then-n-eq0 c =
-    let st = c in
-    let e = lent st.args.rest.now st.args.more.now st.args.room.now _ _ c.write_bytes-a.result c.write_bytes-a.ensures.0 c.write_bytes-a.ensures.1 c.write_bytes-b.ensures.1 in
-    let l : c.write_bytes-a.result + c.write_bytes-b.result ≡ length (st.args.rest.now ++ st.args.more.now) = omega (arith, length-append st.args.rest.now st.args.more.now, c.write_bytes-a.ensures.0, c.write_bytes-b.ensures.0) in
-    together_none (st.args.rest.now ++ st.args.more.now) _ _ _ e l c.if-n-eq0.true
+long : (c : After-write_bytes-b) → c.write_bytes-a.result + c.write_bytes-b.result ≡ length (c.args.rest.now ++ c.args.more.now)
+long c = omega (arith, length-append c.args.rest.now c.args.more.now, c.write_bytes-a.ensures.0, c.write_bytes-b.ensures.0)
 
-pub returns-then-room-n-eq-CARRIAGE_RETURN : goal.returns-then-room-n-eq-CARRIAGE_RETURN
-returns-then-room-n-eq-CARRIAGE_RETURN c =
-    let st = c in
-    let e = lent st.args.rest.now st.args.more.now st.args.room.now _ _ c.write_bytes-a.result c.write_bytes-a.ensures.0 c.write_bytes-a.ensures.1 c.write_bytes-b.ensures.1 in
-    let l : c.write_bytes-a.result + c.write_bytes-b.result ≡ length (st.args.rest.now ++ st.args.more.now) = omega (arith, length-append st.args.rest.now st.args.more.now, c.write_bytes-a.ensures.0, c.write_bytes-b.ensures.0) in
-    together_return (st.args.rest.now ++ st.args.more.now) _ _ _ e l (omega (arith, c.if-n-eq0.false)) c.if-room-n-eq-CARRIAGE_RETURN.true
+pub returns-in-13 : goal.returns-in-13
+returns-in-13 c =
+    let a = c.args in
+    let e = lent a.rest.now a.more.now a.room.now _ _ c.write_bytes-a.result c.write_bytes-a.ensures.0 c.write_bytes-a.ensures.1 c.write_bytes-b.ensures.1 in
+    together_return (a.rest.now ++ a.more.now) _ _ _ e (long (goal.at.returns-in-13 c).After-write_bytes-b) c.in-13.len_at_least (omega arith)
 
-pub returns : goal.returns
-returns c =
-    let st = c in
-    let e = lent st.args.rest.now st.args.more.now st.args.room.now _ _ c.write_bytes-a.result c.write_bytes-a.ensures.0 c.write_bytes-a.ensures.1 c.write_bytes-b.ensures.1 in
-    let l : c.write_bytes-a.result + c.write_bytes-b.result ≡ length (st.args.rest.now ++ st.args.more.now) = omega (arith, length-append st.args.rest.now st.args.more.now, c.write_bytes-a.ensures.0, c.write_bytes-b.ensures.0) in
-    together_other (st.args.rest.now ++ st.args.more.now) _ _ _ e l (omega (arith, c.if-n-eq0.false)) c.if-room-n-eq-CARRIAGE_RETURN.false
+pub returns-in_default : goal.returns-in_default
+returns-in_default c =
+    let a = c.args in
+    let e = lent a.rest.now a.more.now a.room.now _ _ c.write_bytes-a.result c.write_bytes-a.ensures.0 c.write_bytes-a.ensures.1 c.write_bytes-b.ensures.1 in
+    together_none (a.rest.now ++ a.more.now) _ _ _ e (long (goal.at.returns-in_default c).After-write_bytes-b) c.in_default.len_below
+
+pub returns-in_default-2 : goal.returns-in_default-2
+returns-in_default-2 c =
+    let a = c.args in
+    let e = lent a.rest.now a.more.now a.room.now _ _ c.write_bytes-a.result c.write_bytes-a.ensures.0 c.write_bytes-a.ensures.1 c.write_bytes-b.ensures.1 in
+    together_other (a.rest.now ++ a.more.now) _ _ _ e (long (goal.at.returns-in_default-2 c).After-write_bytes-b) c.in_default.len_at_least (λ q. omega arith)

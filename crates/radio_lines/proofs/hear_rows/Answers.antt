@@ -1,16 +1,18 @@
 -- `radio_lines::hear_rows` meets its contract: the rows are taken under the header that is kept. Assumes nothing.
-use mathlib.Core.Path.{refl, ap, ◌∙◌}
+use mathlib.Core.Path.{refl, sym, ap, ◌∙◌}
 use native.Mathlib.Omega.{arith}
+use lib.ListN.{length}
+use borrow.Author.Tests.{eqb-true}
 use Rattle.book.specs.Room.{book_of}
 use Rattle.header.specs.Header.{header_check}
 use Rattle.radio_lines.proofs.Bytes.{from_begin}
 use Rattle.radio_lines.proofs.Lines.{head_guides, head_places, body_came, none_came}
 use Rattle.radio_lines.proofs.hear_rows.Goals as goal
 
-pub returns-then-body-eq0 : goal.returns-then-body-eq0
-returns-then-body-eq0 c =
-    let st = c in
-    (none_came st.args.t st.args.from st.args.book.now st.args.lines.now st.requires.0 st.args.body.now c.if-body-eq0.true st.requires.3, refl)
+pub returns-then-is_empty : goal.returns-then-is_empty
+returns-then-is_empty c =
+    let a = c.args in
+    (none_came a.t a.from a.book.now a.lines.now c.requires.0 a.body.now (eqb-true (length a.body.now) 0 (sym c.if-is_empty.ensures)) c.requires.3, refl)
 
 pub edition_of-edition-requires : goal.edition_of-edition-requires
 edition_of-edition-requires c = c.requires.0.sound.long

@@ -6,5 +6,5 @@ use Rattle.radio_rule.proofs.book_keeps.Goals as goal
 pub returns-then-kept-eq0 : goal.returns-then-kept-eq0
 returns-then-kept-eq0 c = let a = c.args in c.keeps_rule.ensures ∙ sym (book_lawful a.kept.now a.book.now c.if-kept-eq0.true)
 
-pub returns : goal.returns
-returns c = let a = c.args in c.no_rows.ensures ∙ sym (book_empty a.kept.now a.book.now c.if-kept-eq0.false)
+pub returns-else-kept-eq0 : goal.returns-else-kept-eq0
+returns-else-kept-eq0 c = let a = c.args in c.no_rows.ensures ∙ sym (book_empty a.kept.now a.book.now c.if-kept-eq0.false)

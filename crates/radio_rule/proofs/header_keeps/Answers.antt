@@ -15,18 +15,9 @@ overflow_sub-kept c = let st = c in omega (arith, (lengths st.args.kept.now st.r
 pub slice_bounds-read_header-end : goal.slice_bounds-read_header-end
 slice_bounds-read_header-end c = let st = c in omega (arith, st.requires.1, (lengths st.args.kept.now st.requires.0 st.requires.2).head)
 
-pub returns-in-Passes : goal.returns-in-Passes
-returns-in-Passes c =
+pub returns : goal.returns
+returns c =
     let rd = c in
     let t = rd in
     let a = t.args in
-    sym (header_some a.edition a.kept.now a.lines.now t.if-kept-le1.false t.in_order-t.result t.in_order-t.ensures rd.read_header-heading.result rd.read_header-heading.ensures
-    ∙ ap passes c.in-Passes.is)
-
-pub returns-in-Fails : goal.returns-in-Fails
-returns-in-Fails c =
-    let rd = c in
-    let t = rd in
-    let a = t.args in
-    sym (header_some a.edition a.kept.now a.lines.now t.if-kept-le1.false t.in_order-t.result t.in_order-t.ensures rd.read_header-heading.result rd.read_header-heading.ensures
-    ∙ ap passes c.in-Fails.is)
+    c.is_ok.ensures.value ∙ sym (header_some a.edition a.kept.now a.lines.now t.if-kept-le1.false t.in_order-t.result t.in_order-t.ensures rd.read_header-heading.result rd.read_header-heading.ensures)

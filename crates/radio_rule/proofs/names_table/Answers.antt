@@ -1,10 +1,8 @@
 -- `radio_rule::names_table` meets its contract. Assumes nothing.
-use mathlib.Core.Path.{sym}
-use Rattle.radio_rule.proofs.Faults.{names_some, names_none}
+use mathlib.Core.Path.{ap, ◌∙◌}
+use Rattle.std.specs.Option.{is_some}
+use Rattle.radio_rule.proofs.Faults.{known_number}
 use Rattle.radio_rule.proofs.names_table.Goals as goal
 
-pub returns-in-Known : goal.returns-in-Known
-returns-in-Known c = let n = c.numbered-named in sym (names_some c.args.number n.result n.ensures c.in-Known.is)
-
-pub returns-in-Unknown : goal.returns-in-Unknown
-returns-in-Unknown c = let n = c.numbered-named in sym (names_none c.args.number n.result n.ensures c.in-Unknown.is)
+pub returns : goal.returns
+returns c = c.is_some.ensures ∙ (ap is_some c.numbered.ensures ∙ known_number c.args.number)

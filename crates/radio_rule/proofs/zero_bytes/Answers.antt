@@ -1,22 +1,14 @@
-use mathlib.Core.Path.{refl}
+-- `radio_rule::zero_bytes` meets its contract: all are zero. Assumes nothing.
+use mathlib.Core.Path.{◌∙◌}
+use lib.Dec.{eqb}
 use borrow.Author.Rules.{rules}
-use Rattle.radio_rule.proofs.Zeros.{one_more, all_zeros, another}
+use borrow.Author.Tests.{tests}
+use Rattle.std.proofs.lemmas.Iterator.{YieldsList-from_slice}
+use Rattle.std.proofs.lemmas.Iterator.Search.{all_from_yields_List}
+use Rattle.radio_rule.proofs.Zeros.{all_zeros}
 use Rattle.radio_rule.proofs.zero_bytes.Goals as goal
 
-pub bytes-init : goal.bytes-init
-bytes-init c = (search rules, refl, refl)
-
-pub bytes-preserved : goal.bytes-preserved
-bytes-preserved c =
-    let at = c in
-    one_more at.args.list.now at.bytes.zero at.bytes.i at.bytes.invariant (search rules) c.if-list-i-ne0.false
-
-pub returns-after-bytes : goal.returns-after-bytes
-returns-after-bytes c =
-    let at = c in
-    all_zeros at.args.list.now at.bytes.zero at.bytes.i at.bytes.invariant (search rules)
-
-pub returns-then-list-i-ne0 : goal.returns-then-list-i-ne0
-returns-then-list-i-ne0 c =
-    let at = c in
-    another at.args.list.now at.bytes.zero at.bytes.i at.bytes.invariant (search rules) c.if-list-i-ne0.true
+pub returns : goal.returns
+returns c =
+    let list = c.args.list.now in
+    all_from_yields_List (λ x. eqb x 0) _ _ _ c.all.ensures.ran (YieldsList-from_slice list cc) (λ x b q k. search (rules, tests)) ∙ all_zeros list

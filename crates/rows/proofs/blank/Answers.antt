@@ -1,17 +1,14 @@
-use mathlib.Core.Path.{sym, ◌∙◌}
-use native.Mathlib.Omega.{arith}
-use borrow.Author.Count.{below_more}
+-- `rows::blank` meets its contract: all its numbers are zero. Assumes nothing.
+use mathlib.Core.Path.{◌∙◌}
+use lib.Dec.{eqb}
 use borrow.Author.Rules.{rules}
-use Rattle.rows.proofs.Room as room
+use borrow.Author.Tests.{tests}
+use Rattle.std.proofs.lemmas.Iterator.{YieldsList-from_slice}
+use Rattle.std.proofs.lemmas.Iterator.Search.{all_from_yields_List}
+use Rattle.rows.proofs.Room.{all_zero}
 use Rattle.rows.proofs.blank.Goals as goal
 
-pub columns-preserved : goal.columns-preserved
-columns-preserved c = let at = c.columns in (search rules, at.invariant.1, below_more _ _ at.invariant.2 c.if-numbers-i-ne0.false)
-
-pub returns-after-columns : goal.returns-after-columns
-returns-after-columns c =
-    let at = c.columns in
-    at.invariant.1 ∙ sym (room.same_zeros c.args.row.now (search rules) (λ j h. at.invariant.2 j (omega arith)))
-
-pub returns-then-numbers-i-ne0 : goal.returns-then-numbers-i-ne0
-returns-then-numbers-i-ne0 c = sym (room.other_zeros _ c.columns.i (search rules) c.if-numbers-i-ne0.true)
+pub returns : goal.returns
+returns c =
+    all_from_yields_List (λ x. eqb x 0) _ _ _ c.all.ensures.ran (YieldsList-from_slice c.args.row.now cc) (λ x b q k. search (rules, tests))
+    ∙ all_zero c.args.row.now 11 c.told-row

@@ -1,24 +1,22 @@
-use mathlib.Core.Path.{refl, sym, ◌∙◌}
+-- `rows::blank_from` meets its contract: all those rows are blank. Assumes nothing.
+use mathlib.Core.Path.{◌≡◌, ◌∙◌}
+use Prim.Native.Nat.{◌-◌}
+use native.Mathlib.Omega.{arith}
+use lib.ListN.{length, take, drop, length-drop}
+use lib.Seq.{take_all}
 use borrow.Author.Rules.{rules}
-use Rattle.rows.proofs.Room as room
+use borrow.Author.Tests.{tests}
+use Rattle.std.proofs.lemmas.Iterator.{YieldsList-from_slice}
+use Rattle.std.proofs.lemmas.Iterator.Search.{all_from_yields_List}
+use Rattle.words.specs.Words.{same}
+use Rattle.rows.specs.Room.{zeros}
+use Rattle.rows.proofs.Room.{all_blank}
 use Rattle.rows.proofs.blank_from.Goals as goal
 
-pub rows-init : goal.rows-init
-rows-init c = (search rules, refl, refl)
-
-pub rows-preserved : goal.rows-preserved
-rows-preserved c =
-    let at = c in
-    let xs = at.args.list.now in
-    (search rules, at.rows.invariant.1 ∙ room.blank_on xs at.rows.i (search rules) (sym c.blank.ensures ∙ c.if-not-blank.false), at.rows.invariant.2)
-
-pub returns-after-rows : goal.returns-after-rows
-returns-after-rows c =
-    let at = c in
-    at.rows.invariant.2 ∙ sym (at.rows.invariant.1 ∙ room.blank_end at.args.list.now at.rows.i (search rules))
-
-pub returns-then-not-blank : goal.returns-then-not-blank
-returns-then-not-blank c =
-    let at = c in
-    let xs = at.args.list.now in
-    sym (at.rows.invariant.1 ∙ room.blank_not xs at.rows.i (search rules) (sym c.blank.ensures ∙ c.if-not-blank.true))
+pub returns : goal.returns
+returns c =
+    let left = length c.args.list.now - c.args.n in
+    let rows = drop c.args.n c.args.list.now in
+    let l = length-drop c.args.n c.args.list.now in
+    let e : take left rows ≡ rows = take_all left rows (omega arith) in
+    all_from_yields_List (λ row. same row zeros) _ _ _ c.all.ensures.ran (YieldsList-from_slice rows cc) (λ x b q k. search (rules, tests)) ∙ all_blank rows left l

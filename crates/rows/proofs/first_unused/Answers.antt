@@ -1,25 +1,16 @@
-use native.Mathlib.Omega.{arith}
+-- `rows::first_unused` meets its contract: the place of the first row whose VERSION is 0. Assumes nothing.
+use mathlib.Core.Path.{◌∙◌}
+use lib.Dec.{eqb}
 use borrow.Author.Rules.{rules}
-use Rattle.rows.proofs.Room as room
+use borrow.Author.Tests.{tests}
+use Rattle.std.proofs.lemmas.Iterator.{YieldsList-from_slice}
+use Rattle.std.proofs.lemmas.Iterator.Search.{position_from_yields_List}
+use Rattle.rows.specs.Rows.{column}
+use Rattle.rows.proofs.Room.{first_place}
 use Rattle.rows.proofs.first_unused.Goals as goal
 
-pub rows-init : goal.rows-init
-rows-init c = (search rules, omega arith)
-
-pub rows-preserved : goal.rows-preserved
-rows-preserved c =
-    let at = c in
-    let xs = at.args.list.now in
-    (search rules, omega (arith, at.rows.invariant.1, room.used_more xs at.rows.i (search rules) c.if-list-i-eq0.false))
-
-pub returns-after-rows : goal.returns-after-rows
-returns-after-rows c =
-    let at = c in
-    let xs = at.args.list.now in
-    omega (arith, at.rows.invariant.1, room.used_end xs at.rows.i (search rules))
-
-pub returns-then-list-i-eq0 : goal.returns-then-list-i-eq0
-returns-then-list-i-eq0 c =
-    let at = c in
-    let xs = at.args.list.now in
-    omega (arith, at.rows.invariant.1, room.used_stop xs at.rows.i (search rules) c.if-list-i-eq0.true)
+pub returns : goal.returns
+returns c =
+    let rows = c.args.list.now in
+    let place = position_from_yields_List (λ row. eqb (column 1 row) 0) _ _ _ c.position.ensures.ran (YieldsList-from_slice rows cc) (λ x b q k. search (rules, tests)) in
+    c.unwrap_or.ensures ∙ first_place rows c.position.result place

@@ -1,30 +1,19 @@
-use mathlib.Core.Path.{refl, sym, ◌∙◌}
-use borrow.Author.Rules.{rules}
+use mathlib.Core.Path.{sym, ◌∙◌}
+use native.Mathlib.Omega.{arith}
 use Rattle.rows.proofs.Rising as rise
 use Rattle.rows.proofs.rises.Goals as goal
 
-pub rows-init : goal.rows-init
-rows-init c = (search rules, refl, refl)
-
-pub rows-preserved : goal.rows-preserved
-rows-preserved c =
-    let at = c in
-    let st = at in (
-      search rules,
-      at.rows.invariant.1 ∙ rise.rises_on st.args.k st.args.list.now st.args.n at.rows.i st.requires (search rules) (search rules)
-          (sym c.below.ensures ∙ c.if-not-below.false),
-      at.rows.invariant.2,
-    )
-
-pub returns-after-rows : goal.returns-after-rows
-returns-after-rows c =
-    let at = c in
-    let st = at in
-    at.rows.invariant.2 ∙ sym (at.rows.invariant.1 ∙ rise.rises_end st.args.k st.args.list.now st.args.n at.rows.i st.requires (search rules))
+pub loop-i-preserved : goal.loop-i-preserved
+loop-i-preserved c =
+    let a = c.args in
+    c.loop-i.invariant ∙ rise.rises_on a.k a.list.now a.n c.loop-i.i c.requires (omega arith) (omega arith) (sym c.below.ensures ∙ c.if-not-below.false)
 
 pub returns-then-not-below : goal.returns-then-not-below
 returns-then-not-below c =
-    let at = c in
-    let st = at in
-    sym (at.rows.invariant.1 ∙ rise.rises_not st.args.k st.args.list.now st.args.n at.rows.i st.requires (search rules) (search rules)
-    (sym c.below.ensures ∙ c.if-not-below.true))
+    let a = c.args in
+    sym (c.loop-i.invariant ∙ rise.rises_not a.k a.list.now a.n c.loop-i.i c.requires (omega arith) (omega arith) (sym c.below.ensures ∙ c.if-not-below.true))
+
+pub returns : goal.returns
+returns c =
+    let a = c.args in
+    sym (c.loop-i.invariant ∙ rise.rises_end a.k a.list.now a.n c.loop-i.i c.requires (omega arith))

@@ -28,13 +28,13 @@ rows-preserved-in-Less c =
           mid (search rules) (seen (goal.at.rows-preserved-in-Less c).After-order_at ∙ c.in-Less.is),
     )
 
-pub returns-in-Same : goal.returns-in-Same
-returns-in-Same c =
+pub returns-in-Equal : goal.returns-in-Equal
+returns-in-Equal c =
     let at = c in
     let st = at in
     let mid = at.rows.low + (at.rows.high - at.rows.low) / 2 in
     sym (places.slice_at st.args.k st.args.row st.args.list.now at.rows.low at.rows.high st.requires at.rows.invariant.1
-    mid (search rules) (seen (goal.at.returns-in-Same c).After-order_at ∙ c.in-Same.is))
+    mid (search rules) (seen (goal.at.returns-in-Equal c).After-order_at ∙ c.in-Equal.is))
 
 pub rows-preserved : goal.rows-preserved
 rows-preserved c =
@@ -43,7 +43,7 @@ rows-preserved c =
     let mid = at.rows.low + (at.rows.high - at.rows.low) / 2 in (
       search rules,
       places.slice_up st.args.k st.args.row st.args.list.now at.rows.low at.rows.high st.requires at.rows.invariant.1
-          mid (search rules) (seen (goal.at.rows-preserved c).After-order_at ∙ c.in-More.is),
+          mid (search rules) (seen (goal.at.rows-preserved c).After-order_at ∙ c.in-Greater.is),
     )
 
 pub returns : goal.returns

@@ -7,24 +7,31 @@ use Rattle.book.specs.Room.{book_of}
 use Rattle.rules.proofs.Referring.{one_missing}
 use Rattle.rules.proofs.Points.{block_passes}
 use Rattle.rules.proofs.block_finds.Goals as goal
+use Rattle.rules.proofs.block_finds.Goals.{then-finds, else-finds, then-finds-2, else-finds-2}
 
-pub returns-then-not-finds : goal.returns-then-not-finds
-returns-then-not-finds c =
-    let st = c in
-    sym (one_missing st.args.row (book_of st.args.book.now) (references Block) 0 (lit< tt) (sym c.finds.ensures ∙ c.if-not-finds.true))
+pub returns-then-finds-3 : goal.returns-then-finds-3
+returns-then-finds-3 c =
+    elim c.if-finds-2.branch [
+      | then-finds-2 w ↦
+          elim c.if-finds.branch [
+            | then-finds v ↦
+                sym (block_passes (book_of c.args.book.now) c.args.row c.requires.1
+                (sym c.finds.ensures ∙ v.if-finds.true) (sym v.finds-then-finds.ensures ∙ sym v.value-is ∙ w.if-finds-2.true)
+                (sym w.finds-then-finds-2.ensures ∙ sym w.value-is ∙ c.if-finds-3.true) _ (sym c.finds-then-finds-3.ensures))
+            | else-finds v ↦ cc
+          ]
+      | else-finds-2 w ↦ cc
+    ]
 
-pub returns-then-not-finds-2 : goal.returns-then-not-finds-2
-returns-then-not-finds-2 c =
-    let st = c in
-    sym (one_missing st.args.row (book_of st.args.book.now) (references Block) 1 (lit< tt) (sym c.finds-2.ensures ∙ c.if-not-finds-2.true))
-
-pub returns-then-not-finds-3 : goal.returns-then-not-finds-3
-returns-then-not-finds-3 c =
-    let st = c in
-    sym (one_missing st.args.row (book_of st.args.book.now) (references Block) 3 (lit< tt) (sym c.finds-3.ensures ∙ c.if-not-finds-3.true))
-
-pub returns : goal.returns
-returns c =
-    sym (block_passes (book_of c.args.book.now) c.args.row c.requires.1
-    (sym c.finds.ensures ∙ c.if-not-finds.false) (sym c.finds-2.ensures ∙ c.if-not-finds-2.false)
-    (sym c.finds-3.ensures ∙ c.if-not-finds-3.false) _ (sym c.finds-4.ensures))
+pub returns-else-finds-3 : goal.returns-else-finds-3
+returns-else-finds-3 c =
+    elim c.if-finds-2.branch [
+      | then-finds-2 w ↦
+          c.if-finds-3.false ∙ sym (one_missing c.args.row (book_of c.args.book.now) (references Block) 3 (lit< tt) (sym w.finds-then-finds-2.ensures ∙ sym w.value-is ∙ c.if-finds-3.false))
+      | else-finds-2 w ↦
+          elim c.if-finds.branch [
+            | then-finds v ↦
+                c.if-finds-3.false ∙ sym (one_missing c.args.row (book_of c.args.book.now) (references Block) 1 (lit< tt) (sym v.finds-then-finds.ensures ∙ sym v.value-is ∙ w.if-finds-2.false))
+            | else-finds v ↦ c.if-finds-3.false ∙ sym (one_missing c.args.row (book_of c.args.book.now) (references Block) 0 (lit< tt) (sym c.finds.ensures ∙ v.if-finds.false))
+          ]
+    ]

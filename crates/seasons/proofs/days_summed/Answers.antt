@@ -1,49 +1,34 @@
-use Prim.Native.Nat.{◌<◌}
+use Prim.Native.Nat.{◌≤◌}
 use native.Mathlib.Omega.{arith}
 use lib.ListN.{length}
-use Rattle.book.specs.Room.{book_of}
+use Rattle.tables.specs.declared.Table.TheVariants.{Calendar}
+use Rattle.book.proofs.Laying.{orderly_book}
 use Rattle.keeping.proofs.Keeping.{keeps_sound}
 use Rattle.day_tally.specs.Tally.{shares}
-use Rattle.seasons.proofs.Summing.{sofar_none, sofar_next, sofar_all}
+use Rattle.seasons.proofs.Summing.{sofar_next, sofar_all}
 use Rattle.seasons.proofs.days_summed.Goals as goal
 
-pub count_rows-n-requires : goal.count_rows-n-requires
-count_rows-n-requires c = keeps_sound c.args.book.now c.requires.0
-
-pub days-init : goal.days-init
-days-init c =
-    let a = c.args in
-    (omega arith, c.count_rows-n.ensures.0, c.count_rows-n.ensures.1, sofar_none a.first a.last a.version (shares a.tally.now a.at) (book_of a.book.now).days)
-
-pub row_at-day-requires : goal.row_at-day-requires
-row_at-day-requires c =
-    let st = c in
-    (keeps_sound st.args.book.now st.requires.0, omega (arith, c.days.invariant.1))
+pub rows_of-days-requires : goal.rows_of-days-requires
+rows_of-days-requires c = keeps_sound c.args.book.now c.requires.0
 
 pub overflow_add-sum : goal.overflow_add-sum
 overflow_add-sum c =
-    let st = c in
-    let a = st.args in
-    let xs = a.book.now in
-    let at = c.days in
-    let day = c.row_at-day in
-    let more : at.i < length (book_of xs).days = omega (arith, at.invariant.1, c.days-test.true) in
-    let next = sofar_next a.first a.last a.version (shares a.tally.now a.at) (book_of xs).days at.i at.sum at.invariant.3 more day.result day.ensures st.requires.3 c.on_day-sum.result c.on_day-sum.ensures in
-    omega (arith, next.bound, at.invariant.0, at.invariant.2)
+    let a = c.args in
+    let rows = c.rows_of-days in
+    let l = c.loop-day in
+    let next = sofar_next a.first a.last a.version (shares a.tally.now a.at) rows.result.now l.day-index l.sum l.invariant c.loop-day-test.true c.requires.3 c.on_day-sum.result c.on_day-sum.ensures in
+    let few : length rows.result.now ≤ 800 = rw rows.ensures ((orderly_book a.book.now (keeps_sound a.book.now c.requires.0)).few Calendar) in
+    omega (arith, next.bound)
 
-pub days-preserved : goal.days-preserved
-days-preserved c =
-    let st = c in
-    let a = st.args in
-    let xs = a.book.now in
-    let at = c.days in
-    let day = c.row_at-day in
-    let more : at.i < length (book_of xs).days = omega (arith, at.invariant.1, c.days-test.true) in
-    let next = sofar_next a.first a.last a.version (shares a.tally.now a.at) (book_of xs).days at.i at.sum at.invariant.3 more day.result day.ensures st.requires.3 c.on_day-sum.result c.on_day-sum.ensures in
-    (omega arith, at.invariant.1, at.invariant.2, next)
+pub loop-day-preserved : goal.loop-day-preserved
+loop-day-preserved c =
+    let a = c.args in
+    let l = c.loop-day in
+    sofar_next a.first a.last a.version (shares a.tally.now a.at) c.rows_of-days.result.now l.day-index l.sum l.invariant c.loop-day-test.true c.requires.3 c.on_day-sum.result c.on_day-sum.ensures
 
 pub returns : goal.returns
 returns c =
     let a = c.args in
-    let at = c.days in
-    sofar_all a.first a.last a.version (shares a.tally.now a.at) (book_of a.book.now).days at.i at.sum at.invariant.3 (omega (arith, at.invariant.1, c.days-test.false))
+    let rows = c.rows_of-days in
+    let l = c.loop-day in
+    rw rows.ensures at (sofar_all a.first a.last a.version (shares a.tally.now a.at) rows.result.now l.day-index l.sum l.invariant c.loop-day-test.false)

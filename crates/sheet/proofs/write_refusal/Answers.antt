@@ -5,8 +5,7 @@ use native.Mathlib.Omega.{arith}
 use lib.ListN.{length, length-append}
 use borrow.Author.Rules.{rules}
 use Rattle.words.specs.Words.{Bytes, bytes}
-use Rattle.refusals.specs.Verdicts.{nowhere}
-use Rattle.refusals.specs.declared.Check.{Check}
+use Rattle.refusals.specs.Verdicts.{nowhere, Check}
 use Rattle.refusals.specs.declared.Place.{Place}
 use Rattle.numbers.specs.Putting.{put}
 use Rattle.writer.proofs.Answers.{too_short, all_written}

@@ -6,8 +6,7 @@ use native.Mathlib.Omega.{arith}
 use lib.ListN.{length}
 use borrow.Author.Rules.{rules}
 use Rattle.words.specs.Words.{Bytes, bytes}
-use Rattle.refusals.specs.Verdicts.{nowhere}
-use Rattle.refusals.specs.declared.Check.{Check}
+use Rattle.refusals.specs.Verdicts.{nowhere, Check}
 use Rattle.numbers.specs.Putting.{put}
 use Rattle.numbers.proofs.Putting.{rest, lent, length_rest}
 use Rattle.book.specs.Book.{Book}
@@ -23,20 +22,18 @@ use Rattle.sheet.proofs.write_sheet.Goals.{After-line_length}
 abbrev book : After-line_length → Book
 book c = book_of c.args.book.now
 
-sums : (c : After-line_length) → sum_line (book c) ≡ sheet_line (bytes "S") (c.count_rows-types.result ∷ c.count_rows-blocks.result ∷ [])
-sums c =
-    sum_line_is (book c) c.count_rows-types.result c.count_rows-blocks.result
-    c.count_rows-types.ensures.0 c.count_rows-blocks.ensures.0
+sums : (c : After-line_length) → sum_line (book c) ≡ sheet_line (bytes "S") (length c.rows_of-types.result.now ∷ length c.rows_of-blocks.result.now ∷ [])
+sums c = sum_line_is (book c) (length c.rows_of-types.result.now) (length c.rows_of-blocks.result.now) (ap length c.rows_of-types.ensures) (ap length c.rows_of-blocks.ensures)
 
 counted : (c : After-line_length) → c.types_length.result + c.line_length.result ≡ length (sheet_text (book c))
 unfolding bytes
 counted c = omega (arith, c.types_length.ensures.0, c.line_length.ensures.0 83, sheet_length (book c), ap length (sums c))
 
-pub count_rows-types-requires : goal.count_rows-types-requires
-count_rows-types-requires c = keeps_sound c.args.book.now c.requires
+pub rows_of-types-requires : goal.rows_of-types-requires
+rows_of-types-requires c = keeps_sound c.args.book.now c.requires
 
-pub count_rows-blocks-requires : goal.count_rows-blocks-requires
-count_rows-blocks-requires c = keeps_sound c.args.book.now c.requires
+pub rows_of-blocks-requires : goal.rows_of-blocks-requires
+rows_of-blocks-requires c = keeps_sound c.args.book.now c.requires
 
 pub returns-then-out-size : goal.returns-then-out-size
 returns-then-out-size c =
@@ -68,7 +65,7 @@ returns c =
     (whole ∙ ap (λ (s : Bytes). put s o) (sym (sheet_is b)))
 
 pub types_length-requires : goal.types_length-requires
-types_length-requires c = (c.requires, c.count_rows-types.ensures.0)
+types_length-requires c = (c.requires, c.rows_of-types.ensures)
 
 pub write_types-at-requires : goal.write_types-at-requires
-write_types-at-requires c = (c.requires, c.count_rows-types.ensures.0, omega (arith, c.types_length.ensures.0, c.if-out-size.false))
+write_types-at-requires c = (c.requires, c.rows_of-types.ensures, omega (arith, c.types_length.ensures.0, c.if-out-size.false))

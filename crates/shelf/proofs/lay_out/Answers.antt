@@ -1,83 +1,48 @@
-use mathlib.Core.Path.{◌≡◌, refl, sym, ap, ◌∙◌}
+use mathlib.Core.Path.{◌≡◌, sym, ap, ◌∙◌}
 use mathlib.Core.List.{List, []}
-use Prim.Native.Nat.{◌<◌}
 use native.Mathlib.Omega.{arith}
 use lib.ListN.{length, get_or, set, length-set}
-use borrow.Author.Rules.{rules}
 use Rattle.words.specs.Words.{Row}
 use Rattle.words.proofs.Lists as lists
-use Rattle.rows.proofs.Room.{used_within}
 use Rattle.shelf.specs.Shelf.{shelved}
 use Rattle.shelf.proofs.Shelving.{length_shelved, slot_within, get_d_shelved}
 use Rattle.shelf.proofs.Slots.{laid_over, laid_cleared}
 use Rattle.shelf.proofs.lay_out.Goals as goal
-use Rattle.shelf.proofs.lay_out.Goals.{After-shared_slice_known-in-slots-1}
-
-within : (c : After-shared_slice_known-in-slots-1) →
-    let at = c in
-    let st = at in
-    get_or st.args.order.now at.slots.i 0 < length st.args.slots.now
-within c =
-    let at = c in
-    let st = at in
-    slot_within st.args.slots.now st.args.order.now st.args.n st.requires.0 at.slots.i (search rules)
-
-pub slots-init : goal.slots-init
-slots-init c = (search rules, refl, refl)
-
-pub overflow_cast-slot : goal.overflow_cast-slot
-overflow_cast-slot c = let w = within (goal.at.overflow_cast-slot c).After-shared_slice_known-in-slots-1 in search rules
-
-pub offset_bounds-slots-slot : goal.offset_bounds-slots-slot
-offset_bounds-slots-slot c = let w = within (goal.at.offset_bounds-slots-slot c).After-shared_slice_known-in-slots-1 in search rules
 
 pub bounds-slots-slot : goal.bounds-slots-slot
-bounds-slots-slot c = within (goal.at.bounds-slots-slot c).After-shared_slice_known-in-slots-1
+bounds-slots-slot c =
+    rw c.from-slot.ensures (slot_within c.args.slots.now c.args.order.now c.args.n c.requires.0 c.loop-i.i (omega (arith, c.requires.0.few)))
 
-pub slots-preserved : goal.slots-preserved
-slots-preserved c =
-    let at = c in
-    let st = at in
-    let slots = st.args.slots.now in
-    let order = st.args.order.now in
-    let n = st.args.n in
+pub loop-i-preserved : goal.loop-i-preserved
+loop-i-preserved c =
+    let slots = c.args.slots.now in
+    let order = c.args.order.now in
+    let n = c.args.n in
     let xs = shelved slots order n in
-    let ys = st.args.list.now in
-    let i = at.slots.i in
-    let h : i < n = omega arith in
-    let l : length xs ≡ n = length_shelved slots order n st.requires.0 in (
-      search rules,
-      simp length-set at.slots.invariant.1,
-      ap (λ (r : Row). set at.slots.list i r) (sym (get_d_shelved slots order n st.requires.0 i h))
-          ∙ ap (λ (ls : List Row). set ls i (get_or xs i [])) at.slots.invariant.2
-          ∙ lists.take_set [] xs ys i (omega arith) (omega arith),
+    let i = c.loop-i.i in
+    let l : length xs ≡ n = length_shelved slots order n c.requires.0 in
+    let next : get_or slots c.from-slot.result [] ≡ get_or xs i [] =
+    ap (λ (j : _). get_or slots j []) c.from-slot.ensures ∙ sym (get_d_shelved slots order n c.requires.0 i (omega arith)) in (
+      simp length-set c.loop-i.invariant.0,
+      ap (λ (r : Row). set c.loop-i.list i r) next
+          ∙ ap (λ (ls : List Row). set ls i (get_or xs i [])) c.loop-i.invariant.1
+          ∙ lists.take_set [] xs c.args.list.now i (omega arith) (omega (arith, c.requires.0.few, c.requires.1)),
     )
-
-pub slice_bounds-clear-end : goal.slice_bounds-clear-end
-slice_bounds-clear-end c =
-    let at = c in
-    let w = used_within at.args.list.now in
-    let b = at.count-before.ensures in
-    search rules
 
 pub returns-then-n-before : goal.returns-then-n-before
 returns-then-n-before c =
-    let at = c in
-    let st = at in
-    let slots = st.args.slots.now in
-    let order = st.args.order.now in
-    let n = st.args.n in
-    let e : at.slots.i ≡ n = omega arith in
-    laid_cleared (shelved slots order n) st.args.list.now at.slots.list n (length_shelved slots order n st.requires.0) (search rules) at.slots.invariant.1 (rw e at at.slots.invariant.2) st.requires.2
-    at.count-before.result at.count-before.ensures c.if-n-before.true c.clear.new.list c.clear.ensures
+    let slots = c.args.slots.now in
+    let order = c.args.order.now in
+    let n = c.args.n in
+    let e : c.loop-i.i ≡ n = omega arith in
+    laid_cleared (shelved slots order n) c.args.list.now c.loop-i.list n (length_shelved slots order n c.requires.0) (omega (arith, c.requires.0.few, c.requires.1)) c.loop-i.invariant.0
+    (rw e at c.loop-i.invariant.1) c.requires.2 c.count-before.result c.count-before.ensures c.if-n-before.true c.clear.new.list c.clear.ensures
 
 pub returns-else-n-before : goal.returns-else-n-before
 returns-else-n-before c =
-    let at = c in
-    let st = at in
-    let slots = st.args.slots.now in
-    let order = st.args.order.now in
-    let n = st.args.n in
-    let e : at.slots.i ≡ n = omega arith in
-    laid_over (shelved slots order n) st.args.list.now at.slots.list n (length_shelved slots order n st.requires.0) (search rules) at.slots.invariant.1 (rw e at at.slots.invariant.2) st.requires.2
-    (omega (arith, at.count-before.ensures, c.if-n-before.false))
+    let slots = c.args.slots.now in
+    let order = c.args.order.now in
+    let n = c.args.n in
+    let e : c.loop-i.i ≡ n = omega arith in
+    laid_over (shelved slots order n) c.args.list.now c.loop-i.list n (length_shelved slots order n c.requires.0) (omega (arith, c.requires.0.few, c.requires.1)) c.loop-i.invariant.0
+    (rw e at c.loop-i.invariant.1) c.requires.2 (omega (arith, c.count-before.ensures, c.if-n-before.false))

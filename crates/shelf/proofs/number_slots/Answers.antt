@@ -1,23 +1,18 @@
-use mathlib.Core.Path.{refl, ap, ◌∙◌}
+use mathlib.Core.Path.{ap, ◌∙◌}
 use mathlib.Core.List.{List}
 use Prim.Native.Nat.{ℕ}
 use native.Mathlib.Omega.{arith}
-use lib.ListN.{set, length-set}
-use borrow.Author.Rules.{rules}
+use lib.ListN.{set}
 use Rattle.shelf.proofs.Slots.{numbered_start, numbered_set, numbered_all}
 use Rattle.shelf.proofs.number_slots.Goals as goal
 
-pub slots-init : goal.slots-init
-slots-init c = (search rules, refl, numbered_start c.args.order.now)
+pub loop-i-init : goal.loop-i-init
+loop-i-init c = numbered_start c.args.order.now
 
-pub slots-preserved : goal.slots-preserved
-slots-preserved c =
-    let at = c in
-    let xs = at.args.order.now in
-    let i = at.slots.i in
-    (search rules, simp length-set at.slots.invariant.1, ap (λ (l : List ℕ). set l i i) at.slots.invariant.2 ∙ numbered_set xs i (omega arith))
+pub loop-i-preserved : goal.loop-i-preserved
+loop-i-preserved c =
+    let i = c.loop-i.i in
+    ap (λ (l : List ℕ). set l i i) c.loop-i.invariant ∙ numbered_set c.args.order.now i (omega arith)
 
 pub returns : goal.returns
-returns c =
-    let at = c in
-    at.slots.invariant.2 ∙ numbered_all at.args.order.now at.slots.i (omega arith)
+returns c = c.loop-i.invariant ∙ numbered_all c.args.order.now c.loop-i.i (omega arith)

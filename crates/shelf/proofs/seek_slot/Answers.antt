@@ -1,6 +1,6 @@
 use mathlib.Core.Path.{◌≡◌, sym, ap, ◌∙◌}
 use mathlib.Core.List.{[]}
-use Prim.Native.Nat.{◌-◌, ◌≤◌, ◌<◌, max}
+use Prim.Native.Nat.{◌-◌, ◌≤◌, ◌<◌}
 use native.Mathlib.Omega.{arith}
 use lib.ListN.{length, get_or}
 use borrow.Author.Rules.{rules}
@@ -9,7 +9,7 @@ use Rattle.rows.proofs.Places as places
 use Rattle.shelf.specs.Shelf.{shelved}
 use Rattle.shelf.proofs.Shelving.{length_shelved, slot_within, get_d_shelved}
 use Rattle.shelf.proofs.seek_slot.Goals as goal
-use Rattle.shelf.proofs.seek_slot.Goals.{in-Less, in-More, then-n-gt0, else-n-gt0, After-compare, After-shared_slice_known-in-slots-1, Joined-compare}
+use Rattle.shelf.proofs.seek_slot.Goals.{in-Less, in-Greater, After-compare, After-shared_slice_known-in-slots-1, Joined-compare}
 
 within : (c : After-shared_slice_known-in-slots-1) →
     let at = c in
@@ -28,7 +28,7 @@ seen : (c : After-compare) →
 seen c =
     let at = c in
     let st = at in
-    ap (key_order st.args.k st.args.row.now) (get_d_shelved st.args.slots.now st.args.order.now st.args.n st.requires.0 at.slots.probe (search rules))
+    ap (key_order st.args.k st.args.row.now) (rw c.from-slot.ensures (get_d_shelved st.args.slots.now st.args.order.now st.args.n st.requires.0 at.slots.probe (search rules)))
     ∙ sym c.compare.ensures
 
 among : (c : After-compare) →
@@ -64,40 +64,32 @@ met c within_rows looked_at =
           let l = w.low-is in
           let h = w.high-is in
           (omega arith, omega arith, omega arith, rw (l, h) (places.bracket_down k row xs low high st.requires.1 at.slots.invariant.4 probe within_rows (looked_at ∙ w.in-Less.is)))
-      | in-More w ↦
+      | in-Greater w ↦
           let l = w.low-is in
           let h = w.high-is in
-          (omega arith, omega arith, omega arith, rw (l, h) (places.bracket_up k row xs low high st.requires.1 at.slots.invariant.4 probe within_rows (looked_at ∙ w.in-More.is)))
+          (omega arith, omega arith, omega arith, rw (l, h) (places.bracket_up k row xs low high st.requires.1 at.slots.invariant.4 probe within_rows (looked_at ∙ w.in-Greater.is)))
     ]
 
 pub slots-init : goal.slots-init
 slots-init c =
-    let st = c in
-    let n = st.args.n in
-    let xs = shelved st.args.slots.now st.args.order.now n in
-    let l : length xs ≡ n = length_shelved st.args.slots.now st.args.order.now n st.requires.0 in
-    let p : c.if-n-gt0.probe < max 1 n = elim c.if-n-gt0.branch [ then-n-gt0 w ↦ omega arith | else-n-gt0 w ↦ omega arith ] in
-    (search rules, search rules, search rules, p, places.bracket_start st.args.k st.args.row.now xs n (omega arith))
-
-pub overflow_cast-slot : goal.overflow_cast-slot
-overflow_cast-slot c = let w = within (goal.at.overflow_cast-slot c).After-shared_slice_known-in-slots-1 in search rules
-
-pub offset_bounds-slots-slot : goal.offset_bounds-slots-slot
-offset_bounds-slots-slot c = let w = within (goal.at.offset_bounds-slots-slot c).After-shared_slice_known-in-slots-1 in search rules
+    let n = c.args.n in
+    let xs = shelved c.args.slots.now c.args.order.now n in
+    let l : length xs ≡ n = length_shelved c.args.slots.now c.args.order.now n c.requires.0 in
+    (search rules, search rules, search rules, omega (arith, c.saturating_sub-probe.ensures), places.bracket_start c.args.k c.args.row.now xs n (omega arith))
 
 pub bounds-slots-slot : goal.bounds-slots-slot
-bounds-slots-slot c = within (goal.at.bounds-slots-slot c).After-shared_slice_known-in-slots-1
+bounds-slots-slot c = rw c.from-slot.ensures (within (goal.at.bounds-slots-slot c).After-shared_slice_known-in-slots-1)
 
-pub returns-in-Same : goal.returns-in-Same
-returns-in-Same c =
+pub returns-in-Equal : goal.returns-in-Equal
+returns-in-Equal c =
     let at = c in
     let st = at in
     let xs = shelved st.args.slots.now st.args.order.now st.args.n in
     sym (places.bracket_at st.args.k st.args.row.now xs at.slots.low at.slots.high st.requires.1 at.slots.invariant.4
-    at.slots.probe (among (goal.at.returns-in-Same c).After-compare) (seen (goal.at.returns-in-Same c).After-compare ∙ c.in-Same.is))
+    at.slots.probe (among (goal.at.returns-in-Equal c).After-compare) (seen (goal.at.returns-in-Equal c).After-compare ∙ c.in-Equal.is))
 
-pub overflow_sub-probe-else-ends : goal.overflow_sub-probe-else-ends
-overflow_sub-probe-else-ends c = (met (goal.at.overflow_sub-probe-else-ends c).Joined-compare (among (goal.at.overflow_sub-probe-else-ends c).After-compare) (seen (goal.at.overflow_sub-probe-else-ends c).After-compare)).0
+pub overflow_sub-probe : goal.overflow_sub-probe
+overflow_sub-probe c = (met (goal.at.overflow_sub-probe c).Joined-compare (among (goal.at.overflow_sub-probe c).After-compare) (seen (goal.at.overflow_sub-probe c).After-compare)).0
 
 pub overflow_add-probe : goal.overflow_add-probe
 overflow_add-probe c = let m = met (goal.at.overflow_add-probe c).Joined-compare (among (goal.at.overflow_add-probe c).After-compare) (seen (goal.at.overflow_add-probe c).After-compare) in search rules

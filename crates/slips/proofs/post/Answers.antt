@@ -1,4 +1,5 @@
 -- `slips::post` meets its contract: 16 of the book, 1, and the lines. Assumes nothing.
+use Rattle.std.specs.Prelude.{Err}
 use mathlib.Core.Path.{sym, ap, ◌∙◌}
 use Rattle.refusals.specs.Verdicts.{placed}
 use Rattle.tables.specs.declared.Table.TheVariants.{StopPoint}
@@ -14,7 +15,7 @@ returns-then-not-keeps_rule c =
     let s = st.args.slip.now in
     let xs = st.args.book.now in
     let work = st.args.work.now in
-    call_unruled s xs work c.on.result (sym c.keeps_rule.ensures ∙ c.if-not-keeps_rule.true) (c.on.ensures ∙ ap (placed 0 0) c.bad_loan.ensures)
+    call_unruled s xs work (Err c.on.result) (sym c.keeps_rule.ensures ∙ c.if-not-keeps_rule.true) (c.on.ensures ∙ ap (placed 0 0) c.bad_loan.ensures)
 
 pub returns-then-slip-gt-MOST_BYTES : goal.returns-then-slip-gt-MOST_BYTES
 returns-then-slip-gt-MOST_BYTES c =
@@ -22,7 +23,7 @@ returns-then-slip-gt-MOST_BYTES c =
     let s = st.args.slip.now in
     let xs = st.args.book.now in
     let work = st.args.work.now in
-    call_long s xs work st.requires (sym c.keeps_rule.ensures ∙ c.if-not-keeps_rule.false) c.on-then-slip-gt-MOST_BYTES.result c.if-slip-gt-MOST_BYTES.true (c.on-then-slip-gt-MOST_BYTES.ensures ∙ ap (placed 5 0) c.text_too_long.ensures)
+    call_long s xs work st.requires (sym c.keeps_rule.ensures ∙ c.if-not-keeps_rule.false) (Err c.on-then-slip-gt-MOST_BYTES.result) c.if-slip-gt-MOST_BYTES.true (c.on-then-slip-gt-MOST_BYTES.ensures ∙ ap (placed 5 0) c.text_too_long.ensures)
 
 pub take_whole-requires : goal.take_whole-requires
 take_whole-requires c =

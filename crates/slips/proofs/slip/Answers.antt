@@ -1,4 +1,5 @@
 -- `slips::slip` meets its contract: 16 of the working area, which ends all zero otherwise. Assumes nothing.
+use Rattle.std.specs.Prelude.{Err}
 use mathlib.Core.List.{List}
 use mathlib.Core.Path.{ap, ◌∙◌}
 use Rattle.words.specs.Words.{Row}
@@ -13,7 +14,7 @@ returns-then-work-ne-ROWS c =
     let s = st.args.slip.now in
     let xs = st.args.book.now in
     let work = st.args.work.now in
-    call_unsized s xs work c.on.result c.if-work-ne-ROWS.true (c.on.ensures ∙ ap (placed 0 0) c.bad_loan.ensures)
+    call_unsized s xs work (Err c.on.result) c.if-work-ne-ROWS.true (c.on.ensures ∙ ap (placed 0 0) c.bad_loan.ensures)
 
 pub returns : goal.returns
 returns c =

@@ -48,13 +48,13 @@ lines-preserved c =
     let f = from_next (goal.at.lines-preserved c).After-next_slip_line-here in
     let t = c.take_slip_line-told in
     let bk = shelf_book Block c.args.book.now at.lines.slots at.lines.order at.lines.count in
-    let e = c.in-Accepted.is in
-    let p = line_passes s at.lines.at here f at.lines.number bk t.result.check k.on.result t.ensures.is k.on.ensures e in (
+    let e = c.in-Ok.is in
+    let p = line_passes s at.lines.at here f at.lines.number bk t.result.check k.placed.result t.ensures.is k.placed.ensures e in (
       f.past,
       omega arith,
       omega (arith, f.on, at.lines.invariant.2),
       t.ensures.on p,
-      at.lines.invariant.4 ∙ line_next s at.lines.at here f at.lines.number bk t.result.check k.on.result t.ensures.is k.on.ensures e _ (t.ensures.grants p),
+      at.lines.invariant.4 ∙ line_next s at.lines.at here f at.lines.number bk t.result.check k.placed.result t.ensures.is k.placed.ensures e _ (t.ensures.grants p),
       at.lines.invariant.5,
     )
 
@@ -67,25 +67,25 @@ returns-after-lines c =
       result = sym (at.lines.invariant.4 ∙ lines_end c.args.slip.now at.lines.at at.lines.number bk c.lines-test.false);
     })
 
-pub shape_of-order-in-Refused : goal.shape_of-order-in-Refused
-shape_of-order-in-Refused c =
+pub shape_of-order-in-Err : goal.shape_of-order-in-Err
+shape_of-order-in-Err c =
     let st = c in
     let at = c.lines in
     search (rules, at.invariant.3.shelf.long, at.invariant.3.long, st.requires.0.shelf.long, st.requires.0.long)
 
-pub returns-in-Refused : goal.returns-in-Refused
-returns-in-Refused c =
+pub returns-in-Err : goal.returns-in-Err
+returns-in-Err c =
     let k = c in
     let at = c in
     let s = c.args.slip.now in
     let here = c.next_slip_line-here.result in
-    let f = from_next (goal.at.returns-in-Refused c).After-next_slip_line-here in
+    let f = from_next (goal.at.returns-in-Err c).After-next_slip_line-here in
     let t = c.take_slip_line-told in
     let bk = shelf_book Block c.args.book.now at.lines.slots at.lines.order at.lines.count in
-    let p = c.in-Refused.place in
-    let e = c.in-Refused.is in
-    let same = t.ensures.stays (line_fails s at.lines.at here f at.lines.number bk t.result.check k.on.result t.ensures.is k.on.ensures p e) in
+    let p = c.in-Err.place in
+    let e = c.in-Err.is in
+    let same = t.ensures.stays (line_fails s at.lines.at here f at.lines.number bk t.result.check k.placed.result t.ensures.is k.placed.ensures p e) in
     record {
       on = rw (same.0, same.1) at.lines.invariant.3;
-      result = sym (at.lines.invariant.4 ∙ line_refused s at.lines.at here f at.lines.number bk t.result.check k.on.result t.ensures.is k.on.ensures p e);
+      result = sym (at.lines.invariant.4 ∙ line_refused s at.lines.at here f at.lines.number bk t.result.check k.placed.result t.ensures.is k.placed.ensures p e);
     }

@@ -98,8 +98,8 @@ rows-preserved c =
     let next = c in
     let read = c.read_row-read in
     let taken = c.take_row-check in
-    let on = c.on-v in
-    let told = c.in-Accepted.is in
+    let on = c.placed-v in
+    let told = c.in-Ok.is in
     let E = (book_of st.args.book.now).edition in
     let row = take (next.next_line-l.result.end - at.i) (drop at.i st.args.bytes.now) in
     let placed-here = on.ensures ∙ ap (λ (n : ℕ). placed n at.line taken.result) at.invariant.5 in
@@ -129,29 +129,29 @@ returns-after-rows c =
       taken = λ h kept. rw at.invariant.2 (sym (at.invariant.6 h kept ∙ rows_end st.args.t h at.line st.args.bytes.now at.i (shelf_book st.args.t st.args.book.now at.slots at.order at.count) c.rows-test.false));
     }
 
-pub shape_of-slots-in-Refused : goal.shape_of-slots-in-Refused
-shape_of-slots-in-Refused c = search (rules, c.rows.invariant.3.long, c.requires.1.long)
+pub shape_of-slots-in-Err : goal.shape_of-slots-in-Err
+shape_of-slots-in-Err c = search (rules, c.rows.invariant.3.long, c.requires.1.long)
 
-pub shape_of-order-in-Refused : goal.shape_of-order-in-Refused
-shape_of-order-in-Refused c =
+pub shape_of-order-in-Err : goal.shape_of-order-in-Err
+shape_of-order-in-Err c =
     let st = c in
     let at = c.rows in
     search (rules, at.invariant.3.shelf.long, at.invariant.3.long, st.requires.1.shelf.long, st.requires.1.long)
 
-pub returns-in-Refused : goal.returns-in-Refused
-returns-in-Refused c =
+pub returns-in-Err : goal.returns-in-Err
+returns-in-Err c =
     let st = c in
     let at = c.rows in
     let next = c in
     let read = c.read_row-read in
     let taken = c.take_row-check in
-    let on = c.on-v in
+    let on = c.placed-v in
     let row = take (next.next_line-l.result.end - at.i) (drop at.i st.args.bytes.now) in
     let placed-here = on.ensures ∙ ap (λ (n : ℕ). placed n at.line taken.result) at.invariant.5 in
     record {
       on = λ a. let z : ◌≡◌ {A = ℕ} 0 1 = cc in absurd (omega arith);
       next = λ a. let z : ◌≡◌ {A = ℕ} 0 1 = cc in absurd (omega arith);
       taken = λ h kept. sym (at.invariant.6 h kept
-          ∙ rows_refused st.args.t h at.line st.args.bytes.now at.i (shelf_book st.args.t st.args.book.now at.slots at.order at.count) next.next_line-l.result (line-at (goal.at.returns-in-Refused c).After-next_line-l) c.rows-test.true
-          taken.result _ (taken.ensures.taken h _ (read.ensures h kept ∙ ap (λ (d : Edition). read_as d st.args.t h row) at.invariant.8)) on.result placed-here _ c.in-Refused.is);
+          ∙ rows_refused st.args.t h at.line st.args.bytes.now at.i (shelf_book st.args.t st.args.book.now at.slots at.order at.count) next.next_line-l.result (line-at (goal.at.returns-in-Err c).After-next_line-l) c.rows-test.true
+          taken.result _ (taken.ensures.taken h _ (read.ensures h kept ∙ ap (λ (d : Edition). read_as d st.args.t h row) at.invariant.8)) on.result placed-here _ c.in-Err.is);
     }

@@ -3,7 +3,7 @@ use mathlib.Core.Path.{◌≡◌}
 use mathlib.Core.List.{List}
 use Prim.Native.Nat.{ℕ, ◌+◌, ◌-◌, ◌≤◌}
 use lib.ListN.{length, drop}
-use Rattle.refusals.specs.declared.Verdict.TheVariants.{Accepted}
+use Rattle.std.specs.Prelude.{Ok}
 use Rattle.lines.specs.Lines.{lines}
 use Rattle.tables.specs.Columns.{number}
 use Rattle.book.specs.Room.{book_of}
@@ -15,7 +15,7 @@ use Rattle.table_lines.proofs.take_lines.Given as goal
 
 abbrev pub invariant-rows : goal.invariant-rows
 invariant-rows l =
-    (l.i ≤ length l.bytes) × (l.line ≤ l.initial.line + l.i) × (l.verdict ≡ Accepted) × OnShelf l.t l.book l.slots l.order l.count × (length l.bounds ≡ length l.initial.bounds) × (l.table ≡ number l.t)
+    (l.i ≤ length l.bytes) × (l.line ≤ l.initial.line + l.i) × (l.verdict ≡ Ok tt) × OnShelf l.t l.book l.slots l.order l.count × (length l.bounds ≡ length l.initial.bounds) × (l.table ≡ number l.t)
     × ((h : List ℕ) → l.at ≡ places h → rows_read l.t h l.initial.line (lines (book_of l.book).edition l.bytes) (shelf_book l.t l.book l.initial.slots l.initial.order l.initial.count) ≡ rows_read l.t h l.line (lines (book_of l.book).edition (drop l.i l.bytes)) (shelf_book l.t l.book l.slots l.order l.count))
     × (lines_after (book_of l.book).edition l.initial.line (lines (book_of l.book).edition l.bytes) ≡ lines_after (book_of l.book).edition l.line (lines (book_of l.book).edition (drop l.i l.bytes)))
     × (l.edition ≡ (book_of l.book).edition)

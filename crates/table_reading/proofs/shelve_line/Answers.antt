@@ -2,6 +2,7 @@
 use mathlib.Core.Path.{ap, ◌∙◌, sym}
 use Prim.Native.Nat.{ℕ}
 use native.Mathlib.Omega.{arith}
+use Rattle.std.proofs.lemmas.Result.{err_from_is_err_and}
 use native.Mathlib.Numerals.{add-one}
 use borrow.Author.Rules.{rules}
 use Rattle.editions.specs.declared.Edition.{Edition}
@@ -41,24 +42,25 @@ overflow_add-n c =
 
 pub lay_table-requires : goal.lay_table-requires
 lay_table-requires c =
-    let placed-so = c.on-verdict.ensures in
-    rw add-one (c.take_row-check.ensures.on (check_passes _ _ _ _ placed-so c.in-Accepted.is))
+    let placed-so = c.placed.ensures in
+    rw add-one (c.take_row-check.ensures.on (check_passes _ _ _ _ placed-so c.in_ok-placed.was))
 
-pub returns-in-Accepted : goal.returns-in-Accepted
-returns-in-Accepted c =
+pub returns : goal.returns
+returns c =
     let st = c in
     let n = c.shelve-n.result in
     let taken = c.take_row-check in
-    let placed-so = c.on-verdict.ensures ∙ ap (λ (k : ℕ). placed k st.args.i taken.result) c.number.ensures in
-    let accepted = c.in-Accepted.is in
+    let placed-so = c.placed.ensures ∙ ap (λ (k : ℕ). placed k st.args.i taken.result) c.number.ensures in
+    let accepted = c.in_ok-placed.was in
     let left = laid_next st.args.t st.args.book.now _ _ n (taken.ensures.on (check_passes _ _ _ _ placed-so accepted)) _ c.lay_table.ensures in
     line_accepted st.args.t st.args.at.now st.args.line.now st.args.i st.args.book.now _ _ c.shelve-n.ensures.1 taken.result _ placed-so st.requires.0.headed st.requires.2
     (λ h kept. taken.ensures.taken h st.args.line.now (c.read_row-read.ensures h kept ∙ ap (λ (d : Edition). read d st.args.t h st.args.line.now) c.edition_of-edition.ensures)) accepted _ left
 
-pub returns-in-Refused : goal.returns-in-Refused
-returns-in-Refused c =
+pub returns-in_err-placed : goal.returns-in_err-placed
+returns-in_err-placed c =
     let st = c in
     let taken = c.take_row-check in
-    let placed-so = c.on-verdict.ensures ∙ ap (λ (k : ℕ). placed k st.args.i taken.result) c.number.ensures in
-    line_refused st.args.t st.args.at.now st.args.line.now st.args.i st.args.book.now _ _ c.shelve-n.ensures.1 taken.result _ placed-so st.requires.0.headed st.requires.2
-    (λ h kept. taken.ensures.taken h st.args.line.now (c.read_row-read.ensures h kept ∙ ap (λ (d : Edition). read d st.args.t h st.args.line.now) c.edition_of-edition.ensures)) _ c.in-Refused.is st.requires.1
+    let placed-so = c.placed.ensures ∙ ap (λ (k : ℕ). placed k st.args.i taken.result) c.number.ensures in
+    let p = err_from_is_err_and c.from_residual.result c.from_residual.ensures.1 in
+    rw (p.1, p.2) (line_refused st.args.t st.args.at.now st.args.line.now st.args.i st.args.book.now _ _ c.shelve-n.ensures.1 taken.result _ placed-so st.requires.0.headed st.requires.2
+    (λ h kept. taken.ensures.taken h st.args.line.now (c.read_row-read.ensures h kept ∙ ap (λ (d : Edition). read d st.args.t h st.args.line.now) c.edition_of-edition.ensures)) _ c.in_err-placed.was st.requires.1)

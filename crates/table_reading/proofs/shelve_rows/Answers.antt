@@ -18,22 +18,22 @@ pub take_lines-filled-requires : goal.take_lines-filled-requires
 take_lines-filled-requires c = (c.requires.0, c.shelve-n.ensures.0, c.requires.3)
 
 pub lay_table-requires : goal.lay_table-requires
-lay_table-requires c = c.take_lines-filled.ensures.on c.in-Accepted.is
+lay_table-requires c = c.take_lines-filled.ensures.on c.in-Ok.is
 
-pub returns-in-Accepted : goal.returns-in-Accepted
-returns-in-Accepted c =
+pub returns-in-Ok : goal.returns-in-Ok
+returns-in-Ok c =
     let st = c in
     let shelved = c.shelve-n in
     let taken = c.take_lines-filled in
-    let accepted = c.in-Accepted.is in
+    let accepted = c.in-Ok.is in
     let left = laid_accepted st.args.t st.args.book.now _ _ taken.result.count (taken.ensures.on accepted) _ c.lay_table.ensures in
     rows_accepted st.args.t st.args.at.now st.args.bytes.now st.args.first st.args.book.now taken.result.verdict _ st.requires.0.headed st.requires.2
     (λ h kept. taken.ensures.taken h kept ∙ ap (rows_read st.args.t h st.args.first (lines (book_of st.args.book.now).edition st.args.bytes.now)) shelved.ensures.1) accepted _ left taken.result.line (taken.ensures.next accepted)
 
-pub returns-in-Refused : goal.returns-in-Refused
-returns-in-Refused c =
+pub returns-in-Err : goal.returns-in-Err
+returns-in-Err c =
     let st = c in
     let shelved = c.shelve-n in
     let taken = c.take_lines-filled in
     rows_refused st.args.t st.args.at.now st.args.bytes.now st.args.first st.args.book.now taken.result.verdict _ st.requires.0.headed st.requires.2
-    (λ h kept. taken.ensures.taken h kept ∙ ap (rows_read st.args.t h st.args.first (lines (book_of st.args.book.now).edition st.args.bytes.now)) shelved.ensures.1) _ c.in-Refused.is st.requires.1 taken.result.line
+    (λ h kept. taken.ensures.taken h kept ∙ ap (rows_read st.args.t h st.args.first (lines (book_of st.args.book.now).edition st.args.bytes.now)) shelved.ensures.1) _ c.in-Err.is st.requires.1 taken.result.line

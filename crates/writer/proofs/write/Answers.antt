@@ -4,8 +4,7 @@ use mathlib.Core.Bool.{true}
 use native.Mathlib.Omega.{arith}
 use lib.Dec.{ltb}
 use lib.ListN.{length}
-use Rattle.refusals.specs.Verdicts.{◌when◌, nowhere, output_short}
-use Rattle.refusals.specs.declared.Check.{Check}
+use Rattle.refusals.specs.Verdicts.{◌when◌, nowhere, output_short, Check}
 use Rattle.tables.specs.declared.Table.TheVariants.{Block}
 use Rattle.book.specs.Room.{book_of}
 use Rattle.book.specs.Holding.{Sound}

@@ -5,8 +5,7 @@ use Prim.Native.Nat.{◌+◌}
 use native.Mathlib.Omega.{arith}
 use lib.ListN.{length, take, length-append}
 use Rattle.words.specs.Words.{Bytes}
-use Rattle.refusals.specs.Verdicts.{nowhere}
-use Rattle.refusals.specs.declared.Check.{Check}
+use Rattle.refusals.specs.Verdicts.{nowhere, Check}
 use Rattle.numbers.specs.Putting.{put}
 use Rattle.numbers.proofs.Putting.{lent, length_rest, length_back}
 use Rattle.writer.specs.Writing.{lines_written, names_line, row_line}

@@ -1,7 +1,0 @@
--- `questions::no_type` meets its contract. Assumes nothing.
-use Rattle.refusals.specs.Verdicts.{nowhere}
-use Rattle.questions.proofs.Answers as answers
-use Rattle.questions.proofs.no_type.Goals as goal
-
-pub returns : goal.returns
-returns c = rw c.on-verdict.ensures (answers.type_refused (nowhere c.args.check))
