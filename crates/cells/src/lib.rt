@@ -44,11 +44,16 @@ pub fn quote_at(line: &[u8], i: usize) -> bool
     line.get(i) == Some(&b'"')
 }
 
-// Whether a byte leaves a cell inside its quotes: no quote and no control byte. Most bytes lie above the quote, so that is asked first.
+// Whether a byte leaves a cell inside its quotes: no quote and no control byte. Most bytes lie above the quote, so that is asked first, by a branch of its own:
+// joined to one condition, both sides are worked out for each byte, and quoted text takes twice the time.
 fn stays_inside(b: u8) -> bool
     ensures { result ≡ stays Inside (kind b) }
 {
-    (b'"' < b && b != 127) || matches!(b, 32..=33)
+    if b'"' < b {
+        b != 127
+    } else {
+        matches!(b, 32..=33)
+    }
 }
 
 // Whether a byte leaves a cell plain: no quote, no control byte and no semicolon.

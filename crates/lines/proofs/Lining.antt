@@ -8,8 +8,7 @@ use lib.ListN.{length, drop, get_or, drop_of_length-le, length-drop, take}
 use lib.Dec.{eqb, ltb}
 use lib.Seq.{get_or-drop, drop-drop, drop-nil, take-nil}
 use borrow.Author.Tests.{ne_eqb, eq-eqb, eqb-true, lt-ltb, le-ltb, ltb-true, ltb-false}
-use Rattle.std.specs.Prelude.{count_by, cond}
-use Rattle.std.proofs.lemmas.List.Recursion.{is_count_by}
+use Rattle.std.specs.Int.{from_bool}
 use Rattle.words.specs.Words.{Bytes, whether◌then◌else◌}
 use Rattle.words.proofs.Lists.{drop_step}
 use Rattle.editions.specs.declared.Edition.{Edition}
@@ -169,14 +168,19 @@ module _ (e : Edition) (q : State) (s : Bytes) (i : ℕ) where
   unfolding quoting_behind
   behind_none h = rw (drop_of_length-le s h)
 
--- the line feeds of a row are counted
-pub feeds_counted : (s : Bytes) → count_by (λ (b : ℕ). eqb b 10) s ≡ feeds s
-unfolding feeds
-feeds_counted s = sym (is_count_by feeds (λ (b : ℕ). eqb b 10) refl (λ b bs. go (eqb b 10) (feeds bs)) s)
-  where
-    go : (t : Bool) (n : ℕ) → (whether t then suc n else n) ≡ cond t (1 + n) n
-    go true n = omega arith
-    go false n = refl
+-- the line feeds of a row, byte by byte
+module _ (s : Bytes) (i : ℕ) where
+  pub feeds_on : i < length s → feeds (drop i s) ≡ from_bool (eqb (get_or s i 0) 10) + feeds (drop (i + 1) s)
+  unfolding feeds
+  feeds_on h = rw (drop_step 0 s i h) (go (eqb (get_or s i 0) 10))
+    where
+      go : (t : Bool) → (whether t then suc (feeds (drop (i + 1) s)) else feeds (drop (i + 1) s)) ≡ from_bool t + feeds (drop (i + 1) s)
+      go true = omega arith
+      go false = omega arith
+
+  pub feeds_none : length s ≤ i → feeds (drop i s) ≡ 0
+  unfolding feeds
+  feeds_none h = rw (drop_of_length-le s h)
 
 -- a table's lines -----------------------------------------------------------------------------------------------------------------------
 

@@ -147,11 +147,15 @@ pub fn next_slip_line(text: &[u8], at: usize) -> Line
     }
 }
 
-// How many line feeds stand in some bytes.
+// How many line feeds stand in some bytes. (By a sum, of which several bytes are added at once: what counts those that a filter lets through goes byte by byte.)
 fn feeds_in(bytes: &[u8]) -> u64
     ensures { (result ≡ feeds bytes.now) × (result ≤ length bytes.now) }
 {
-    bytes.iter().filter(|b| **b == LINE_FEED).count() as u64
+    let mut n = 0;
+    for b in bytes {
+        n += u64::from(*b == LINE_FEED);
+    }
+    n
 }
 
 // How many breaks stand in a row.

@@ -27,7 +27,9 @@ fn arg_count(rt: &impl Env) -> usize {
 }
 
 // An argument, at the head of the room lent: no bytes where it is missing or longer than the room.
-fn arg<'a>(rt: &impl Env, i: usize, room: &'a mut [u8]) -> &'a [u8] {
+fn arg<'a>(rt: &impl Env, i: usize, room: &'a mut [u8]) -> &'a [u8]
+    ensures { length result.now ≤ length room.old }
+{
     let n = rt.arg(i, room).unwrap_or(0);
     &room[..n]
 }

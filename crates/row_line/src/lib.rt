@@ -82,6 +82,6 @@ pub fn read_row(
     let check = cut_row(edition, line, at[0], bounds);
     match check {
         Ok(()) => read_columns(line, &bounds[..], edition, t, columns, at),
-        Err(fault) => values::no_row(fault),
+        Err(fault) => values::no_row(Err(fault)),
     }
 }

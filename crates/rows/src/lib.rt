@@ -28,9 +28,15 @@ pub fn compare(a: &Row, b: &Row, k: usize) -> Ordering
         if i == k {
             break 'keys;
         }
-        let here = a[i].cmp(&b[i]);
-        if here.is_ne() {
-            order = here;
+        // Two tests of one comparison: the library's `cmp` compares the numbers that differ twice, and a search is slower by it.
+        let x = a[i];
+        let y = b[i];
+        if x < y {
+            order = Ordering::Less;
+            break 'keys;
+        }
+        if y < x {
+            order = Ordering::Greater;
             break 'keys;
         }
     }

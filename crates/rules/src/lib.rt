@@ -68,7 +68,9 @@ fn named(to: Table, column: usize, row: Row) -> Row
     }
 }
 
-// Whether the reference at place i of a table's finds its row.
+// Whether the reference at place i of a table's finds its row. It is always inlined: where table and place are constants, the table that is searched and
+// the width of its keys are too.
+#[inline(always)]
 fn finds(book: &[Row], t: Table, i: usize, row: Row) -> bool
     requires { Sound book.now × (i < length (references t)) }
     ensures { result ≡ finds (get_or (references t) i (ref 0 Table.VehicleType)) row (book_of book.now) }

@@ -89,7 +89,7 @@ fn write_sheet(book: &[Row], out: &mut [u8]) -> Written
     let sums = [types.len() as u64, blocks.len() as u64];
     let size = types_length(book, types) + line_length(&sums);
     if out.len() < size {
-        return writer::unwritten(Fault::output_short());
+        return writer::unwritten(Err(Fault::output_short()));
     }
     let at = write_types(out, book, types);
     write_line(&mut out[at..], SUMS, &sums);
@@ -106,7 +106,7 @@ fn write_refusal(place: Place, out: &mut [u8]) -> Written
     let numbers = [place.number, place.table, place.line, place.column];
     let size = line_length(&numbers);
     if out.len() < size {
-        return writer::unwritten(Fault::output_short());
+        return writer::unwritten(Err(Fault::output_short()));
     }
     write_line(out, REFUSAL, &numbers);
     Written {
@@ -122,7 +122,7 @@ pub fn day_sheet(verdict: Verdict, book: &[Row], out: &mut [u8]) -> Written
     match verdict {
         Ok(()) => {
             if !keeping::keeps_rule(book) {
-                return writer::unwritten(Fault::bad_loan());
+                return writer::unwritten(Err(Fault::bad_loan()));
             }
             write_sheet(book, out)
         }

@@ -62,7 +62,10 @@ pub fn put_slot(slots: &mut [Row], order: &mut [u16], n: usize, at: usize, row: 
 {
     let slot = order[n];
     slots[usize::from(slot)] = row;
-    order[at..n + 1].rotate_right(1);
+    for i in (at..n).rev() {
+        order[i + 1] = order[i];
+    }
+    order[at] = slot;
 }
 
 // Another row into the slot at a place of the order.
@@ -79,7 +82,11 @@ pub fn free_slot(order: &mut [u16], n: usize, at: usize)
     requires { (at < n) × (n ≤ length order.old) }
     ensures { order.new ≡ take at order.old ++ (take (n - suc at) (drop (suc at) order.old) ++ (get_or order.old at 0 ∷ drop n order.old)) }
 {
-    order[at..n].rotate_left(1);
+    let slot = order[at];
+    for i in at + 1..n {
+        order[i - 1] = order[i];
+    }
+    order[n - 1] = slot;
 }
 
 // The rows of a shelf by rising key into a list of its size, and zeros behind them. Behind the rows that the list had they stand already.

@@ -1,7 +1,7 @@
 // What content is to a column, and what the cells of a line come to.
 #![tactic(auto)]
 
-ghost use Rattle.std.specs.Prelude.{Err, ◌≡◌, ◌≤◌};
+ghost use Rattle.std.specs.Prelude.{◌≡◌, ◌≤◌};
 ghost use Rattle.words.specs.Words.{whether◌then◌else◌};
 ghost use Rattle.refusals.specs.Verdicts.{cell_empty, out_of_range};
 ghost use Rattle.cells.specs.Cells.{content};
@@ -125,11 +125,11 @@ impl Value {
 }
 
 // Nothing is kept of a line that has a fault.
-pub fn no_row(fault: Fault) -> Judged
-    ensures { result ≡ unkept (Err fault) }
+pub fn no_row(fault: Check) -> Judged
+    ensures { result ≡ unkept fault }
 {
     Judged {
-        check: Err(fault),
+        check: fault,
         row: NO_ROW,
     }
 }

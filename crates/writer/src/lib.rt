@@ -1,7 +1,7 @@
 // The vehicle_block table, written.
 #![tactic(auto)]
 
-ghost use Rattle.std.specs.Prelude.{Err, ◌≡◌, [], ◌∷◌, ◌++◌, map, ◌+◌, ◌≤◌, ◌*◌, length, take, ltb};
+ghost use Rattle.std.specs.Prelude.{◌≡◌, [], ◌∷◌, ◌++◌, map, ◌+◌, ◌≤◌, ◌*◌, length, take, ltb};
 ghost use Rattle.refusals.specs.Verdicts.{nowhere, ◌when◌, output_short};
 ghost use Rattle.numbers.specs.Putting.{put};
 ghost use Rattle.rows.specs.Rows.{row_numbers};
@@ -10,7 +10,7 @@ ghost use Rattle.writer.specs.Writing.{row_line, lines_written, names_line};
 ghost use Rattle.writer.specs.Calls.{outcome, wrote, WritePermits};
 
 use number_lines::LINE_FEED;
-use refusals::{Fault, Place, Verdict};
+use refusals::{Check, Fault, Place, Verdict};
 use rows::Row;
 use tables::Table;
 
@@ -76,11 +76,11 @@ pub fn write_header(out: &mut [u8]) -> usize
 }
 
 // Nothing is written.
-pub fn unwritten(fault: Fault) -> Written
-    ensures { (result.verdict ≡ nowhere (Err fault)) × (result.size ≡ 0) }
+pub fn unwritten(check: Check) -> Written
+    ensures { (result.verdict ≡ nowhere check) × (result.size ≡ 0) }
 {
     Written {
-        verdict: Err(fault.on(Place::NO_TABLE, Place::NO_LINE)),
+        verdict: refusals::placed(check, Place::NO_TABLE, Place::NO_LINE),
         size: 0,
     }
 }
@@ -92,7 +92,7 @@ fn write_table(list: &[Row], n: usize, out: &mut [u8]) -> Written
 {
     let size = HEADER + lines_length(list, n);
     if out.len() < size {
-        return unwritten(Fault::output_short());
+        return unwritten(Err(Fault::output_short()));
     }
     let at = write_header(out);
     write_rows(&mut out[at..], list, n);
@@ -107,7 +107,7 @@ pub fn write(book: &[Row], out: &mut [u8]) -> Written
     ensures { WritePermits book.now out.old (outcome result.verdict result.size out.new) }
 {
     if !keeping::keeps_rule(book) {
-        return unwritten(Fault::bad_loan());
+        return unwritten(Err(Fault::bad_loan()));
     }
     let n = book::count_rows(book, Table::Block);
     let blocks = book::table_of(book, Table::Block);
