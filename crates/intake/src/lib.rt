@@ -24,7 +24,12 @@ pub fn shelve(book: &[Row], t: Table, slots: &mut [Row], order: &mut [u16]) -> u
 {
     let used = book::count_rows(book, t);
     let table = book::table_of(book, t);
-    slots[..used].copy_from_slice(&table[..used]);
+    // Row by row, as they are laid out again: where nothing says that the two lists lie apart, as in a call from C, the library's `copy_from_slice` becomes
+    // a call of `memmove`, and the library for C asks for no such function.
+    for i in 0..used {
+        let row = table[i];
+        slots[i] = row;
+    }
     shelf::number_slots(order);
     used
 }

@@ -45,11 +45,18 @@ fn line_feed(text: &[u8], at: usize) -> usize
 fn behind(s: State, b: u8) -> State
     ensures { result ≡ quoting s b }
 {
-    match (b, s) {
-        (b'"', State::Fresh | State::Closed) => State::Inside,
-        (b'"', State::Inside) => State::Closed,
-        (b';', State::Fresh | State::Plain | State::Closed) => State::Fresh,
-        (_, State::Inside) => State::Inside,
+    match b {
+        b'"' => match s {
+            State::Fresh | State::Closed => State::Inside,
+            State::Inside => State::Closed,
+            _ => State::Plain,
+        },
+        b';' => match s {
+            State::Fresh | State::Plain | State::Closed => State::Fresh,
+            State::Inside => State::Inside,
+            _ => State::Plain,
+        },
+        _ if s == State::Inside => State::Inside,
         _ => State::Plain,
     }
 }

@@ -8,8 +8,6 @@ use native.Mathlib.Nat.{not-suc-le-zero}
 use lib.Dec.{ltb}
 use lib.ListN.{get_or, length, get_or-eq_default}
 use borrow.Author.Tests.{ltb-true, ltb-false, lt-ltb, le-ltb}
-use Rattle.std.specs.Ordering.{nat_cmp, is_ne, MatchOrdering}
-use Rattle.std.proofs.lemmas.Cmp.{ranked}
 use Rattle.words.specs.Words.{Row}
 use Rattle.std.specs.declared.cmp.Ordering.TheVariants.{Less, Greater, Equal}
 use Rattle.rows.specs.Rows.{order_from, key_order, same_key, by_order}
@@ -58,25 +56,6 @@ module _ (k i : ℕ) (x y : Row) (more : i < k) where
 
   pub next_eq : get_or x i 0 ≡ get_or y i 0 → order_from (k - i) i x y ≡ order_from (k - (i + 1)) (i + 1) x y
   next_eq h = rw left_suc (rw (add-one i) (step_eq _ i x y h))
-
--- what comparing two numbers tells
-module _ (k i : ℕ) (x y : Row) (more : i < k) (o : Ordering) (told : o ≡ nat_cmp (get_or x i 0) (get_or y i 0)) where
-  pub next_other : is_ne o ≡ true → order_from (k - i) i x y ≡ o
-  next_other = go o (ranked _ _ o told)
-    where
-      go : (o : Ordering) → MatchOrdering o (get_or x i 0 < get_or y i 0) (get_or x i 0 ≡ get_or y i 0) (get_or y i 0 < get_or x i 0) → is_ne o ≡ true → order_from (k - i) i x y ≡ o
-      go Less r n = next_lt k i x y more r
-      go Equal r n = cc
-      go Greater r n = next_gt k i x y more r
-
-  pub next_equal : is_ne o ≡ false → order_from (k - i) i x y ≡ order_from (k - (i + 1)) (i + 1) x y
-  next_equal = go o (ranked _ _ o told)
-    where
-      go : (o : Ordering) → MatchOrdering o (get_or x i 0 < get_or y i 0) (get_or x i 0 ≡ get_or y i 0) (get_or y i 0 < get_or x i 0) → is_ne o ≡ false
-          → order_from (k - i) i x y ≡ order_from (k - (i + 1)) (i + 1) x y
-      go Less r n = cc
-      go Equal r n = next_eq k i x y more r
-      go Greater r n = cc
 
 -- no number is left, or both rows are at their end
 pub order_none : (k i : ℕ) (x y : Row) → k ≤ i → order_from (k - i) i x y ≡ Equal
